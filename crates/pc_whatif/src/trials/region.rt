@@ -166,9 +166,9 @@ impl SessionRegion {
     /// Returns the activities of the critical path, from the start event to the end event.
     pub(crate) fn path(&self) -> &[u64]
         ensures path { result.now ≡ path_in self.now }
-        ensures short { length result.now ≤ length self.now.places }
+        ensures short { length result.now ≤ length self.now.path_cells }
     {
-        &present(&self.region).list(self.spans.places)[..self.path_len]
+        &present(&self.region).list(self.spans.path_cells)[..self.path_len]
     }
 
     /// Sets the expected time and the variance of an activity from these estimates, in units of so many days.
@@ -198,7 +198,8 @@ impl SessionRegion {
         requires { IsFor net.now self.old }
         ensures standing { IsStanding net.now self.new }
         ensures fits { IsFor net.now self.new }
-        ensures rest { self.new ≡ with_times self.old self.new.early self.new.tails self.new.places self.new.path_len }
+        ensures rest { self.new ≡ with_times self.old self.new.early self.new.tails self.new.path_cells
+            self.new.path_len }
     {
         let Some(region) = &mut self.region else {
             unreachable!()

@@ -21,7 +21,7 @@ pub(in crate::trials) fn renew_times(
     requires lengths { AreLengths net.now (list_of region.old 0) }
     requires early { length (list_of region.old 2) ≡ net.now.events }
     requires tails { length (list_of region.old 3) ≡ net.now.events }
-    requires places { length (list_of region.old 4) ≡ net.now.events }
+    requires path_cells { length (list_of region.old 4) ≡ net.now.events }
     requires room { length room.old ≡ net.now.events }
     ensures renewed { AreRenewed net.now spans.now region.old region.new result }
     ensures room { length room.new ≡ length room.old }
@@ -34,6 +34,6 @@ pub(in crate::trials) fn renew_times(
     let early = region.list(spans.early);
     let tails = region.list(spans.tails);
     let path_len = critical_path_into(net, expected, early, tails, room);
-    region.write(spans.places, room);
+    region.write(spans.path_cells, room);
     path_len
 }

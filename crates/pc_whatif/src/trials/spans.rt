@@ -11,7 +11,7 @@ pub(in crate::trials) struct Spans {
     pub(in crate::trials) variances: Span,
     pub(in crate::trials) early: Span,
     pub(in crate::trials) tails: Span,
-    pub(in crate::trials) places: Span,
+    pub(in crate::trials) path_cells: Span,
 }
 
 /// Takes the spans for so many events and activities from a region that has none yet.
@@ -27,6 +27,6 @@ pub(in crate::trials) fn take_spans(region: &mut Region, events: usize, activiti
         variances: region.take_free(activities),
         early: region.take_free(events),
         tails: region.take_free(events),
-        places: region.take_free(events),
+        path_cells: region.take_free(events),
     }
 }

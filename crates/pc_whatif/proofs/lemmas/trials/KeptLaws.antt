@@ -28,8 +28,8 @@ pub renewed-whole : (net : Network) (spans : Spans) (old new : Cells) (before pa
 renewed-whole net spans old new before path_len whole renewed = record {
   variances = ap length renewed.variances ∙ whole.variances ∙ sym (ap length renewed.expected);
   tails = renewed.tails.one_each ∙ sym renewed.early.one_each;
-  places = renewed.places ∙ sym renewed.early.one_each;
-  path_len = omega (arith, renewed.short, renewed.places);
+  path_cells = renewed.path_cells ∙ sym renewed.early.one_each;
+  path_len = omega (arith, renewed.short, renewed.path_cells);
   small_expected = subst (AreAtMost MAX_LENGTH) (sym renewed.expected) whole.small_expected;
   small_variances = subst (AreAtMost MAX_VARIANCE) (sym renewed.variances) whole.small_variances;
   small_early = renewed.small_early;
@@ -76,11 +76,11 @@ module _ (spans : Spans) (r0 r1 r2 : Cells) (a x v : ℕ) (are : AreSet spans r0
   tails : list_of r2 3 ≡ list_of r0 3
   tails = second.off 3 (λ e. omega (arith, e)) ∙ begun.off 3 (λ e. omega (arith, e))
 
-  places : list_of r2 4 ≡ list_of r0 4
-  places = second.off 4 (λ e. omega (arith, e)) ∙ begun.off 4 (λ e. omega (arith, e))
+  path_cells : list_of r2 4 ≡ list_of r0 4
+  path_cells = second.off 4 (λ e. omega (arith, e)) ∙ begun.off 4 (λ e. omega (arith, e))
 
   abbrev made : List ℕ → List ℕ → List ℕ → List ℕ → List ℕ → ℕ → ℕ → SessionRegion
-  made e f t u p n free = record { expected = e; variances = f; early = t; tails = u; places = p; path_len = n; free = free }
+  made e f t u p n free = record { expected = e; variances = f; early = t; tails = u; path_cells = p; path_len = n; free = free }
 
   -- nothing else changes
   pub kept-both : (path_len : ℕ) → kept_in r2 path_len ≡ with_numbers (kept_in r0 path_len) a x v
@@ -89,7 +89,7 @@ module _ (spans : Spans) (r0 r1 r2 : Cells) (a x v : ℕ) (are : AreSet spans r0
       ∙ ap (λ f. made (set (list_of r0 0) a x) f (list_of r2 2) (list_of r2 3) (list_of r2 4) path_len (free_of r2)) variances
       ∙ ap (λ t. made (set (list_of r0 0) a x) (set (list_of r0 1) a v) t (list_of r2 3) (list_of r2 4) path_len (free_of r2)) early
       ∙ ap (λ u. made (set (list_of r0 0) a x) (set (list_of r0 1) a v) (list_of r0 2) u (list_of r2 4) path_len (free_of r2)) tails
-      ∙ ap (λ p. made (set (list_of r0 0) a x) (set (list_of r0 1) a v) (list_of r0 2) (list_of r0 3) p path_len (free_of r2)) places
+      ∙ ap (λ p. made (set (list_of r0 0) a x) (set (list_of r0 1) a v) (list_of r0 2) (list_of r0 3) p path_len (free_of r2)) path_cells
       ∙ ap (λ free. made (set (list_of r0 0) a x) (set (list_of r0 1) a v) (list_of r0 2) (list_of r0 3) (list_of r0 4) path_len free) (second.free ∙ begun.free)
 
   pub early-both : length (list_of r2 2) ≡ length (list_of r0 2)
@@ -101,7 +101,7 @@ module _ (spans : Spans) (r0 r1 r2 : Cells) (a x v : ℕ) (are : AreSet spans r0
       let same : IsWhole (with_numbers (kept_in r0 path_len) a x v) = record {
         variances = length-set (list_of r0 1) a v ∙ whole.variances ∙ sym (length-set (list_of r0 0) a x);
         tails = whole.tails;
-        places = whole.places;
+        path_cells = whole.path_cells;
         path_len = whole.path_len;
         small_expected = small-set MAX_LENGTH (list_of r0 0) a x known small whole.small_expected;
         small_variances = small-set MAX_VARIANCE (list_of r0 1) a v (omega (arith, known, whole.variances)) gentle whole.small_variances;

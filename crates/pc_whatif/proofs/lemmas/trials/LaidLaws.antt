@@ -37,7 +37,7 @@ put old new k xs is known size = record {
       variances = live 1 s.variances laid.live.variances;
       early = live 2 s.early laid.live.early;
       tails = live 3 s.tails laid.live.tails;
-      places = live 4 s.places laid.live.places;
+      path_cells = live 4 s.path_cells laid.live.path_cells;
     };
   };
 } where

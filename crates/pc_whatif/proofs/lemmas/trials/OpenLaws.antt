@@ -36,7 +36,7 @@ opened events times squares cells = record {
   variances = squares;
   early = replicate events 0;
   tails = replicate events 0;
-  places = replicate events 0;
+  path_cells = replicate events 0;
   path_len = 0;
   free = cells;
 }
@@ -87,7 +87,7 @@ module _ (events activities : ℕ) (spans : Spans) (r0 r1 r2 : Cells) (expected 
         ∙ ap (λ k. r0.capacity - (2 * activities + 3 * k)) (length-replicate events 0)
 
     abbrev made : List ℕ → List ℕ → List ℕ → List ℕ → List ℕ → ℕ → SessionRegion
-    made e f t u p cells = record { expected = e; variances = f; early = t; tails = u; places = p; path_len = 0; free = cells }
+    made e f t u p cells = record { expected = e; variances = f; early = t; tails = u; path_cells = p; path_len = 0; free = cells }
 
     expected-3 : list_of r3 0 ≡ expected
     expected-3 = second.off 0 (λ e. omega (arith, e)) ∙ first.at
@@ -98,8 +98,8 @@ module _ (events activities : ℕ) (spans : Spans) (r0 r1 r2 : Cells) (expected 
     tails-3 : list_of r3 3 ≡ n
     tails-3 = second.off 3 (λ e. omega (arith, e)) ∙ first.off 3 (λ e. omega (arith, e)) ∙ list 3
 
-    places-3 : list_of r3 4 ≡ n
-    places-3 = second.off 4 (λ e. omega (arith, e)) ∙ first.off 4 (λ e. omega (arith, e)) ∙ list 4
+    path_cells-3 : list_of r3 4 ≡ n
+    path_cells-3 = second.off 4 (λ e. omega (arith, e)) ∙ first.off 4 (λ e. omega (arith, e)) ∙ list 4
 
     -- what is kept then
     kept-3 : kept_in r3 0 ≡ opened events expected variances (r0.capacity - (2 * activities + 3 * events))
@@ -108,7 +108,7 @@ module _ (events activities : ℕ) (spans : Spans) (r0 r1 r2 : Cells) (expected 
         ∙ ap (λ f. made expected f (list_of r3 2) (list_of r3 3) (list_of r3 4) (free_of r3)) second.at
         ∙ ap (λ t. made expected variances t (list_of r3 3) (list_of r3 4) (free_of r3)) early-3
         ∙ ap (λ u. made expected variances n u (list_of r3 4) (free_of r3)) tails-3
-        ∙ ap (λ p. made expected variances n n p (free_of r3)) places-3
+        ∙ ap (λ p. made expected variances n n p (free_of r3)) path_cells-3
         ∙ ap (λ cells. made expected variances n n n cells) free
 
     early-size : length (list_of r3 2) ≡ events
@@ -119,7 +119,7 @@ module _ (events activities : ℕ) (spans : Spans) (r0 r1 r2 : Cells) (expected 
         let whole : IsWhole (opened events expected variances (r0.capacity - (2 * activities + 3 * events))) = record {
           variances = also_each ∙ sym one_each;
           tails = refl;
-          places = refl;
+          path_cells = refl;
           path_len = omega arith;
           small_expected = small;
           small_variances = gentle;

@@ -47,11 +47,11 @@ module _ (net : Network) (spans : Spans) (r0 r1 : Cells) (early : List ℕ) (lai
     }
 
     -- and last the path
-    module _ (r3 : Cells) (places : List ℕ) (size4 : length (list_of r0 4) ≡ net.events) (one_place : length places ≡ net.events)
-        (last : r3 ≡ with_span r2 4 places) where
-      third : IsPut r2 r3 4 places
+    module _ (r3 : Cells) (path_cells : List ℕ) (size4 : length (list_of r0 4) ≡ net.events) (one_place : length path_cells ≡ net.events)
+        (last : r3 ≡ with_span r2 4 path_cells) where
+      third : IsPut r2 r3 4 path_cells
       third =
-          put r2 r3 4 places last (omega (arith, has-tails.laid.count))
+          put r2 r3 4 path_cells last (omega (arith, has-tails.laid.count))
           (one_place ∙ sym (ap length (second.off 4 (λ e. omega (arith, e)) ∙ first.off 4 (λ e. omega (arith, e))) ∙ size4))
 
       early-3 : list_of r3 2 ≡ early
@@ -60,7 +60,7 @@ module _ (net : Network) (spans : Spans) (r0 r1 : Cells) (early : List ℕ) (lai
       tails-3 : list_of r3 3 ≡ tails
       tails-3 = third.off 3 (λ e. omega (arith, e)) ∙ has-tails.tails
 
-      pub renewed : (path_len : ℕ) → AreEarly net (list_of r0 0) early → AreTails net (list_of r0 0) tails → IsPickedWalk net (list_of r0 0) (take path_len places)
+      pub renewed : (path_len : ℕ) → AreEarly net (list_of r0 0) early → AreTails net (list_of r0 0) tails → IsPickedWalk net (list_of r0 0) (take path_len path_cells)
           → path_len < net.events → AreAtMost MAX_TIME early → AreAtMost MAX_TIME tails → AreRenewed net spans r0 r3 path_len
       renewed path_len are_early are_tails picked short small_early small_tails = record {
         laid = third.laid spans has-tails.laid;
@@ -69,7 +69,7 @@ module _ (net : Network) (spans : Spans) (r0 r1 : Cells) (early : List ℕ) (lai
         early = subst (AreEarly net (list_of r0 0)) (sym early-3) are_early;
         tails = subst (AreTails net (list_of r0 0)) (sym tails-3) are_tails;
         path = subst (λ ys. IsPickedWalk net (list_of r0 0) (take path_len ys)) (sym third.at) picked;
-        places = ap length third.at ∙ one_place;
+        path_cells = ap length third.at ∙ one_place;
         short = short;
         free = third.free ∙ second.free ∙ first.free;
         small_early = subst (AreAtMost MAX_TIME) (sym early-3) small_early;

@@ -57,7 +57,7 @@ shown-fits project r by fits standing small_expected small_variances small_early
   early = λ e known. omega (arith, small_early e (omega (arith, known, fits.early)));
   late = late;
   known = λ k below. path-known project.network r k standing below;
-  few = omega (arith, length-take r.path_len r.places, fits.places, few);
+  few = omega (arith, length-take r.path_len r.path_cells, fits.path_cells, few);
 } where
   late : (e : ℕ) → e < project.network.events → unsigned_abs (slice_index_or (late_by by r.tails) e (pos 0)) < 2 ^ 40
   late e known =

@@ -18,7 +18,7 @@ pub record AreSpans (lists : List (List ℕ)) (s : Spans) : Type 0 where
   pub variances : IsSpan lists 1 s.variances
   pub early : IsSpan lists 2 s.early
   pub tails : IsSpan lists 3 s.tails
-  pub places : IsSpan lists 4 s.places
+  pub path_cells : IsSpan lists 4 s.path_cells
 
 -- Taking them
 
@@ -51,7 +51,7 @@ kept_in region path_len = record {
   variances = list_of region 1;
   early = list_of region 2;
   tails = list_of region 3;
-  places = list_of region 4;
+  path_cells = list_of region 4;
   path_len = path_len;
   free = free_of region;
 }
@@ -68,8 +68,8 @@ AreAtMost most xs = (i : ℕ) → i < length xs → slice_index xs i ≤ most
 pub record IsWhole (r : SessionRegion) : Type 0 where
   pub variances : length r.variances ≡ length r.expected
   pub tails : length r.tails ≡ length r.early
-  pub places : length r.places ≡ length r.early
-  pub path_len : r.path_len ≤ length r.places
+  pub path_cells : length r.path_cells ≡ length r.early
+  pub path_len : r.path_len ≤ length r.path_cells
   pub small_expected : AreAtMost MAX_LENGTH r.expected
   pub small_variances : AreAtMost MAX_VARIANCE r.variances
   pub small_early : AreAtMost MAX_TIME r.early
@@ -97,7 +97,7 @@ pub record AreRenewed (net : Network) (spans : Spans) (old new : Cells) (path_le
   pub early : AreEarly net (list_of old 0) (list_of new 2)
   pub tails : AreTails net (list_of old 0) (list_of new 3)
   pub path : IsPickedWalk net (list_of old 0) (take path_len (list_of new 4))
-  pub places : length (list_of new 4) ≡ net.events
+  pub path_cells : length (list_of new 4) ≡ net.events
   pub short : path_len < net.events
   pub free : free_of new ≡ free_of old
   pub small_early : AreAtMost MAX_TIME (list_of new 2)

@@ -10,20 +10,20 @@ use Rattle.pc_project.specs.Project.{Project}
 
 -- a list for each span that was taken at the opening: for each activity its expected time, in sixths of a day, and the variance
 -- of it, in thirty-sixths of a square day; for each event its earliest time and the greatest sum of expected times over the
--- walks from it to the end; and as many places as there are events, the first `path_len` of them with the activities of the
+-- walks from it to the end; and as many cells for the path as there are events, the first `path_len` of them with the activities of the
 -- critical path. And how many cells of the region are in none of its spans
 pub record SessionRegion : Type 0 where
   pub expected : List ℕ
   pub variances : List ℕ
   pub early : List ℕ
   pub tails : List ℕ
-  pub places : List ℕ
+  pub path_cells : List ℕ
   pub path_len : ℕ
   pub free : ℕ
 
 -- the activities of the critical path
 abbrev pub path_in : SessionRegion → List ℕ
-path_in r = take r.path_len r.places
+path_in r = take r.path_len r.path_cells
 
 -- there is a place for each activity and event of the network
 pub record IsFor (net : Network) (r : SessionRegion) : Type 0 where
@@ -31,7 +31,7 @@ pub record IsFor (net : Network) (r : SessionRegion) : Type 0 where
   pub variances : length r.variances ≡ length net.arcs
   pub early : length r.early ≡ net.events
   pub tails : length r.tails ≡ net.events
-  pub places : length r.places ≡ net.events
+  pub path_cells : length r.path_cells ≡ net.events
 
 -- the times are those of the expected times that stand beside them
 pub record IsStanding (net : Network) (r : SessionRegion) : Type 0 where
@@ -61,7 +61,7 @@ with_estimates r a e unit_days = record r {
 
 -- the times, and the path, are others
 abbrev pub with_times : SessionRegion → List ℕ → List ℕ → List ℕ → ℕ → SessionRegion
-with_times r early tails places path_len = record r { early = early; tails = tails; places = places; path_len = path_len }
+with_times r early tails path_cells path_len = record r { early = early; tails = tails; path_cells = path_cells; path_len = path_len }
 
 -- the second project is called as the first is and has its network, and its expected times and variances are those that stand
 -- in the region

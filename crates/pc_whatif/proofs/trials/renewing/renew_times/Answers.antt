@@ -75,7 +75,7 @@ pub write-requires-3-clause-live : goal.write-requires-3-clause-live
 write-requires-3-clause-live c =
     let at = goal.at.write-requires-3-clause-live c in
     let there = tails_there at.After-write-2 (early_there at.After-write) in
-    (4, there.laid.live.places)
+    (4, there.laid.live.path_cells)
 
 pub returns-clause-renewed : goal.returns-clause-renewed
 returns-clause-renewed c =
@@ -89,7 +89,7 @@ returns-clause-renewed c =
     renewed net c.args.spans.now c.args.region.now c.write.new.self early c.requires.laid c.requires.early
     c.early_into.ensures.times.one_each (c.write.ensures 2 c.requires.laid.live.early)
     c.write-2.new.self tails c.requires.tails one_tail (c.write-2.ensures 3 here.laid.live.tails)
-    c.write-3.new.self c.critical_path_into-path_len.new.path c.requires.places (c.critical_path_into-path_len.auto.path ∙ one_tail) (c.write-3.ensures 4 there.laid.live.places)
+    c.write-3.new.self c.critical_path_into-path_len.new.path c.requires.path_cells (c.critical_path_into-path_len.auto.path ∙ one_tail) (c.write-3.ensures 4 there.laid.live.path_cells)
     c.critical_path_into-path_len.result
     (subst (λ xs. AreEarly net xs early) (c.list.ensures 0 c.requires.laid.live.expected) c.early_into.ensures.times)
     (subst (λ xs. AreTails net xs tails) (c.list-2.ensures 0 here.laid.live.expected ∙ here.expected) c.tails_into.ensures.tails)

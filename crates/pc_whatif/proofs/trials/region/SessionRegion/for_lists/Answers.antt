@@ -59,7 +59,7 @@ renew-requires c =
       variances = c.requires.variance_each;
       early = zeros;
       tails = zeros;
-      places = zeros;
+      path_cells = zeros;
     })
 
 pub returns-clause-expected : goal.returns-clause-expected
