@@ -1,7 +1,7 @@
 /* Refuses one call for memory of the program that it is loaded into (LD_PRELOAD); `memory` compiles and uses it.
  *
  * REFUSE=N names the call: of all calls for memory from the beginning of main on, counted from 1, the Nth gets none. A byte on
- * descriptor 9 tells that the program came to that call. The C library's own calls stay inside it, so that each call for memory that
+ * descriptor 9 shows that the program came to that call. The C library's own calls stay inside it, so that each call for memory that
  * the program makes counts once. */
 #define _GNU_SOURCE
 #include <errno.h>
