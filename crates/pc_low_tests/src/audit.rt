@@ -7,7 +7,7 @@ use pc_edges::MemSource;
 use pc_model::Arc;
 use pc_net::Net;
 use pc_text::Code;
-use std::alloc::Global;
+use std::alloc::{AllocError, Global};
 
 const RIGHT: &[u8] = b"CERT 1 A 2 1\nNORMAL\nSTEP A\nCRASH\nSTEP A\nSEGMENT 3 3 7 0\n\
 EVENT A 0 0\nEVENT B 3 0\nACT A 3 0 0\nCLOSE\nEND\n";
@@ -35,17 +35,22 @@ fn failing(at: FailingPoint) -> Verdict {
 }
 
 // What the text is found to be in two pieces.
-fn in_pieces(alloc: Global, net: &CrashNet<'_>, text: &[u8], cut: usize) -> Option<Verdict>
+fn in_pieces(
+    alloc: Global,
+    net: &CrashNet<'_>,
+    text: &[u8],
+    cut: usize,
+) -> Result<Verdict, AllocError>
     requires { cut ≤ length text.now }
 {
-    let mut audit = Audit::build(alloc, net).ok()?;
+    let mut audit = Audit::build(alloc, net)?;
     if let Some(at) = audit.feed(&text[..cut]) {
-        return Some(failing(at));
+        return Ok(failing(at));
     }
     if let Some(at) = audit.feed(&text[cut..]) {
-        return Some(failing(at));
+        return Ok(failing(at));
     }
-    Some(audit.finish())
+    Ok(audit.finish())
 }
 
 const VERDICTS: &[(&[u8], Verdict)] = &[
@@ -70,7 +75,7 @@ const VERDICTS: &[(&[u8], Verdict)] = &[
 fn first_wrong(alloc: Global, net: &CrashNet<'_>) -> Option<usize> {
     for (i, &(text, verdict)) in VERDICTS.iter().enumerate() {
         let is_found = found(alloc, net, text) == Some(verdict);
-        let is_found_in_pieces = in_pieces(alloc, net, text, text.len() / 2) == Some(verdict);
+        let is_found_in_pieces = in_pieces(alloc, net, text, text.len() / 2) == Ok(verdict);
         if !(is_found & is_found_in_pieces) {
             return Some(i);
         }
