@@ -3,7 +3,7 @@ ghost use Rattle.std.specs.Prelude.{◌≤◌, ◌≡◌, length};
 ghost use Rattle.pc_text.specs.inside.Words.{padded};
 
 /// Returns the piece followed by zeros, `N` bytes in all.
-pub fn pad<const N: usize>(piece: &[u8]) -> [u8; N]
+pub(crate) fn pad<const N: usize>(piece: &[u8]) -> [u8; N]
     requires { length piece.now ≤ N }
     ensures { result ≡ padded N piece.now }
 {
