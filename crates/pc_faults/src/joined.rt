@@ -6,7 +6,7 @@ ghost use Rattle.pc_faults.specs.inside.FaultRoom.{HasTold};
 use pc_text::{Code, Line};
 
 /// Appends the codes, with a space between one and the next.
-pub fn tell_joined(line: &mut Line, codes: &[Code])
+pub(crate) fn tell_joined(line: &mut Line, codes: &[Code])
     requires { length line.old.bytes + 17 * length codes.now ≤ line.old.room }
     ensures { HasTold (17 * length codes.now) line.old line.new (joined codes.now) }
 {

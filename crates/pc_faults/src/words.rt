@@ -62,7 +62,7 @@ fn row(before: &'static [u8], after: &'static [u8]) -> Words
 }
 
 /// Returns the words before an event that is loose, by whether an activity enters it.
-pub fn side_words(entered: bool) -> &'static [u8]
+pub(crate) fn side_words(entered: bool) -> &'static [u8]
     ensures words { result.now ≡ side_words entered }
     ensures short { length result.now ≤ 19 }
 {

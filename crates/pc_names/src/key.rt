@@ -13,7 +13,7 @@ pub fn key_of_bytes(bytes: &[u8]) -> u128 {
 }
 
 /// Returns a key that depends on each of these codes, as [`key_of_bytes`] does. Linear in the codes.
-pub fn key_of_codes(codes: &[Code]) -> u128 {
+pub(crate) fn key_of_codes(codes: &[Code]) -> u128 {
     let mut hasher = DefaultHasher::new();
     Code::hash_slice(codes, &mut hasher);
     key_by(hasher)

@@ -8,5 +8,5 @@ mod hash;
 mod key;
 mod names;
 
-pub use key::{key_of_bytes, key_of_codes};
+pub use key::key_of_bytes;
 pub use names::Names;
