@@ -23,7 +23,7 @@ pub enum Flaw {
 
 impl Flaw {
     /// Returns whether the shape of the field is wrong.
-    pub fn is_of_shape(self) -> bool
+    pub(crate) fn is_of_shape(self) -> bool
         ensures { result ≡ is_of_shape self }
     {
         match self {

@@ -80,14 +80,14 @@ fn is_misshapen<F: Fields>(slot: &Slot, fields: &F) -> bool
 }
 
 /// Returns the first slot whose field does not have the shape that it must have.
-pub fn first_misshapen<'s, F: Fields>(slots: &'s [Slot], fields: &F) -> Option<&'s Slot>
+pub(crate) fn first_misshapen<'s, F: Fields>(slots: &'s [Slot], fields: &F) -> Option<&'s Slot>
     ensures { option_copied result ≡ first_misshapen slots.now (F.fields fields.now) }
 {
     slots.iter().find(|slot| is_misshapen(*slot, fields))
 }
 
 /// Returns the slots after the first one with this number.
-pub fn slots_behind(number: u8, slots: &[Slot]) -> &[Slot]
+pub(crate) fn slots_behind(number: u8, slots: &[Slot]) -> &[Slot]
     ensures { result.now ≡ slots_behind number slots.now }
 {
     for (i, slot) in slots.iter().enumerate() {

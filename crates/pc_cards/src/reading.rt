@@ -17,7 +17,7 @@ use pc_records::Fields;
 ///
 /// The fault of the fields (F6 to F8), if they have one.
 #[tactic(auto, using(crate::proofs::FindLemmas::no_flaw))]
-pub fn read_card<C: Card, F: Fields>(place: &CardPlace, fields: &F) -> Result<C, Fault>
+pub(crate) fn read_card<C: Card, F: Fields>(place: &CardPlace, fields: &F) -> Result<C, Fault>
     ensures card { IfOk result (λ card. card ≡ C.spelled place.now.row (F.fields fields.now)) }
     ensures whole { OnOk result (wrong_fields place.now C.least C.most (F.fields fields.now) ≡ None) }
     ensures fit { OnOk result (flaw_of_fields place.now.row (C.slots place.now.sort) (F.fields fields.now) ≡ None) }
