@@ -152,7 +152,7 @@ impl Draft {
 
 /// Returns the kind of cards of the sort that a card's first field names, in capital letters, or `None` if it names
 /// none.
-pub fn kind_of(sort: Sort, field: &[u8]) -> Option<Kind>
+pub(crate) fn kind_of(sort: Sort, field: &[u8]) -> Option<Kind>
     ensures { result ≡ kind_of sort field.now }
 {
     if let Some(kind) = first_kind(field) {
@@ -223,7 +223,7 @@ fn further_kind(field: &[u8]) -> Option<Kind>
 ///
 /// A deck may have no card of a kind that its sort does not have. A deck of tasks counts as version 2, whatever it
 /// says.
-pub fn limit_of(sort: Sort, version: u64, kind: Kind) -> Option<usize>
+pub(crate) fn limit_of(sort: Sort, version: u64, kind: Kind) -> Option<usize>
     ensures { result ≡ limit_of sort version kind }
 {
     let version = match sort {
