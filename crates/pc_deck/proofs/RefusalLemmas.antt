@@ -10,7 +10,7 @@ use Rattle.pc_deck.specs.Deck.{Deck}
 use Rattle.pc_deck.specs.Judged.{Seen}
 use Rattle.pc_deck.specs.inside.Judged.{judge}
 use Rattle.pc_faults.specs.Faults as faults
-use Rattle.pc_faults.specs.First.{IsFirst}
+use Rattle.pc_faults.specs.First.{IsFirstFault}
 use Rattle.pc_faults.specs.inside.First.{Refuses}
 use Rattle.pc_deck.specs.inside.Reading.{no_cards, with_card, seen_in, deck_with, closed, closed_with, and_then, read_from, cards_of}
 use Rattle.pc_deck.specs.Refusal.{are_none, seen_among, HasCardFault, HasFaultFrom, HasFaultWhere, HasFault, IsRefusalAs}
@@ -27,7 +27,7 @@ use Rattle.pc_deck.proofs.SeenLemmas.{seen}
 -- a deck is read where it has no fault, and otherwise its first fault is answered
 abbrev IsVerdict : Result Deck ADeckFault → (ADeckFault → Type 0) → Type 0
 IsVerdict (Ok deck) Has = (fault : ADeckFault) → Has fault → ⊥
-IsVerdict (Err fault) Has = IsFirst Has fault
+IsVerdict (Err fault) Has = IsFirstFault Has fault
 
 -- the numbers of the cards rise from n on, and stay below `end`
 abbrev Rises : ℕ → ℕ → List Numbered → Type 0
@@ -67,7 +67,7 @@ no_cards_before : (before : List Numbered) → are_none before ≡ true → befo
 no_cards_before [] h = refl
 no_cards_before (card ∷ cards) h = absurd (let h' = h in cc)
 
-only_one : (Has : ADeckFault → Type 0) (found : ADeckFault) → Has found → ((fault : ADeckFault) → Has fault → fault ≡ found) → IsFirst Has found
+only_one : (Has : ADeckFault → Type 0) (found : ADeckFault) → Has found → ((fault : ADeckFault) → Has fault → fault ≡ found) → IsFirstFault Has found
 only_one Has found holds same = record {
   holds = holds;
   least = λ fault has.
@@ -82,7 +82,7 @@ at_end draft before end says = by_project draft.project refl
     same : seen_among draft.sort before ≡ seen_in draft
     same = seen before draft says
 
-    missing : (seen_among draft.sort before).has_ended ≡ false → IsFirst (HasFaultFrom draft.sort before end []) (faults.no_end end)
+    missing : (seen_among draft.sort before).has_ended ≡ false → IsFirstFault (HasFaultFrom draft.sort before end []) (faults.no_end end)
     missing none = only_one (HasFaultFrom draft.sort before end []) (faults.no_end end) (none, refl) (λ fault has. has.1)
 
     by_end : (project : ProjectCard) (ended : Bool) → draft.has_ended ≡ ended →
@@ -144,7 +144,7 @@ none_of-read sort bytes deck utf8 read = λ fault has.
 pub first_of-read : (sort : Sort) (bytes : List ℕ) (fault : ADeckFault) → is_utf8 bytes ≡ true → cards_of sort bytes ≡ Err fault → IsRefusalAs sort bytes fault
 first_of-read sort bytes fault utf8 read =
     let first = subst (λ (r : Result Deck ADeckFault). IsVerdict r (HasFaultFrom sort [] (length (deck_records bytes) + 1) (deck_cards bytes))) read (cards_of-verdict sort bytes) in
-    subst (λ (b : Bool). IsFirst (HasFaultWhere sort b bytes) fault) (sym utf8) first
+    subst (λ (b : Bool). IsFirstFault (HasFaultWhere sort b bytes) fault) (sym utf8) first
 
 -- the same of the answer of a call
 pub refused_first : {A : Type 0} (result : Result A DeckError) (sort : Sort) (bytes : List ℕ) → is_utf8 bytes ≡ true →

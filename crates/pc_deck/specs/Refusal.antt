@@ -5,7 +5,7 @@ use Rattle.pc_records.specs.Deck.{deck_records}
 use Rattle.pc_model.specs.Codes.{text_at}
 use Rattle.pc_faults.specs.Kinds.{word_of}
 use Rattle.pc_faults.specs.Faults as fault
-use Rattle.pc_faults.specs.First.{IsFirst}
+use Rattle.pc_faults.specs.First.{IsFirstFault}
 use Rattle.pc_faults.specs.declared.kind.Kind.{Kind}
 use Rattle.pc_faults.specs.declared.kind.Kind.TheVariants.{Project, End}
 use Rattle.pc_faults.specs.declared.fault.Fault.{Fault}
@@ -105,7 +105,7 @@ HasFault sort bytes found = HasFaultWhere sort (is_utf8 bytes) bytes found
 
 -- why the cards of a deck of a sort are refused: its first fault
 abbrev pub IsRefusalAs : Sort → List ℕ → Fault → Type 0
-IsRefusalAs sort bytes found = IsFirst (HasFault sort bytes) found
+IsRefusalAs sort bytes found = IsFirstFault (HasFault sort bytes) found
 
 -- the same of a plan
 abbrev pub IsCardRefusal : List ℕ → Fault → Type 0

@@ -2,7 +2,7 @@
 use Rattle.std.proofs.Common.{◌≡◌, ℕ, ◌<◌, ◌≤◌, Bool, true, false, ◌&&◌, ◌||◌, ◌==◌, nat_lt, nat_le, Option, Some, None, refl, sym, subst, ◌∙◌, inl, inr, ⊎_elim, ◌⊎◌, arith, if◌then◌else◌}
 use Rattle.std.proofs.lemmas.Bool.{cases_order}
 use Rattle.std.proofs.lemmas.Bool.Decides.{nat_tests}
-use Rattle.pc_faults.specs.First.{IsFirst, IsNoLater}
+use Rattle.pc_faults.specs.First.{IsFirstFault, IsNoLater}
 use Rattle.pc_faults.specs.declared.fault.Fault.{Fault}
 use Rattle.pc_faults.specs.inside.First.{IsFirstIn, earliest, is_no_later}
 
@@ -33,19 +33,19 @@ IsNoLater-then f g h (inr a) (inr b) = inr (a.0 ∙ b.0, omega (arith, a.1, b.1)
 
 -- the first of one kind comes first of both, where it comes no later than the first of the other
 module _ (P Q R : Fault → Type 0) (from_P : (f : Fault) → P f → R f) (from_Q : (f : Fault) → Q f → R f) (into : (f : Fault) → R f → P f ⊎ Q f) where
-  first_is_P : (f g : Fault) → IsFirst P f → IsFirst Q g → IsNoLater f g → IsFirst R f
+  first_is_P : (f g : Fault) → IsFirstFault P f → IsFirstFault Q g → IsNoLater f g → IsFirstFault R f
   first_is_P f g p q order = record {
     holds = from_P f p.holds;
     least = λ other h. ⊎_elim (λ is. p.least other is) (λ is. IsNoLater-then f g other order (q.least other is)) (into other h);
   }
 
-  first_is_Q : (f g : Fault) → IsFirst P f → IsFirst Q g → IsNoLater g f → IsFirst R g
+  first_is_Q : (f g : Fault) → IsFirstFault P f → IsFirstFault Q g → IsNoLater g f → IsFirstFault R g
   first_is_Q f g p q order = record {
     holds = from_Q g q.holds;
     least = λ other h. ⊎_elim (λ is. IsNoLater-then g f other order (p.least other is)) (λ is. q.least other is) (into other h);
   }
 
-  by_test : (f g : Fault) → IsFirst P f → IsFirst Q g → (test : Bool) → is_no_later f g ≡ test → IsFirstIn R (if test then Some f else Some g)
+  by_test : (f g : Fault) → IsFirstFault P f → IsFirstFault Q g → (test : Bool) → is_no_later f g ≡ test → IsFirstIn R (if test then Some f else Some g)
   by_test f g p q true h = first_is_P f g p q (first_by_test f.row f.number g.row g.number h)
   by_test f g p q false h = first_is_Q f g p q (last_by_test f.row f.number g.row g.number h)
 

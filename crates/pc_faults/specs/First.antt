@@ -7,6 +7,6 @@ abbrev pub IsNoLater : ADeckFault → ADeckFault → Type 0
 IsNoLater fault other = (fault.row < other.row) ⊎ ((fault.row ≡ other.row) × (fault.number ≤ other.number))
 
 -- the fault is one of those, and none of them comes earlier
-pub record IsFirst (Has : ADeckFault → Type 0) (fault : ADeckFault) : Type 0 where
+pub record IsFirstFault (Has : ADeckFault → Type 0) (fault : ADeckFault) : Type 0 where
   pub holds : Has fault
   pub least : (other : ADeckFault) → Has other → IsNoLater fault other

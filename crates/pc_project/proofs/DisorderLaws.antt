@@ -5,7 +5,7 @@ use Rattle.std.proofs.lemmas.Int.{by_lt_z, ints}
 use Rattle.pc_deck.specs.Deck.{Deck}
 use Rattle.pc_deck.specs.declared.kinds.as_of.AsOfCard.{AsOfCard}
 use Rattle.pc_faults.specs.Faults.{disorder}
-use Rattle.pc_faults.specs.First.{IsFirst}
+use Rattle.pc_faults.specs.First.{IsFirstFault}
 use Rattle.pc_faults.specs.declared.fault.Fault.{Fault}
 use Rattle.pc_faults.specs.declared.status.StatusFault.{StatusFault}
 use Rattle.pc_faults.specs.declared.status.StatusFault.TheVariants.{Second, Early, Late, NoStart, FinishFirst}
@@ -105,7 +105,8 @@ first_of_disorder deck as_of statuses a s =
     earliest-first (IsEarlyAsOf deck) (HasStatusDisorder deck) (HasDisorder deck) (λ f h. of_as_of h) (λ f h. of_status h) (into deck) as_of statuses a s
 
 -- an ASOF card before the start is the first fault of as-of
-pub first_early : (deck : Deck) (card : AsOfCard) (fault : Fault) → deck.as_of ≡ Some card → card.day <ℤ deck.project.start_day → fault ≡ disorder card.row Early → IsFirst (IsEarlyAsOf deck) fault
+pub first_early : (deck : Deck) (card : AsOfCard) (fault : Fault) → deck.as_of ≡ Some card → card.day <ℤ deck.project.start_day → fault ≡ disorder card.row Early →
+    IsFirstFault (IsEarlyAsOf deck) fault
 first_early deck card fault there early is = record {
   holds = (card, (there, early, is));
   least = λ other h.

@@ -4,7 +4,7 @@ use Rattle.std.specs.List.{Any}
 use Rattle.std.specs.Prelude.{All}
 use Rattle.std.proofs.lemmas.List.{take_all, take_more, map_push}
 use Rattle.std.proofs.lemmas.List.Elements.{All-get_or}
-use Rattle.pc_faults.specs.First.{IsFirst}
+use Rattle.pc_faults.specs.First.{IsFirstFault}
 use Rattle.pc_faults.specs.declared.fault.Fault.{Fault}
 use Rattle.pc_faults.specs.inside.First.{IsFirstIn, earliest}
 use Rattle.pc_project.proofs.AnyLaws.{Any-kept, Any-here, Any-before, Any-none}
@@ -33,7 +33,7 @@ module _ {C : Type 0} (Has : C → Fault → Type 0) (cards : List C) where
     first_more here next is first = subst (IsFirstBefore (i + 1)) (sym is) (first_step here first)
 
     -- a card with a fault
-    pub first_with : (fault : Fault) → IsFirst (Has card) fault → IsFirstBefore (i + 1) (earliest found (Some fault))
+    pub first_with : (fault : Fault) → IsFirstFault (Has card) fault → IsFirstBefore (i + 1) (earliest found (Some fault))
     first_with fault first = first_step (Some fault) first
 
     -- a card without

@@ -19,7 +19,7 @@ use Rattle.pc_deck.specs.declared.kinds.project.ProjectCard.{ProjectCard}
 use Rattle.pc_deck.specs.declared.kinds.status.StatusCard.{StatusCard}
 use Rattle.pc_deck.specs.Deck.{Deck}
 use Rattle.pc_faults.specs.inside.FaultText.{IsTold}
-use Rattle.pc_faults.specs.First.{IsFirst}
+use Rattle.pc_faults.specs.First.{IsFirstFault}
 use Rattle.pc_faults.specs.inside.First.{Refuses}
 use Rattle.pc_faults.specs.declared.fault.Fault.{Fault as ADeckFault}
 use Rattle.pc_faults.specs.declared.fault.DeckError.{DeckError}
@@ -192,7 +192,8 @@ pub refused_by_packages : (deck : Deck) (result : DeckError) → HasSoundPlan de
 refused_by_packages deck (Fault fault) plan leaves first = of_packages plan leaves first
 refused_by_packages deck OutOfMemory plan leaves first = tt
 
-pub refused_by_statuses : (deck : Deck) (result : DeckError) → HasSoundPlan deck → HasNoLeafFault deck → IsEven deck → Refuses (IsFirst (HasDisorder deck)) result → Refuses (IsRefusedWith deck) result
+pub refused_by_statuses : (deck : Deck) (result : DeckError) → HasSoundPlan deck → HasNoLeafFault deck → IsEven deck →
+    Refuses (IsFirstFault (HasDisorder deck)) result → Refuses (IsRefusedWith deck) result
 refused_by_statuses deck (Fault fault) plan leaves even first = of_statuses plan leaves even first
 refused_by_statuses deck OutOfMemory plan leaves even first = tt
 
@@ -201,6 +202,6 @@ pub refused_by_togos : (deck : Deck) (result : DeckError) → HasSoundPlan deck 
 refused_by_togos deck (Fault fault) plan leaves even ordered first = of_togos plan leaves even ordered first
 refused_by_togos deck OutOfMemory plan leaves even ordered first = tt
 
-pub refused_by_pieces : (deck : Deck) (result : DeckError) → HasSoundPlan deck → HasSoundFigures deck → Refuses (IsFirst (HasPieceFault deck)) result → Refuses (IsRefusedWith deck) result
+pub refused_by_pieces : (deck : Deck) (result : DeckError) → HasSoundPlan deck → HasSoundFigures deck → Refuses (IsFirstFault (HasPieceFault deck)) result → Refuses (IsRefusedWith deck) result
 refused_by_pieces deck (Fault fault) plan figures first = of_pieces plan figures first
 refused_by_pieces deck OutOfMemory plan figures first = tt

@@ -18,7 +18,7 @@ use Rattle.pc_net.specs.declared.refusal.NetError.{NetError}
 use Rattle.pc_net.specs.declared.refusal.NetError.TheVariants as net
 use Rattle.pc_deck.specs.Deck.{Deck, act_codes, event_codes}
 use Rattle.pc_deck.specs.declared.kinds.wbs.ItemCard.{ItemCard}
-use Rattle.pc_faults.specs.First.{IsFirst}
+use Rattle.pc_faults.specs.First.{IsFirstFault}
 use Rattle.pc_faults.specs.Faults.{no_top, second_top, item_loop, too_deep, enters_start, leaves_end, dangling, cycle}
 use Rattle.pc_faults.specs.declared.fault.Fault.{Fault as ADeckFault}
 use Rattle.pc_faults.specs.declared.fault.DeckError.{DeckError}
@@ -89,20 +89,20 @@ pub record HasNoFault (deck : Deck) : Type 0 where
 -- the fault with which a deck is refused whose cards make no project; a phase counts only where none before it has a fault
 pub data IsRefusedWith (deck : Deck) (fault : ADeckFault) : Type 0 where
   -- F13 to F19, F41: a card names what is not there, or its numbers are out of order
-  of_cards : IsFirst (HasMisfit deck) fault → IsRefusedWith deck fault
+  of_cards : IsFirstFault (HasMisfit deck) fault → IsRefusedWith deck fault
   -- F20 to F23: the items are no tree
   of_tree : HasNoMisfit deck → IsTreeFault deck.items (rows_of deck) fault → IsRefusedWith deck fault
   -- F24 to F27: the network is not sound
   of_network : HasNoMisfit deck → IsTree (rows_of deck) → (e : NetError) → IsNetRefusal (network_of deck) e → net_fault deck e ≡ Fault fault → IsRefusedWith deck fault
   -- F28: an activity or an account stands on an item that has items below it
-  of_leaves : HasSoundPlan deck → IsFirst (HasLeafFault deck) fault → IsRefusedWith deck fault
+  of_leaves : HasSoundPlan deck → IsFirstFault (HasLeafFault deck) fault → IsRefusedWith deck fault
   -- F29: a package has budgets that are not the costs of its activities
   of_packages : HasSoundPlan deck → HasNoLeafFault deck → IsFirstUnevenFault deck fault → IsRefusedWith deck fault
   -- F30: a STATUS card or the ASOF card is in disorder
-  of_statuses : HasSoundPlan deck → HasNoLeafFault deck → IsEven deck → IsFirst (HasDisorder deck) fault → IsRefusedWith deck fault
+  of_statuses : HasSoundPlan deck → HasNoLeafFault deck → IsEven deck → IsFirstFault (HasDisorder deck) fault → IsRefusedWith deck fault
   -- F31: a TOGO card has the account and the day of an earlier one
   of_togos : HasSoundPlan deck → HasNoLeafFault deck → IsEven deck → HasNoDisorder deck → IsFirstSecondToGo deck fault → IsRefusedWith deck fault
   -- F33 to F35: a piece is one too many, does not rise, or leaves nothing to the first slope
-  of_pieces : HasSoundPlan deck → HasSoundFigures deck → IsFirst (HasPieceFault deck) fault → IsRefusedWith deck fault
+  of_pieces : HasSoundPlan deck → HasSoundFigures deck → IsFirstFault (HasPieceFault deck) fault → IsRefusedWith deck fault
   -- F36: the bonus is above the penalty
-  of_terms : HasSoundPlan deck → HasSoundFigures deck → HasNoPieceFault deck → IsFirst (HasTermsFault deck) fault → IsRefusedWith deck fault
+  of_terms : HasSoundPlan deck → HasSoundFigures deck → HasNoPieceFault deck → IsFirstFault (HasTermsFault deck) fault → IsRefusedWith deck fault

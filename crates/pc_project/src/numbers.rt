@@ -1,7 +1,7 @@
 //! The numbers of everything that the cards name, or the first fault of any card.
 ghost use Rattle.std.specs.Prelude.{◌≡◌, None, IfOk, IfErr, OnOk, []};
 ghost use Rattle.pc_deck.specs.Within.{IsWithinLimits};
-ghost use Rattle.pc_faults.specs.First.{IsFirst};
+ghost use Rattle.pc_faults.specs.First.{IsFirstFault};
 ghost use Rattle.pc_faults.specs.inside.First.{IsFirstIn, Refuses};
 ghost use Rattle.pc_project.specs.Misfit.{HasListedFault, HasMisfit};
 ghost use Rattle.pc_project.specs.inside.Numbered.{AreListsOf, AreNumbersOf};
@@ -43,7 +43,7 @@ pub(crate) struct FoundLists {
 /// The first fault of any card (F13 to F19, F41), or out of memory.
 pub(crate) fn numbers_of(alloc: Global, cards: &Cards) -> Result<Numbers, DeckError>
     ensures numbers { IfOk result (AreNumbersOf cards.now) }
-    ensures first { IfErr result (Refuses (IsFirst (HasMisfit cards.now))) }
+    ensures first { IfErr result (Refuses (IsFirstFault (HasMisfit cards.now))) }
 {
     let mut lists = FoundLists {
         rows: Vec::new(alloc),

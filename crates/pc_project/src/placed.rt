@@ -1,6 +1,6 @@
 //! The look-up of what a card names, for each kind of card.
 ghost use Rattle.std.specs.Prelude.{◌≡◌, ◌↔◌, IsTrue, IfOk, IfErr, OnOk};
-ghost use Rattle.pc_faults.specs.First.{IsFirst};
+ghost use Rattle.pc_faults.specs.First.{IsFirstFault};
 ghost use Rattle.pc_faults.specs.declared.fault.Fault.{Fault};
 ghost use Rattle.pc_project.specs.Project.{network_of};
 ghost use Rattle.pc_project.specs.Misfit.{HasProjectFault, HasOrderedEstimates};
@@ -33,7 +33,7 @@ pub(crate) fn ends_of(cards: &Cards) -> Result<Ends, Fault>
     ensures start { IfOk result (λ ends. ends.start ≡ (network_of cards.now).start) }
     ensures end { IfOk result (λ ends. ends.end ≡ (network_of cards.now).end) }
     ensures faultless { OnOk result ((fault : Fault) → HasProjectFault cards.now cards.now.project fault → ⊥) }
-    ensures first { IfErr result (IsFirst (HasProjectFault cards.now cards.now.project)) }
+    ensures first { IfErr result (IsFirstFault (HasProjectFault cards.now cards.now.project)) }
 {
     let card = cards.project();
     let Some(start) = cards.event_named(&card.start) else {

@@ -2,7 +2,7 @@
 ghost use Rattle.std.specs.Prelude.{◌≡◌, IfOk, IfErr, OnOk, None, map, []};
 ghost use Rattle.std.specs.List.{Any};
 ghost use Rattle.pc_deck.specs.Deck.{Deck};
-ghost use Rattle.pc_faults.specs.First.{IsFirst};
+ghost use Rattle.pc_faults.specs.First.{IsFirstFault};
 ghost use Rattle.pc_faults.specs.declared.fault.Fault.{Fault};
 ghost use Rattle.pc_faults.specs.inside.First.{IsFirstIn};
 
@@ -23,7 +23,7 @@ pub(crate) trait Refers: Copy {
     fn look_up(&self, cards: &Cards) -> Result<Self::Found, Fault>
         ensures found { IfOk result (λ found. found ≡ found_in cards.now self.now) }
         ensures faultless { OnOk result ((fault : Fault) → HasFault cards.now self.now fault → ⊥) }
-        ensures first { IfErr result (IsFirst (HasFault cards.now self.now)) };
+        ensures first { IfErr result (IsFirstFault (HasFault cards.now self.now)) };
 }
 
 /// Looks up what each of the cards names, and returns the first fault of these cards.

@@ -1,6 +1,6 @@
 //! How far the activities are, or the first STATUS card in disorder.
 ghost use Rattle.std.specs.Prelude.{◌≡◌, length, IfOk, IfErr, OnOk};
-ghost use Rattle.pc_faults.specs.First.{IsFirst};
+ghost use Rattle.pc_faults.specs.First.{IsFirstFault};
 ghost use Rattle.pc_faults.specs.inside.First.{IsFirstIn, Refuses};
 ghost use Rattle.pc_accounts.specs.status.Statuses.{AreInOrder};
 ghost use Rattle.pc_project.specs.DisorderFaults.{HasDisorder, HasNoDisorder, HasStatusDisorder, IsEarlyAsOf, as_of_in};
@@ -39,7 +39,7 @@ pub(crate) fn states_of(
     ensures states { IfOk result (λ states. AreStatesOf cards.now.project.start_day (statuses_in cards.now)
         (length cards.now.acts) states.items) }
     ensures ordered { OnOk result (HasNoDisorder cards.now) }
-    ensures first { IfErr result (Refuses (IsFirst (HasDisorder cards.now))) }
+    ensures first { IfErr result (Refuses (IsFirstFault (HasDisorder cards.now))) }
 {
     let activities = cards.acts().len() as u32;
     let statuses = Vec::from_slice(alloc, &numbers.lists.figures.statuses)?;
@@ -53,7 +53,7 @@ fn states_in(alloc: Global, cards: &Cards, log: &Log) -> Result<Vec<ActState>, D
     ensures states { IfOk result (λ states. AreStatesOf cards.now.project.start_day (statuses_in cards.now)
         (length cards.now.acts) states.items) }
     ensures ordered { OnOk result (HasNoDisorder cards.now) }
-    ensures first { IfErr result (Refuses (IsFirst (HasDisorder cards.now))) }
+    ensures first { IfErr result (Refuses (IsFirstFault (HasDisorder cards.now))) }
 {
     match earliest(as_of_fault(cards), status_fault(cards, log)) {
         Some(fault) => Err(DeckError::Fault(fault)),

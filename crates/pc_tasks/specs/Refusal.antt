@@ -7,7 +7,7 @@ use Rattle.pc_wbs.specs.Climb.{IsTree}
 use Rattle.pc_tasks.specs.network.Cycles.{HasNoTaskCycle, IsFirstTaskCycle}
 use Rattle.pc_deck.specs.Deck.{Deck, task_codes}
 use Rattle.pc_faults.specs.Faults.{childless_top, no_task, task_cycle}
-use Rattle.pc_faults.specs.First.{IsFirst}
+use Rattle.pc_faults.specs.First.{IsFirstFault}
 use Rattle.pc_faults.specs.declared.fault.Fault.{Fault as ADeckFault}
 use Rattle.pc_project.specs.Project.{rows_of}
 use Rattle.pc_project.specs.Records.{codes_at, item_records}
@@ -54,7 +54,7 @@ pub record MakesArrows (deck : Deck) : Type 0 where
 -- the fault with which a deck of tasks is refused; a phase counts only where none before it has a fault
 pub data IsTasksRefusedWith (deck : Deck) (fault : ADeckFault) : Type 0 where
   -- F14 to F19, F41: a card names what is not there, or its numbers are out of order
-  of_cards : IsFirst (HasTaskMisfit deck) fault → IsTasksRefusedWith deck fault
+  of_cards : IsFirstFault (HasTaskMisfit deck) fault → IsTasksRefusedWith deck fault
   -- F20 to F23: the items are no tree
   of_tree : HasNoTaskMisfit deck → IsTreeFault deck.items (rows_of deck) fault → IsTasksRefusedWith deck fault
   -- F37: the top has no item below it

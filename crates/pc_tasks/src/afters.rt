@@ -1,7 +1,7 @@
 //! The tasks that AFTER cards name, looked up, and the first of the cards' faults.
 ghost use Rattle.std.specs.Prelude.{◌≡◌, IfOk, IfErr, OnOk, None};
 ghost use Rattle.std.specs.List.{Any};
-ghost use Rattle.pc_faults.specs.First.{IsFirst};
+ghost use Rattle.pc_faults.specs.First.{IsFirstFault};
 ghost use Rattle.pc_faults.specs.declared.fault.Fault.{Fault};
 ghost use Rattle.pc_faults.specs.inside.First.{IsFirstIn};
 ghost use Rattle.pc_tasks.specs.Lists.{after_row, afters_in};
@@ -41,7 +41,7 @@ pub(crate) fn find_afters(alloc: Global, cards: &TaskCards) -> Result<FoundAfter
 fn after_row(cards: &TaskCards, card: &AfterCard) -> Result<AfterRow, Fault>
     ensures row { IfOk result (λ row. row ≡ after_row cards.now card.now) }
     ensures faultless { OnOk result ((fault : Fault) → HasAfterFault cards.now card.now fault → ⊥) }
-    ensures first { IfErr result (IsFirst (HasAfterFault cards.now card.now)) }
+    ensures first { IfErr result (IsFirstFault (HasAfterFault cards.now card.now)) }
 {
     let Some(task) = cards.task_named(&card.task) else {
         return Err(Fault::unknown_activity(card.row, card.task));

@@ -1,7 +1,7 @@
 //! The first fault of all cards by themselves.
 ghost use Rattle.std.specs.Prelude.{◌≡◌, IfOk, IfErr, OnOk};
 ghost use Rattle.std.specs.List.{Any};
-ghost use Rattle.pc_faults.specs.First.{IsFirst};
+ghost use Rattle.pc_faults.specs.First.{IsFirstFault};
 ghost use Rattle.pc_faults.specs.inside.First.{IsFirstIn, Refuses};
 ghost use Rattle.pc_tasks.specs.Lists.{afters_in};
 ghost use Rattle.pc_tasks.specs.Misfit.{HasAfterFault, HasTaskMisfit, HasNoTaskMisfit};
@@ -21,7 +21,7 @@ use std::alloc::Global;
 pub(crate) fn look_up(alloc: Global, cards: &TaskCards) -> Result<Vec<AfterRow>, DeckError>
     ensures sound { OnOk result (HasNoTaskMisfit cards.now) }
     ensures afters { IfOk result (λ rows. rows.items ≡ afters_in cards.now) }
-    ensures first { IfErr result (Refuses (IsFirst (HasTaskMisfit cards.now))) }
+    ensures first { IfErr result (Refuses (IsFirstFault (HasTaskMisfit cards.now))) }
 {
     let afters = find_afters(alloc, cards)?;
     match first_misfit(cards, afters.fault) {

@@ -1,7 +1,7 @@
 -- Where record and number tell a fault, two first faults are one.
 use Rattle.std.proofs.Common.{◌≡◌, ◌≢◌, ℕ, ◌⊎◌, inl, inr, sym, ap, ◌∙◌, arith, ⊎_elim}
 use Rattle.std.proofs.lemmas.Bool.{cases_order}
-use Rattle.pc_faults.specs.First.{IsFirst, IsNoLater}
+use Rattle.pc_faults.specs.First.{IsFirstFault, IsNoLater}
 use Rattle.pc_faults.specs.declared.fault.Fault.{Fault}
 use Rattle.pc_model.specs.Greatest as number
 
@@ -16,7 +16,7 @@ same_place f g (inr a) (inl b) = absurd (omega (arith, a.0, b))
 same_place f g (inr a) (inr b) = (a.0, omega (arith, a.1, b.1))
 
 -- so the first of them is one
-pub first_once : (Has : Fault → Type 0) → AreToldByPlace Has → (f g : Fault) → IsFirst Has f → IsFirst Has g → f ≡ g
+pub first_once : (Has : Fault → Type 0) → AreToldByPlace Has → (f g : Fault) → IsFirstFault Has f → IsFirstFault Has g → f ≡ g
 first_once Has one f g x y = let at = same_place f g (x.least g y.holds) (y.least f x.holds) in one f g x.holds y.holds at.0 at.1
 
 -- faults that are a function of their numbers

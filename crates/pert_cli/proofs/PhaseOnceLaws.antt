@@ -11,7 +11,7 @@ use Rattle.pc_deck.specs.declared.kinds.as_of.AsOfCard.{AsOfCard}
 use Rattle.pc_deck.specs.declared.kinds.terms.TermsCard.{TermsCard}
 use Rattle.pc_deck.specs.declared.kinds.wbs.ItemCard.{ItemCard}
 use Rattle.pc_faults.specs.Faults as fault
-use Rattle.pc_faults.specs.First.{IsFirst}
+use Rattle.pc_faults.specs.First.{IsFirstFault}
 use Rattle.pc_faults.specs.declared.fault.DeckError.{DeckError}
 use Rattle.pc_faults.specs.declared.fault.DeckError.TheVariants as error
 use Rattle.pc_faults.specs.declared.fault.Detail.TheVariants.{Name}
@@ -218,22 +218,22 @@ module _ (deck : Deck) (rows : HasOwnRows deck) where
   -- ---- phase by phase
 
   abbrev FromTerms : Fault → Type 0
-  FromTerms f = IsFirst (HasTermsFault deck) f
+  FromTerms f = IsFirstFault (HasTermsFault deck) f
 
   abbrev FromPieces : Fault → Type 0
-  FromPieces f = IsFirst (HasPieceFault deck) f ⊎ (HasNoPieceFault deck × FromTerms f)
+  FromPieces f = IsFirstFault (HasPieceFault deck) f ⊎ (HasNoPieceFault deck × FromTerms f)
 
   abbrev FromToGos : Fault → Type 0
   FromToGos f = IsFirstSecondToGo deck f ⊎ (HasNoSecondToGo deck × FromPieces f)
 
   abbrev FromStatuses : Fault → Type 0
-  FromStatuses f = IsFirst (HasDisorder deck) f ⊎ (HasNoDisorder deck × FromToGos f)
+  FromStatuses f = IsFirstFault (HasDisorder deck) f ⊎ (HasNoDisorder deck × FromToGos f)
 
   abbrev FromPackages : Fault → Type 0
   FromPackages f = IsFirstUnevenFault deck f ⊎ (IsEven deck × FromStatuses f)
 
   abbrev FromLeaves : Fault → Type 0
-  FromLeaves f = IsFirst (HasLeafFault deck) f ⊎ (HasNoLeafFault deck × FromPackages f)
+  FromLeaves f = IsFirstFault (HasLeafFault deck) f ⊎ (HasNoLeafFault deck × FromPackages f)
 
   abbrev FromNetwork : Fault → Type 0
   FromNetwork f = IsNetFault deck f ⊎ (IsSound (network_of deck) × FromLeaves f)
@@ -242,7 +242,7 @@ module _ (deck : Deck) (rows : HasOwnRows deck) where
   FromTree f = IsTreeFault deck.items (rows_of deck) f ⊎ (IsTree (rows_of deck) × FromNetwork f)
 
   abbrev FromCards : Fault → Type 0
-  FromCards f = IsFirst (HasMisfit deck) f ⊎ (HasNoMisfit deck × FromTree f)
+  FromCards f = IsFirstFault (HasMisfit deck) f ⊎ (HasNoMisfit deck × FromTree f)
 
   behind_plan : (f : Fault) → HasSoundPlan deck → FromLeaves f → FromCards f
   behind_plan f plan rest = inr (plan.cards, inr (plan.tree, inr (plan.sound, rest)))
@@ -262,16 +262,16 @@ module _ (deck : Deck) (rows : HasOwnRows deck) where
   phases f (of_terms plan figures pieces first) = behind_figures f plan figures (inr (pieces, first))
 
   -- a fault of some cards is none where there is none
-  none_of : (Has : Fault → Type 0) (f : Fault) → IsFirst Has f → ((g : Fault) → Has g → ⊥) → ⊥
+  none_of : (Has : Fault → Type 0) (f : Fault) → IsFirstFault Has f → ((g : Fault) → Has g → ⊥) → ⊥
   none_of Has f first none = none f first.holds
 
-  first_alike : (Has : Fault → Type 0) → AreToldByPlace Has → (f g : Fault) → IsFirst Has f → IsFirst Has g → AreAlike f g
+  first_alike : (Has : Fault → Type 0) → AreToldByPlace Has → (f g : Fault) → IsFirstFault Has f → IsFirstFault Has g → AreAlike f g
   first_alike Has told f g x y = alike f g (first_once Has told f g x y)
 
   module _ (misfits : AreToldByPlace (HasMisfit deck)) (leaves : AreToldByPlace (HasLeafFault deck)) where
     from_pieces : (f g : Fault) → FromPieces f → FromPieces g → AreAlike f g
     from_pieces =
-        settled (IsFirst (HasPieceFault deck)) FromTerms (first_alike (HasPieceFault deck) piece_told) (none_of (HasPieceFault deck))
+        settled (IsFirstFault (HasPieceFault deck)) FromTerms (first_alike (HasPieceFault deck) piece_told) (none_of (HasPieceFault deck))
         (first_alike (HasTermsFault deck) (terms_told deck))
 
     from_togos : (f g : Fault) → FromToGos f → FromToGos g → AreAlike f g
@@ -279,14 +279,14 @@ module _ (deck : Deck) (rows : HasOwnRows deck) where
         settled (IsFirstSecondToGo deck) FromPieces (λ f g x y. alike f g (togo_once deck f g x y)) (λ f x none. none x.0 x.1.0.holds) from_pieces
 
     from_statuses : (f g : Fault) → FromStatuses f → FromStatuses g → AreAlike f g
-    from_statuses = settled (IsFirst (HasDisorder deck)) FromToGos (first_alike (HasDisorder deck) disorder_told) (none_of (HasDisorder deck)) from_togos
+    from_statuses = settled (IsFirstFault (HasDisorder deck)) FromToGos (first_alike (HasDisorder deck) disorder_told) (none_of (HasDisorder deck)) from_togos
 
     from_packages : (f g : Fault) → FromPackages f → FromPackages g → AreAlike f g
     from_packages =
         settled (IsFirstUnevenFault deck) FromStatuses (λ f g x y. alike f g (uneven_once deck f g x y)) (λ f x even. even x.0 x.1.0.holds) from_statuses
 
     from_leaves : (f g : Fault) → FromLeaves f → FromLeaves g → AreAlike f g
-    from_leaves = settled (IsFirst (HasLeafFault deck)) FromPackages (first_alike (HasLeafFault deck) leaves) (none_of (HasLeafFault deck)) from_packages
+    from_leaves = settled (IsFirstFault (HasLeafFault deck)) FromPackages (first_alike (HasLeafFault deck) leaves) (none_of (HasLeafFault deck)) from_packages
 
     from_network : (f g : Fault) → FromNetwork f → FromNetwork g → AreAlike f g
     from_network = settled (IsNetFault deck) FromLeaves (net_once deck) (no_net deck) from_leaves
@@ -297,7 +297,7 @@ module _ (deck : Deck) (rows : HasOwnRows deck) where
         (λ f x sound. no_tree deck.items (rows_of deck) f sound x) from_network
 
     from_cards : (f g : Fault) → FromCards f → FromCards g → AreAlike f g
-    from_cards = settled (IsFirst (HasMisfit deck)) FromTree (first_alike (HasMisfit deck) misfits) (none_of (HasMisfit deck)) from_tree
+    from_cards = settled (IsFirstFault (HasMisfit deck)) FromTree (first_alike (HasMisfit deck) misfits) (none_of (HasMisfit deck)) from_tree
 
     -- the refusal of the deck is one fault
     pub refused_alike : (f g : Fault) → IsRefusedWith deck f → IsRefusedWith deck g → AreAlike f g

@@ -25,7 +25,7 @@ use Rattle.pc_deck.proofs.RefusalLemmas.{first_of-read}
 use Rattle.pc_deck.proofs.SaysLemmas.{says_of-read}
 use Rattle.pc_deck.proofs.WithinLemmas.{deck_within, next_within, no_cards_within}
 use Rattle.pc_faults.specs.Faults as fault
-use Rattle.pc_faults.specs.First.{IsFirst}
+use Rattle.pc_faults.specs.First.{IsFirstFault}
 use Rattle.pc_faults.specs.declared.fault.Fault.{Fault}
 use Rattle.pc_faults.specs.declared.kind.Kind.{Kind}
 use Rattle.pc_faults.specs.declared.kind.Kind.TheVariants.{Acct, Task}
@@ -222,7 +222,7 @@ module _ (cards : List Numbered) (deck : Deck) (rising : Rises 1 cards) (says : 
   FromTree f = IsTreeFault deck.items (rows_of deck) f ⊎ (IsTree (rows_of deck) × FromTop f)
 
   abbrev FromCards : Fault → Type 0
-  FromCards f = IsFirst (HasTaskMisfit deck) f ⊎ (HasNoTaskMisfit deck × FromTree f)
+  FromCards f = IsFirstFault (HasTaskMisfit deck) f ⊎ (HasNoTaskMisfit deck × FromTree f)
 
   behind_items : (f : Fault) → HasSoundItems deck → FromNone f → FromCards f
   behind_items f items rest = inr (items.cards, inr (items.tree, inr (items.branch, rest)))
@@ -259,7 +259,7 @@ module _ (cards : List Numbered) (deck : Deck) (rising : Rises 1 cards) (says : 
 
     from_cards : (f g : Fault) → FromCards f → FromCards g → AreAlike f g
     from_cards =
-        settled (IsFirst (HasTaskMisfit deck)) FromTree (λ f g x y. alike f g (first_once (HasTaskMisfit deck) (task_once cards deck rising says) f g x y))
+        settled (IsFirstFault (HasTaskMisfit deck)) FromTree (λ f g x y. alike f g (first_once (HasTaskMisfit deck) (task_once cards deck rising says) f g x y))
         (λ f x none. none f x.holds) from_tree
 
     -- the refusal of the deck is one fault

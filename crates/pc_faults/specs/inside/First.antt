@@ -1,7 +1,7 @@
 -- Which of several faults is the first: at the least record, and there the least number.
 -- Here is what no clause of a top call and no law reaches.
 use Rattle.std.specs.Prelude.{⊤, Bool, ◌&&◌, ◌||◌, ◌==◌, nat_lt, nat_le, Option, Some, None, MatchOption, if◌then◌else◌}
-use Rattle.pc_faults.specs.First.{IsFirst}
+use Rattle.pc_faults.specs.First.{IsFirstFault}
 use Rattle.pc_faults.specs.declared.fault.Fault.{Fault as ADeckFault}
 use Rattle.pc_faults.specs.declared.fault.DeckError.{DeckError}
 use Rattle.pc_faults.specs.declared.fault.DeckError.TheVariants.{Fault, OutOfMemory}
@@ -13,7 +13,7 @@ Refuses P OutOfMemory = ⊤
 
 -- the first of the faults, or none where there are none
 abbrev pub IsFirstIn : (ADeckFault → Type 0) → Option ADeckFault → Type 0
-IsFirstIn Has found = MatchOption found ((fault : ADeckFault) → Has fault → ⊥) (IsFirst Has)
+IsFirstIn Has found = MatchOption found ((fault : ADeckFault) → Has fault → ⊥) (IsFirstFault Has)
 
 -- whether a fault comes no later than another
 abbrev pub is_no_later : ADeckFault → ADeckFault → Bool

@@ -1,5 +1,5 @@
 use Rattle.std.proofs.Common.{refl, sym, subst}
-use Rattle.pc_faults.specs.First.{IsFirst}
+use Rattle.pc_faults.specs.First.{IsFirstFault}
 use Rattle.pc_faults.specs.declared.fault.DeckError.{DeckError}
 use Rattle.pc_faults.specs.declared.fault.DeckError.TheVariants.{Fault, OutOfMemory}
 use Rattle.pc_faults.specs.inside.First.{Refuses}
@@ -12,7 +12,7 @@ use Rattle.pc_project.proofs.PlannedLaws.{project_in-is, project_in-planned}
 use Rattle.pc_project.proofs.phases.plan_of.Goals as goal
 
 -- a fault of a card is one with which the deck is refused
-refused_by_card : (deck : Deck) (error : DeckError) → Refuses (IsFirst (HasMisfit deck)) error → Refuses (IsRefusedWith deck) error
+refused_by_card : (deck : Deck) (error : DeckError) → Refuses (IsFirstFault (HasMisfit deck)) error → Refuses (IsRefusedWith deck) error
 refused_by_card deck (Fault fault) first = of_cards first
 refused_by_card deck OutOfMemory first = first
 
