@@ -21,7 +21,7 @@ use Rattle.pc_deck.specs.Deck.{Deck, account_codes, act_codes, event_codes, item
 use Rattle.pc_project.specs.Project.{arc_of, network_of, item_of_act, row_of, rows_of}
 use Rattle.pc_project.specs.Misfit.{HasAccountFault, HasActFault, HasItemFault, HasLoadFault, HasMoneyFault, HasPieceCardFault, HasStatusFault}
 use Rattle.pc_project.specs.Misfit.{HasNoMisfit, account, act, charge, figure, item, listed, project, status, togo}
-use Rattle.pc_project.specs.Makes.{HasEnds, IsSoundAct}
+use Rattle.pc_project.specs.Makes.{HasProjectEnds, IsSoundAct}
 use Rattle.pc_project.specs.Misfit as has
 use Rattle.pc_project.proofs.NumberLaws.{account_number-within, act_number-within, event_number-within, event_number-apart, item_number-within, resource_number-within}
 
@@ -35,7 +35,7 @@ pub Any-at : {X : Type 0} (P : X → Type 0) (xs : List X) (i : ℕ) (d : X) →
 Any-at P xs i d within holds = (i, get_or xs i d, within, get_or_default xs i (get_or xs i d) d within, holds)
 
 module _ (deck : Deck) (none : HasNoMisfit deck) where
-  pub has_ends : HasEnds deck
+  pub has_ends : HasProjectEnds deck
   has_ends =
       let starts = known_unless (named_among (event_codes deck) deck.project.start) (λ n. none _ (project (has.unknown_start n refl))) in record {
         starts = starts;

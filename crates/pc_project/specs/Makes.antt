@@ -20,7 +20,7 @@ use Rattle.pc_project.specs.Project.{network_of, pieces_in, rows_of, statuses_in
 use Rattle.pc_project.specs.Refusal.{HasNoSecondToGo, IsEven}
 
 -- the start and the end are two events
-pub record HasEnds (deck : Deck) : Type 0 where
+pub record HasProjectEnds (deck : Deck) : Type 0 where
   pub starts : IsSome (named_among (event_codes deck) deck.project.start)
   pub ends : IsSome (named_among (event_codes deck) deck.project.end)
   pub apart : deck.project.start ≢ deck.project.end
@@ -36,7 +36,7 @@ pub record IsSoundAct (deck : Deck) (card : ActCard) : Type 0 where
 
 -- what each card names is there, and the numbers of activities are in order
 pub record AreSoundCards (deck : Deck) : Type 0 where
-  pub ends : HasEnds deck
+  pub ends : HasProjectEnds deck
   pub items : All (λ item. (code : List ℕ) → item.parent ≡ Some code → IsSome (named_among (item_codes deck) code)) deck.items
   pub acts : All (IsSoundAct deck) deck.acts
   pub pieces : All (λ piece. IsSome (named_among (act_codes deck) piece.activity)) deck.pieces
