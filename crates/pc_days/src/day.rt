@@ -22,7 +22,7 @@ const LAST: i64 = 2_932_896;
 /// A day of the calendar from 1900-01-01 to 9999-12-31: the days that a deck can name and a report can print.
 ///
 /// In contracts a day is its number, counted in days from 1970-01-01.
-#[derive(Clone, Copy, Debug, PartialEq, Eq, PartialOrd, Ord, Hash)]
+#[derive(Clone, Copy, Debug, PartialEq, Eq, PartialOrd, Ord)]
 pub struct Day {
     number: i32,
 }

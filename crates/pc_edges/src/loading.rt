@@ -9,7 +9,7 @@ use std::alloc::Global;
 use thiserror::Error;
 
 /// The reason why a source was not read to its end.
-#[derive(Clone, Copy, Debug, PartialEq, Eq, Hash, Error)]
+#[derive(Clone, Copy, Debug, PartialEq, Eq, Error)]
 pub enum LoadError {
     #[error("the input could not be read")]
     ReadFault,

@@ -7,7 +7,7 @@ ghost use Rattle.pc_edges.specs.Pulls.{TakesPulls};
 use crate::key::FIXED_KEY;
 
 /// The error of a pull, a push or a flush: the source or the sink had a fault, and its count of faults rose.
-#[derive(Clone, Copy, Debug, PartialEq, Eq, Hash)]
+#[derive(Clone, Copy, Debug, PartialEq, Eq)]
 pub struct Failed;
 
 /// A source of bytes, which gives them a piece at a time.

@@ -6,7 +6,7 @@
 pub mod arrow_laws;
 
 /// A task and one that must end before it begins, by their numbers, counted in card order from 0.
-#[derive(Clone, Copy, Debug, PartialEq, Eq, Hash)]
+#[derive(Clone, Copy, Debug, PartialEq, Eq)]
 pub struct AfterRow {
     pub task: u32,
     pub before: u32,
