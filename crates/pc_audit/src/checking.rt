@@ -8,7 +8,14 @@ ghost use Rattle.pc_edges.specs.declared.loading.TheConstants.{STREAM_ROOM};
 ghost use Rattle.pc_check.specs.Auditing.{most_bytes};
 ghost use Rattle.pc_check.specs.OwnLines.{KeepsToOwnLines};
 ghost use Rattle.pc_project.specs.Project.{Project as TheProject};
-ghost use Rattle.pc_audit.specs.Certificate.{KeepsToOwnLinesFor, check_usage_text, Certifies, FailsAsCertificate, HasVerdict, ProvesCurve};
+ghost use Rattle.pc_audit.specs.Certificate.{
+  KeepsToOwnLinesFor,
+  check_usage_text,
+  Certifies,
+  FailsAsCertificate,
+  HasVerdict,
+  ProvesCurve,
+};
 ghost use Rattle.pc_audit.specs.inside.Certificate.{Answered};
 ghost use Rattle.pc_audit.specs.CheckOutcome.{IsChecked, IsCheckCut, IsUnread, OfBoth};
 ghost use Rattle.pc_audit.specs.inside.CheckOutcome.{CheckOutcome};

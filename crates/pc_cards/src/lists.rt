@@ -1,7 +1,23 @@
 //! The cards of one kind: a single one, several, or several that other cards name by their codes.
 //!
 //! Each takes the next card of its kind, or returns the fault of that card. After a fault the list must not be used.
-ghost use Rattle.std.specs.Prelude.{◌≡◌, [], ◌∷◌, ◌++◌, None, Some, true, not, nat_eq, length, map, position, IfOk, OnOk, IfErr};
+ghost use Rattle.std.specs.Prelude.{
+  ◌≡◌,
+  [],
+  ◌∷◌,
+  ◌++◌,
+  None,
+  Some,
+  true,
+  not,
+  nat_eq,
+  length,
+  map,
+  position,
+  IfOk,
+  OnOk,
+  IfErr,
+};
 ghost use Rattle.std.specs.Cmp.Lexicographic.{pointwise};
 ghost use Rattle.std.specs.Option.{option_or};
 ghost use Rattle.pc_faults.specs.inside.First.{Refuses};

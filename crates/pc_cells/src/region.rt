@@ -1,5 +1,27 @@
 //! A region and the spans that are live in it.
-ghost use Rattle.std.specs.Prelude.{◌≡◌, ◌+◌, ◌<◌, ◌≤◌, ◌↔◌, ℕ, [], ◌∷◌, ◌++◌, IfOk, IfErr, OnOk, OnErr, IsOk, IsTrue, length, take, replicate, slice_index, slice_set, sum_by};
+ghost use Rattle.std.specs.Prelude.{
+  ◌≡◌,
+  ◌+◌,
+  ◌<◌,
+  ◌≤◌,
+  ◌↔◌,
+  ℕ,
+  [],
+  ◌∷◌,
+  ◌++◌,
+  IfOk,
+  IfErr,
+  OnOk,
+  OnErr,
+  IsOk,
+  IsTrue,
+  length,
+  take,
+  replicate,
+  slice_index,
+  slice_set,
+  sum_by,
+};
 ghost use Rattle.pc_cells.specs.inside.Spans.{free_of, span_at, with_span, IsSpan, IsLive, IsTaken, IsMark};
 ghost use Rattle.pc_cells.specs.inside.Layout.{IsRangeFilled, IsRangeWritten};
 

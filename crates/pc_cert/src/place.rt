@@ -1,8 +1,31 @@
 //! The order of the lines of a certificate.
-ghost use Rattle.std.specs.Prelude.{◌≡◌, ℕ, ◌<◌, ◌==◌, ◌||◌, length, IsTrue, List, Option, None, Some, IfNone, IfSome, Bool, false};
+ghost use Rattle.std.specs.Prelude.{
+  ◌≡◌,
+  ℕ,
+  ◌<◌,
+  ◌==◌,
+  ◌||◌,
+  length,
+  IsTrue,
+  List,
+  Option,
+  None,
+  Some,
+  IfNone,
+  IfSome,
+  Bool,
+  false,
+};
 ghost use Rattle.pc_cert.specs.declared.line.CertLine.{CertLine};
 ghost use Rattle.pc_cert.specs.declared.line.CertLine.TheVariants.{Event, Act};
-ghost use Rattle.pc_cert.specs.declared.place.Place.TheVariants.{Start, AfterHead, NormalWalk, CrashWalk, InSegment, Between};
+ghost use Rattle.pc_cert.specs.declared.place.Place.TheVariants.{
+  Start,
+  AfterHead,
+  NormalWalk,
+  CrashWalk,
+  InSegment,
+  Between,
+};
 ghost use Rattle.pc_cert.specs.inside.Known.{HasText, IsAgain, IsFrontOf, IsTextOf};
 ghost use Rattle.pc_cert.specs.Grammar.{next};
 

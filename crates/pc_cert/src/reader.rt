@@ -1,5 +1,25 @@
 //! The reader of a certificate, which takes lines from bytes in pieces, however they are cut.
-ghost use Rattle.std.specs.Prelude.{◌≡◌, ℕ, ◌+◌, ◌^◌, ◌<◌, ◌≤◌, List, [], ◌++◌, length, Some, None, Err, IfOk, IfNone, IsNone, IsSome, IsTrue, MatchResult};
+ghost use Rattle.std.specs.Prelude.{
+  ◌≡◌,
+  ℕ,
+  ◌+◌,
+  ◌^◌,
+  ◌<◌,
+  ◌≤◌,
+  List,
+  [],
+  ◌++◌,
+  length,
+  Some,
+  None,
+  Err,
+  IfOk,
+  IfNone,
+  IsNone,
+  IsSome,
+  IsTrue,
+  MatchResult,
+};
 ghost use Rattle.pc_cert.specs.declared.line.CertLine.{CertLine};
 ghost use Rattle.pc_cert.specs.inside.Reading.{line_of};
 ghost use Rattle.pc_cert.specs.inside.Reader.{StandsFor, HasPassed, EndsAs};

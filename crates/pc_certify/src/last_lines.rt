@@ -1,7 +1,13 @@
 //! The lines of the segment that was put last. Most of them are lines of the next one too.
 ghost use Rattle.std.specs.Prelude.{◌≡◌, ◌+◌, ◌<◌, ◌≤◌, ◌++◌, length, IfOk};
 ghost use Rattle.pc_cert.specs.Lines.{numbers};
-ghost use Rattle.pc_certify.specs.inside.Spelled.{SpellsEvent, SpellsAct, AreEventsSpelled, AreActsSpelled, filled_along};
+ghost use Rattle.pc_certify.specs.inside.Spelled.{
+  SpellsEvent,
+  SpellsAct,
+  AreEventsSpelled,
+  AreActsSpelled,
+  filled_along,
+};
 
 use crate::gathered::Gathered;
 use crate::spelling::{NUMBER_ROOM, ROOM, Spelling};

@@ -1,8 +1,41 @@
 //! A day of the calendar as a number, read from a date and written as one.
-ghost use Rattle.std.specs.Prelude.{◌≡◌, ◌↔◌, ◌-ℤ◌, ◌<ℤ◌, ◌+◌, ◌<◌, ◌/◌, ◌%◌, ◌^◌, ℕ, ℤ, pos, neg_ℤ, List, length, true, Ok, Err, IfSome, IsNone};
+ghost use Rattle.std.specs.Prelude.{
+  ◌≡◌,
+  ◌↔◌,
+  ◌-ℤ◌,
+  ◌<ℤ◌,
+  ◌+◌,
+  ◌<◌,
+  ◌/◌,
+  ◌%◌,
+  ◌^◌,
+  ℕ,
+  ℤ,
+  pos,
+  neg_ℤ,
+  List,
+  length,
+  true,
+  Ok,
+  Err,
+  IfSome,
+  IsNone,
+};
 ghost use Rattle.jiff_core.specs.Calendar.{IsWithin};
 ghost use Rattle.pc_days.specs.Calendar.{text_of_day};
-ghost use Rattle.pc_days.specs.Dates.{day_of, has_form, are_digits, number_at, year_of, is_deck_year, NamesDay, date_text, IsPrintedDay, IsRoundedUp, IsAfterSixths};
+ghost use Rattle.pc_days.specs.Dates.{
+  day_of,
+  has_form,
+  are_digits,
+  number_at,
+  year_of,
+  is_deck_year,
+  NamesDay,
+  date_text,
+  IsPrintedDay,
+  IsRoundedUp,
+  IsAfterSixths,
+};
 ghost use Rattle.pc_days.specs.inside.Dates.{NamesDate, NamesDeckDay, NamesOtherYear};
 
 use crate::error::DayError;

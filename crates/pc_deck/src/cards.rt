@@ -3,7 +3,15 @@ ghost use Rattle.std.specs.Prelude.{◌≡◌, ◌≤◌, length};
 ghost use Rattle.pc_model.specs.declared.limits.TheConstants.{MAX_ACTIVITIES, MAX_EVENTS};
 ghost use Rattle.pc_cards.specs.declared.sort.Sort.{Sort};
 ghost use Rattle.pc_cards.specs.declared.sort.Sort.TheVariants.{Plan, Tasks};
-ghost use Rattle.pc_deck.specs.Deck.{account_codes, act_codes, event_codes, item_codes, named_among, resource_codes, task_codes};
+ghost use Rattle.pc_deck.specs.Deck.{
+  account_codes,
+  act_codes,
+  event_codes,
+  item_codes,
+  named_among,
+  resource_codes,
+  task_codes,
+};
 ghost use Rattle.pc_deck.specs.Within.{IsWithin};
 
 use crate::deck_cards::DeckCards;

@@ -1,5 +1,25 @@
 //! A sink in memory.
-ghost use Rattle.std.specs.Prelude.{◌≡◌, ◌-◌, ◌<◌, ◌≤◌, ◌↔◌, ◌⊎◌, ◌++◌, [], Some, Ok, length, take, min, IfOk, OnOk, OnErr, IsErr, IsTrue, Contains};
+ghost use Rattle.std.specs.Prelude.{
+  ◌≡◌,
+  ◌-◌,
+  ◌<◌,
+  ◌≤◌,
+  ◌↔◌,
+  ◌⊎◌,
+  ◌++◌,
+  [],
+  Some,
+  Ok,
+  length,
+  take,
+  min,
+  IfOk,
+  OnOk,
+  OnErr,
+  IsErr,
+  IsTrue,
+  Contains,
+};
 ghost use Rattle.pc_edges.specs.Faults.{Rose, raised};
 
 use crate::{Failed, Sink};

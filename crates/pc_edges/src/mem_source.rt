@@ -1,5 +1,23 @@
 //! A source in memory.
-ghost use Rattle.std.specs.Prelude.{◌≡◌, ◌<◌, ◌≤◌, ◌↔◌, ◌+◌, ◌++◌, [], Some, Ok, length, take, min, IfOk, OnOk, OnErr, IsErr, Contains};
+ghost use Rattle.std.specs.Prelude.{
+  ◌≡◌,
+  ◌<◌,
+  ◌≤◌,
+  ◌↔◌,
+  ◌+◌,
+  ◌++◌,
+  [],
+  Some,
+  Ok,
+  length,
+  take,
+  min,
+  IfOk,
+  OnOk,
+  OnErr,
+  IsErr,
+  Contains,
+};
 ghost use Rattle.pc_edges.specs.Faults.{Rose, raised};
 
 use crate::{Failed, Source};

@@ -1,6 +1,17 @@
 //! The faults of single cards (F3 to F12).
 ghost use Rattle.std.specs.Prelude.{◌≡◌};
-ghost use Rattle.pc_faults.specs.Faults.{first_not_project, unknown_kind, second_card, wrong_fields, misshapen, over_limit, repeated_code, too_many, behind_end, no_end};
+ghost use Rattle.pc_faults.specs.Faults.{
+  first_not_project,
+  unknown_kind,
+  second_card,
+  wrong_fields,
+  misshapen,
+  over_limit,
+  repeated_code,
+  too_many,
+  behind_end,
+  no_end,
+};
 
 use crate::fault::{Detail, Fault};
 use crate::kind::Kind;

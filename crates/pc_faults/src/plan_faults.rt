@@ -1,6 +1,21 @@
 //! The faults of budgets, status and costs, and of commands on a deck that has none of these (F28 to F41).
 ghost use Rattle.std.specs.Prelude.{◌≡◌};
-ghost use Rattle.pc_faults.specs.Faults.{not_a_leaf, uneven, disorder, second_to_go, outside_range, too_many_pieces, slope_not_rising, nothing_left, bonus_above_penalty, childless_top, task_cycle, no_task, too_many_periods, unknown_resource};
+ghost use Rattle.pc_faults.specs.Faults.{
+  not_a_leaf,
+  uneven,
+  disorder,
+  second_to_go,
+  outside_range,
+  too_many_pieces,
+  slope_not_rising,
+  nothing_left,
+  bonus_above_penalty,
+  childless_top,
+  task_cycle,
+  no_task,
+  too_many_periods,
+  unknown_resource,
+};
 
 use crate::fault::{Detail, Fault};
 use crate::status::StatusFault;

@@ -1,6 +1,22 @@
 //! The faults of cards that name one another, of the tree of items and of the network (F13 to F27).
 ghost use Rattle.std.specs.Prelude.{◌≡◌};
-ghost use Rattle.pc_faults.specs.Faults.{unknown_event, unknown_item, unknown_account, unknown_activity, one_event, estimates_disorder, crash_above_normal, no_top, second_top, item_loop, too_deep, enters_start, leaves_end, dangling, cycle};
+ghost use Rattle.pc_faults.specs.Faults.{
+  unknown_event,
+  unknown_item,
+  unknown_account,
+  unknown_activity,
+  one_event,
+  estimates_disorder,
+  crash_above_normal,
+  no_top,
+  second_top,
+  item_loop,
+  too_deep,
+  enters_start,
+  leaves_end,
+  dangling,
+  cycle,
+};
 
 use crate::fault::{Detail, Fault};
 use pc_text::{Code, Codes};

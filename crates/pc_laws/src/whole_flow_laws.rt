@@ -4,7 +4,24 @@
 //! Each function here does nothing: its contract is the law, proved once, and a caller that calls it has the law
 //! as a fact.
 
-ghost use Rattle.std.specs.Prelude.{[], ◌∷◌, slice_index, ◌≡◌, ◌≢◌, ◌⊎◌, ◌≤◌, ◌<◌, ◌+◌, ◌-◌, ◌*◌, ℕ, Bool, false, List, length};
+ghost use Rattle.std.specs.Prelude.{
+  [],
+  ◌∷◌,
+  slice_index,
+  ◌≡◌,
+  ◌≢◌,
+  ◌⊎◌,
+  ◌≤◌,
+  ◌<◌,
+  ◌+◌,
+  ◌-◌,
+  ◌*◌,
+  ℕ,
+  Bool,
+  false,
+  List,
+  length,
+};
 ghost use Rattle.pc_model.specs.declared.Term.{Term};
 ghost use Rattle.pc_model.specs.Sums.{sum_to};
 ghost use Rattle.pc_model.specs.Walk.{from_of, to_of};

@@ -1,5 +1,17 @@
 //! The forecasts of events, and the least forecast slack of each item.
-ghost use Rattle.std.specs.Prelude.{◌≡◌, ◌<◌, ◌≤◌, ◌^◌, pos, unsigned_abs, length, slice_index, slice_index_or, IfOk, []};
+ghost use Rattle.std.specs.Prelude.{
+  ◌≡◌,
+  ◌<◌,
+  ◌≤◌,
+  ◌^◌,
+  pos,
+  unsigned_abs,
+  length,
+  slice_index,
+  slice_index_or,
+  IfOk,
+  [],
+};
 ghost use Rattle.std.specs.List.{All};
 ghost use Rattle.pc_times.specs.declared.TheConstants.{MAX_TIME};
 ghost use Rattle.pc_rollup.specs.Least.{least_at};

@@ -1,7 +1,14 @@
 //! The rows of the report of event times.
 ghost use Rattle.std.specs.Prelude.{◌≡◌, ◌<◌, ◌^◌, length, unsigned_abs};
 ghost use Rattle.pc_edges.specs.inside.page.Puts.{Puts};
-ghost use Rattle.pc_reports.specs.TimesText.{event_table, event_cells, activity_table, activity_cells, activity_slack, critical_text};
+ghost use Rattle.pc_reports.specs.TimesText.{
+  event_table,
+  event_cells,
+  activity_table,
+  activity_cells,
+  activity_slack,
+  critical_text,
+};
 ghost use Rattle.pc_reports.specs.inside.View.{IsShownOf, as_shown};
 
 use crate::dates::{DATE_LENGTH, date_text};

@@ -1,6 +1,14 @@
 //! The sum over what lies below each item.
 ghost use Rattle.std.specs.Prelude.{◌≡◌, ℕ, ◌^◌, ◌<◌, length, sum_by, unsigned_abs, IfOk};
-ghost use Rattle.pc_rollup.specs.inside.Totals.{AreAtLeaves, AreRolledUp, IsRolledUp, AreTotalsOf, AreAmountsOf, AreOnLeaves, place_of};
+ghost use Rattle.pc_rollup.specs.inside.Totals.{
+  AreAtLeaves,
+  AreRolledUp,
+  IsRolledUp,
+  AreTotalsOf,
+  AreAmountsOf,
+  AreOnLeaves,
+  place_of,
+};
 
 use pc_wbs::Tree;
 use std::alloc::{AllocError, Global};

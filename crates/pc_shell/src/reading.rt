@@ -4,7 +4,14 @@ ghost use Rattle.pc_edges.specs.Pulls.{IsReadWithin};
 ghost use Rattle.pc_edges.specs.declared.loading.TheConstants.{STREAM_ROOM};
 ghost use Rattle.pc_faults.specs.inside.First.{Refuses};
 ghost use Rattle.pc_deck.specs.Limits.{longest_deck};
-ghost use Rattle.pc_shell.specs.inside.Reading.{HasNoDeck, HasNoProject, HasProject, IsNoProjectOf, IsWholeDeck, lacking};
+ghost use Rattle.pc_shell.specs.inside.Reading.{
+  HasNoDeck,
+  HasNoProject,
+  HasProject,
+  IsNoProjectOf,
+  IsWholeDeck,
+  lacking,
+};
 ghost use Rattle.pc_shell.specs.Sides.{side};
 ghost use Rattle.pc_shell.specs.Verdict.{IsFault, IsProjectOf};
 

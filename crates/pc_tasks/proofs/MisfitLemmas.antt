@@ -6,7 +6,25 @@ use Rattle.pc_faults.specs.declared.fault.Fault.{Fault}
 use Rattle.pc_faults.specs.inside.First.{IsFirstIn}
 use Rattle.pc_faults.proofs.FirstLaws.{first_of_same}
 use Rattle.pc_project.proofs.MisfitLaws.{OfAccounts, OfCharges, OfItems, OfTogos}
-use Rattle.pc_tasks.specs.Misfit.{HasAfterFault, HasEndsFault, HasTaskLoadFault, HasTaskMisfit, HasNoTaskMisfit, HasNameFault, HasTaskFault, account, after, charge, ends, item, load, piece, status, task, togo}
+use Rattle.pc_tasks.specs.Misfit.{
+  HasAfterFault,
+  HasEndsFault,
+  HasTaskLoadFault,
+  HasTaskMisfit,
+  HasNoTaskMisfit,
+  HasNameFault,
+  HasTaskFault,
+  account,
+  after,
+  charge,
+  ends,
+  item,
+  load,
+  piece,
+  status,
+  task,
+  togo,
+}
 
 module _ (deck : Deck) where
   abbrev pub OfTasks : Fault → Type 0

@@ -24,7 +24,19 @@ use Rattle.pc_faults.specs.declared.fault.Fault.{Fault}
 use Rattle.pc_model.specs.Codes.{IsNamedOnce, text_at}
 use Rattle.pc_model.specs.Network.{IsSound}
 use Rattle.pc_project.specs.Misfit as plan
-use Rattle.pc_project.specs.Misfit.{HasAccountFault, HasActFault, HasFigureFault, HasItemFault, HasListedFault, HasLoadFault, HasMoneyFault, HasPieceCardFault, HasProjectFault, HasStatusFault, HasOrderedEstimates}
+use Rattle.pc_project.specs.Misfit.{
+  HasAccountFault,
+  HasActFault,
+  HasFigureFault,
+  HasItemFault,
+  HasListedFault,
+  HasLoadFault,
+  HasMoneyFault,
+  HasPieceCardFault,
+  HasProjectFault,
+  HasStatusFault,
+  HasOrderedEstimates,
+}
 use Rattle.pc_project.specs.Project.{row_of, rows_of}
 use Rattle.pc_project.specs.Refusal.{HasSoundPlan}
 use Rattle.pc_project.proofs.FitLaws.{known_unless}

@@ -1,7 +1,19 @@
 //! The items, the events and the activities of the plan that is generated from tasks.
 ghost use Rattle.std.specs.Prelude.{◌≡◌, ◌++◌, ◌<◌, ◌≤◌, [], ◌∷◌, All, length, map, IfOk, OnOk};
 ghost use Rattle.pc_tasks.specs.network.Tasks.{AreAmong};
-ghost use Rattle.pc_tasks.specs.Drawn.{after_links, drawn_event, events_of, first_link, last_link, link, links_item, links_of, task_act, task_acts, top_code};
+ghost use Rattle.pc_tasks.specs.Drawn.{
+  after_links,
+  drawn_event,
+  events_of,
+  first_link,
+  last_link,
+  link,
+  links_item,
+  links_of,
+  task_act,
+  task_acts,
+  top_code,
+};
 ghost use Rattle.pc_tasks.specs.Lists.{afters_in};
 
 use crate::codes::{after_code, begin_code, end_code, first_code, last_code, links_code, no_title};

@@ -8,7 +8,14 @@ ghost use Rattle.pc_project.specs.Records.{codes_at};
 ghost use Rattle.pc_faults.specs.inside.First.{Refuses};
 ghost use Rattle.pc_tasks.specs.Lists.{afters_in};
 ghost use Rattle.pc_tasks.specs.Misfit.{HasNoTaskMisfit};
-ghost use Rattle.pc_tasks.specs.Refusal.{HasLoneTop, HasSoundItems, HasSoundTasks, IsCycleFault, IsTasksRefusedWith, task_records};
+ghost use Rattle.pc_tasks.specs.Refusal.{
+  HasLoneTop,
+  HasSoundItems,
+  HasSoundTasks,
+  IsCycleFault,
+  IsTasksRefusedWith,
+  task_records,
+};
 
 use crate::circle::first_circle;
 use crate::misfits::look_up;

@@ -2,7 +2,14 @@
 ghost use Rattle.std.specs.Prelude.{◌≡◌, ◌≤◌, [], ◌∷◌, IsTrue, Some, if◌then◌else◌, refl, not, nat_eq, length};
 ghost use Rattle.std.specs.Ordering.{nat_cmp};
 ghost use Rattle.std.specs.Cmp.{partial_equiv_from_equiv};
-ghost use Rattle.std.specs.Cmp.Lexicographic.{pointwise, slice_cmp, nat_list_eq_equiv, nat_list_cmp_total, texts_ties, texts_po};
+ghost use Rattle.std.specs.Cmp.Lexicographic.{
+  pointwise,
+  slice_cmp,
+  nat_list_eq_equiv,
+  nat_list_cmp_total,
+  texts_ties,
+  texts_po,
+};
 ghost use Rattle.std.specs.List.{list_all};
 ghost use Rattle.pc_text.specs.Code.{is_code_byte, is_code, code_of};
 ghost use Rattle.pc_text.specs.inside.Code.{has_code_length};

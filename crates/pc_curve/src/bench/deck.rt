@@ -1,6 +1,15 @@
 //! The text of the deck.
 ghost use Rattle.std.specs.Prelude.{◌≡◌, ◌≤◌, ◌++◌, IfOk, OnOk, string_bytes};
-ghost use Rattle.pc_curve.specs.bench.Deck.{activities_text, activity_line, all_costs, bench_deck_text, end_text, events_text, item_line, project_line};
+ghost use Rattle.pc_curve.specs.bench.Deck.{
+  activities_text,
+  activity_line,
+  all_costs,
+  bench_deck_text,
+  end_text,
+  events_text,
+  item_line,
+  project_line,
+};
 
 use crate::bench::activity::{BenchActivity, draw_activity, last_event};
 use crate::bench::draws::Draws;

@@ -1,5 +1,22 @@
 //! The reader of lines.
-ghost use Rattle.std.specs.Prelude.{◌≡◌, ℕ, ◌<◌, ◌≤◌, List, [], ◌++◌, length, take, drop, Ok, IfOk, OnOk, OnErr, IsErrOf, Contains};
+ghost use Rattle.std.specs.Prelude.{
+  ◌≡◌,
+  ℕ,
+  ◌<◌,
+  ◌≤◌,
+  List,
+  [],
+  ◌++◌,
+  length,
+  take,
+  drop,
+  Ok,
+  IfOk,
+  OnOk,
+  OnErr,
+  IsErrOf,
+  Contains,
+};
 ghost use Rattle.pc_edges.specs.Faults.{Rose};
 ghost use Rattle.pc_edges.specs.Pulls.{TakesPulls};
 ghost use Rattle.pc_edges.specs.inside.lines.Reading.{StandsFor, Stepped, TakesLine, Filled, bytes_left};

@@ -1,5 +1,18 @@
 //! Which packages have activities, and the amounts that make up an outlook.
-ghost use Rattle.std.specs.Prelude.{◌≡◌, ℕ, ◌<◌, ◌≤◌, ◌^◌, pos, length, slice_index, sum_by, unsigned_abs, IfOk, IsTrue};
+ghost use Rattle.std.specs.Prelude.{
+  ◌≡◌,
+  ℕ,
+  ◌<◌,
+  ◌≤◌,
+  ◌^◌,
+  pos,
+  length,
+  slice_index,
+  sum_by,
+  unsigned_abs,
+  IfOk,
+  IsTrue,
+};
 ghost use Rattle.pc_accounts.specs.Amounts.{item_of};
 ghost use Rattle.pc_accounts.specs.Entries.{AreEntriesWithinLimits, IsEntryWithinLimits};
 ghost use Rattle.pc_model.specs.declared.limits.TheConstants.{MAX_COST};

@@ -1,5 +1,23 @@
 //! Which packages are finished, and what the work of each account is worth.
-ghost use Rattle.std.specs.Prelude.{◌≡◌, ◌↔◌, ◌&&◌, true, unwrap_or, ℕ, ◌<◌, ◌≤◌, ◌^◌, pos, ◌-ℤ◌, length, slice_index, sum_by, unsigned_abs, IfOk, IsTrue};
+ghost use Rattle.std.specs.Prelude.{
+  ◌≡◌,
+  ◌↔◌,
+  ◌&&◌,
+  true,
+  unwrap_or,
+  ℕ,
+  ◌<◌,
+  ◌≤◌,
+  ◌^◌,
+  pos,
+  ◌-ℤ◌,
+  length,
+  slice_index,
+  sum_by,
+  unsigned_abs,
+  IfOk,
+  IsTrue,
+};
 ghost use Rattle.pc_accounts.specs.Amounts.{item_of};
 ghost use Rattle.pc_accounts.specs.Entries.{AreEntriesWithinLimits, IsEntryWithinLimits, value_of};
 ghost use Rattle.pc_model.specs.declared.limits.TheConstants.{MAX_COST};

@@ -1,7 +1,17 @@
 //! Reading a line: its first word says what it asks for, and its fields are read one after the other.
 ghost use Rattle.std.specs.Prelude.{◌≡◌};
 ghost use Rattle.pc_text.specs.Fields.{alone};
-ghost use Rattle.pc_whatif.specs.edits.Reading.{ask_of, ask_with, estimate_ask, amount_of, edit_of, normal_ask, crash_ask, slope_ask, try_ask};
+ghost use Rattle.pc_whatif.specs.edits.Reading.{
+  ask_of,
+  ask_with,
+  estimate_ask,
+  amount_of,
+  edit_of,
+  normal_ask,
+  crash_ask,
+  slope_ask,
+  try_ask,
+};
 
 use crate::edits::ask::{Ask, Change, Edit, MAX_LINE, Trial};
 use crate::edits::field::number_field;

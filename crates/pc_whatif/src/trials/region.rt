@@ -3,14 +3,29 @@ ghost use Rattle.std.specs.Prelude.{◌≡◌, ◌+◌, ◌-◌, ◌*◌, ◌<�
 ghost use Rattle.pc_curve.specs.CurveText.{IsCurveText};
 ghost use Rattle.pc_curve.specs.Points.{curve_in};
 ghost use Rattle.pc_edges.specs.inside.Writes.{Writes};
-ghost use Rattle.pc_model.specs.declared.limits.TheConstants.{MAX_ACTIVITIES, MAX_DURATION, MAX_EVENTS, MAX_PIECES, MAX_UNIT_DAYS, MAX_VARIANCE};
+ghost use Rattle.pc_model.specs.declared.limits.TheConstants.{
+  MAX_ACTIVITIES,
+  MAX_DURATION,
+  MAX_EVENTS,
+  MAX_PIECES,
+  MAX_UNIT_DAYS,
+  MAX_VARIANCE,
+};
 ghost use Rattle.pc_edges.specs.inside.page.Page.{fresh};
 ghost use Rattle.pc_project.specs.Project.{Project as Plan};
 ghost use Rattle.pc_reports.specs.TimesText.{IsTimesText};
 ghost use Rattle.pc_times.specs.Times.{AreLengths};
 ghost use Rattle.pc_times.specs.declared.TheConstants.{MAX_LENGTH, MAX_TIME};
 ghost use Rattle.pc_whatif.specs.inside.trials.Laid.{AreAtMost};
-ghost use Rattle.pc_whatif.specs.inside.trials.SessionRegion.{IsChangedTo, IsFor, IsStanding, IsStandingOf, path_in, with_estimates, with_times};
+ghost use Rattle.pc_whatif.specs.inside.trials.SessionRegion.{
+  IsChangedTo,
+  IsFor,
+  IsStanding,
+  IsStandingOf,
+  path_in,
+  with_estimates,
+  with_times,
+};
 ghost use Rattle.pc_curve.specs.Range.{IsRange, IsLengthInRange};
 ghost use Rattle.pc_whatif.specs.inside.trials.Trials.{HasRoom, looks_over, trial_cells};
 

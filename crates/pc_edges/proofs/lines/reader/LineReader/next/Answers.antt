@@ -3,7 +3,22 @@ use Rattle.std.proofs.lemmas.Bool.{eqb-true, eqb-false}
 use Rattle.pc_edges.specs.declared.lines.reader.TheConstants.{INPUT_LIMIT}
 use Rattle.pc_edges.specs.inside.lines.Lines.{IsOpen}
 use Rattle.pc_edges.specs.inside.lines.Reading.{Reading}
-use Rattle.pc_edges.proofs.lemmas.lines.StepLemmas.{begins_under, gives, goes_on_under, fills, fills_under, pulls_once, fills_nothing, ends_all, ends_last, fails, passes, left-of_all, left-filled, open_lacks}
+use Rattle.pc_edges.proofs.lemmas.lines.StepLemmas.{
+  begins_under,
+  gives,
+  goes_on_under,
+  fills,
+  fills_under,
+  pulls_once,
+  fills_nothing,
+  ends_all,
+  ends_last,
+  fails,
+  passes,
+  left-of_all,
+  left-filled,
+  open_lacks,
+}
 use Rattle.pc_edges.proofs.lines.reader.LineReader.next.Goals as goal
 
 pub loop-self-init : goal.loop-self-init
