@@ -33,7 +33,7 @@ impl Model for Gathered {
 }
 
 impl Gathered {
-    pub(crate) fn new(alloc: Global) -> Result<Gathered, AllocError>
+    pub(crate) fn build(alloc: Global) -> Result<Gathered, AllocError>
         ensures { IfOk result (λ gathered. gathered ≡ []) }
     {
         Ok(Gathered {

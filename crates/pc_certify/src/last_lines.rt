@@ -69,7 +69,7 @@ impl LastLines {
         Ok(LastLines {
             events: event_rows(alloc, net)?,
             acts: act_rows(alloc, net)?,
-            gathered: Gathered::new(alloc)?,
+            gathered: Gathered::build(alloc)?,
         })
     }
 }

@@ -36,7 +36,7 @@ impl Cards {
     /// # Errors
     ///
     /// `AllocError` if there is not enough memory.
-    pub fn of_lists(
+    pub fn build(
         alloc: Global,
         key: u128,
         project: &ProjectCard,
@@ -61,7 +61,7 @@ impl Cards {
     /// # Errors
     ///
     /// `AllocError` if there is not enough memory.
-    pub fn drawn_of(
+    pub fn build_drawn(
         alloc: Global,
         tasks: &TaskCards,
         items: &[ItemCard],
@@ -85,7 +85,7 @@ impl Cards {
             resources: tasks.resources(),
             loads: tasks.loads(),
         };
-        Cards::of_lists(alloc, tasks.key(), tasks.project(), &plan)
+        Cards::build(alloc, tasks.key(), tasks.project(), &plan)
     }
 }
 

@@ -24,7 +24,7 @@ pub(crate) struct Graph {
 }
 
 impl Drop for Graph {
-    // Written out, so that who lets a graph go cites this proof.
+    // Written by hand so that the proof of dropping it is done once, here.
     fn drop(self) {
         let Graph {
             events: _events,
@@ -50,7 +50,7 @@ impl Model for Graph {
 }
 
 impl Graph {
-    pub(crate) fn new(
+    pub(crate) fn build(
         alloc: Global,
         events: u32,
         start: u32,

@@ -65,7 +65,7 @@ impl Net {
         ensures sound { OnOk result (IsSound (network events start end arcs.now)) }
         ensures refused { IfErr result (IsNetError (network events start end arcs.now)) }
     {
-        let graph = Graph::new(alloc, events, start, end, arcs)?;
+        let graph = Graph::build(alloc, events, start, end, arcs)?;
         check(&graph)?;
         let order = ordered(alloc, &graph)?;
         if order.len() < events as usize {

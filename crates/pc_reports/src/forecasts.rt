@@ -57,10 +57,14 @@ impl Forecasts {
         ensures { IfOk result (AreForecasts project.now) }
     {
         let expected = forecast_of(alloc, project)?;
-        Forecasts::told(alloc, project, &expected)
+        Forecasts::build_from(alloc, project, &expected)
     }
 
-    fn told(alloc: Global, project: &Project, expected: &Forecast) -> Result<Forecasts, AllocError>
+    fn build_from(
+        alloc: Global,
+        project: &Project,
+        expected: &Forecast,
+    ) -> Result<Forecasts, AllocError>
         requires { IsForecastOf project.now expected.now }
         ensures { IfOk result (AreForecasts project.now) }
     {

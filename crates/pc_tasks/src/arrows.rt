@@ -85,6 +85,6 @@ fn drawn_of(alloc: Global, cards: &TaskCards, afters: &[AfterRow]) -> Result<Car
     let items = items_of(alloc, cards)?;
     let events = events_of(alloc, cards)?;
     let acts = acts_of(alloc, cards, afters)?;
-    let plan = Cards::drawn_of(alloc, cards, &items, &events, &acts)?;
+    let plan = Cards::build_drawn(alloc, cards, &items, &events, &acts)?;
     Ok(plan)
 }

@@ -95,7 +95,7 @@ impl SessionRegion {
             trial_cells project.now.network.events (length project.now.network.arcs) (length project.now.pieces)) }
     {
         let pieces = project.pieces().len();
-        SessionRegion::for_lists(
+        SessionRegion::build_from(
             alloc,
             project.net(),
             pieces,
@@ -105,7 +105,7 @@ impl SessionRegion {
     }
 
     // Returns the region for a network with so many pieces, with these expected times and variances.
-    fn for_lists(
+    fn build_from(
         alloc: Global,
         net: &Net,
         pieces: usize,

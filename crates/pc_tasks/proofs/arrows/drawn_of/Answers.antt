@@ -8,8 +8,8 @@ acts_of-requires-clause-among c =
     let deck = c.args.cards.now in
     rows-among deck c.args.afters.now (can_be_drawn deck c.requires.sound.items.cards c.project-project.ensures.within) c.requires.afters
 
-pub drawn_of-requires : goal.drawn_of-requires
-drawn_of-requires c =
+pub build_drawn-requires : goal.build_drawn-requires
+build_drawn-requires c =
     made-within c.args.cards.now c.deref.result.now c.deref-2.result.now c.deref-3.result.now c.project-project.ensures.within c.requires.sound.items.cards
     (c.deref.ensures.value ∙ c.in_ok-items.ensures) (c.deref-2.ensures.value ∙ c.in_ok-events.ensures) (c.deref-3.ensures.value ∙ c.in_ok-acts.ensures)
 

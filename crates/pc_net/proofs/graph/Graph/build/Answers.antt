@@ -1,7 +1,7 @@
 use Rattle.std.proofs.Common.{◌<◌, length, arith}
 use Rattle.pc_net.specs.declared.side.Side.TheVariants.{Begins, Ends}
 use Rattle.pc_net.proofs.SideLaws.{events_of_at, length-events_of}
-use Rattle.pc_net.proofs.graph.Graph.new.Goals as goal
+use Rattle.pc_net.proofs.graph.Graph.build.Goals as goal
 
 pub build-requires-clause-in_range : goal.build-requires-clause-in_range
 build-requires-clause-in_range c = record {

@@ -1,4 +1,4 @@
-use Rattle.pc_reports.proofs.forecasts.Forecasts.told.Goals as goal
+use Rattle.pc_reports.proofs.forecasts.Forecasts.build_from.Goals as goal
 
 pub dates_of-requires : goal.dates_of-requires
 dates_of-requires c = rw c.deref.ensures.value c.in_ok-times.ensures.soon

@@ -1,6 +1,6 @@
 use Rattle.std.proofs.Common.{refl}
 use Rattle.pc_faults.specs.declared.kind.Kind.TheVariants.{Wbs, Event, Act, Acct, Res}
-use Rattle.pc_deck.proofs.made.Cards.of_lists.Goals as goal
+use Rattle.pc_deck.proofs.made.Cards.build.Goals as goal
 
 pub add_plan-requires-clause-differ : goal.add_plan-requires-clause-differ
 add_plan-requires-clause-differ c = record {
