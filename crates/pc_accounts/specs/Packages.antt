@@ -7,7 +7,7 @@ use Rattle.pc_accounts.specs.declared.rows.WorkRow.{WorkRow}
 abbrev pub budgets_of : List AcctRow → ℕ → ℕ
 budgets_of accounts item = sum_by (λ row. row.budget) (filter (λ row. row.item == item) accounts)
 
--- the sum of the costs of its activities
+-- the sum of the costs of the activities at an item
 abbrev pub costs_of : List WorkRow → ℕ → ℕ
 costs_of work item = sum_by (λ row. row.cost) (filter (λ row. row.item == item) work)
 

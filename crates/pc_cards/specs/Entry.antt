@@ -6,7 +6,7 @@ use Rattle.pc_cards.specs.Named.{HeldBy}
 use Rattle.pc_cards.specs.declared.sort.Sort.{Sort}
 use Rattle.pc_cards.specs.declared.sort.Sort.TheVariants.{Plan, Tasks}
 
--- the same in decks of both sorts
+-- one thing in decks of both sorts
 abbrev pub in_both : {A : Type 0} → A → Sort → A
 in_both same sort = same
 
@@ -22,16 +22,17 @@ pub data Limit : Type 0 where
   up_to : ℕ → Limit
   growing : ℕ → ℕ → Limit
 
--- the number, in a deck of a version, where there is one
+-- how many cards a limit allows in a deck of a version, where it is a number
 abbrev pub limit_at : ℕ → Limit → Option ℕ
 limit_at version unlimited = None
 limit_at version (up_to most) = Some most
 limit_at version (growing small large) = Some (if version == 2 then large else small)
 
--- the limit of a kind that only plans have, and of one that only decks of tasks have
+-- the limit of a kind that only plans have
 abbrev pub in_plans : Limit → Sort → Limit
 in_plans limit = by_sort limit (up_to 0)
 
+-- the limit of a kind that only decks of tasks have
 abbrev pub in_tasks : Limit → Sort → Limit
 in_tasks limit = by_sort (up_to 0) limit
 

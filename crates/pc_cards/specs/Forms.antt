@@ -34,12 +34,13 @@ abbrev pub own_code : Sort → FieldForm
 own_code Plan = form.Code
 own_code Tasks = form.GivenCode
 
--- whether reading a date gave an error
+-- whether reading a date found no date of the calendar
 abbrev pub is_misshapen : {A : Type 0} → Result A DayError → Bool
 is_misshapen (Ok day) = false
 is_misshapen (Err Shape) = true
 is_misshapen (Err Years) = false
 
+-- whether reading a date found one of a year that a deck must not name
 abbrev pub is_of_other_years : {A : Type 0} → Result A DayError → Bool
 is_of_other_years (Ok day) = false
 is_of_other_years (Err Shape) = false

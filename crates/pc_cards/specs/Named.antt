@@ -12,7 +12,7 @@ abbrev pub HeldBy : Bool → Type 0 → Type 0
 HeldBy true C = Option C
 HeldBy false C = List C
 
--- the same as a list
+-- the cards of a kind as a list, also where the kind stands once
 abbrev pub listed_by : (once : Bool) (C : Type 0) → HeldBy once C → List C
 listed_by true C held = option_to_list held
 listed_by false C held = held

@@ -17,7 +17,7 @@ pub record PricedNetwork : Type 0 where
   pub events : List (List ℕ)
   pub activities : List (List ℕ)
 
--- the knees of its activities
+-- the knees of a network's activities
 abbrev pub knees_in : PricedNetwork → Knees
 knees_in net = knees_of net.terms net.pieces
 

@@ -57,7 +57,7 @@ unfoldable pub has_day : ℕ → ℕ → ℕ → Bool
 has_day y m d =
     nat_le 1 m && nat_le m 12 && nat_le 1 d && nat_le d (days_in_month (pos y) m)
 
--- the same of the years of a deck's dates, as a test
+-- a test for: the dates of a deck may be in this year
 abbrev pub is_deck_year : ℕ → Bool
 is_deck_year y = nat_le 1900 y && nat_le y 2199
 

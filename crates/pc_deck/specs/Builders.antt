@@ -37,6 +37,6 @@ listed_kind {C} spelled slots width held limit = record {
   code = no_code;
 }
 
--- the same of cards with codes of their own; the code stands behind the card that a record spells
+-- a kind of which a deck has a list, as by `listed_kind`, whose cards have codes of their own: its second part is the code of a card
 abbrev pub named_kind : {C : Type 0} → (ℕ → List (List ℕ) → C) → (C → List ℕ) → (Sort → List Slot) → ℕ → (CardLists → List C) → (Sort → Limit) → Entry CardLists
 named_kind spelled code slots width held limit = record (listed_kind spelled slots width held limit) { is_coded = true; code = code }

@@ -47,6 +47,6 @@ resource_codes deck = map (λ resource. resource.code) deck.resources
 abbrev pub named_among : List (List ℕ) → List ℕ → Option ℕ
 named_among codes code = position (pointwise nat_eq code) codes
 
--- that number, and the count of the codes where the code stands nowhere
+-- the number of what has a code among those with these codes, as by `named_among`; how many codes there are where it stands nowhere
 abbrev pub number_among : List (List ℕ) → List ℕ → ℕ
 number_among codes code = unwrap_or (named_among codes code) (length codes)

@@ -43,20 +43,20 @@ entry_of Res = resource_kind
 entry_of Load = load_kind
 entry_of End = end_kind
 
--- those that come first in decks of both sorts
+-- the kinds that come first, in decks of both sorts
 abbrev pub first_kinds : List Kind
 first_kinds = Project ∷ AsOf ∷ Terms ∷ Wbs ∷ []
 
--- those that only decks of a sort have
+-- the kinds that only decks of a sort have
 abbrev pub work_kinds : Sort → List Kind
 work_kinds Plan = Event ∷ Act ∷ []
 work_kinds Tasks = Task ∷ After ∷ []
 
--- those that come behind these in decks of both sorts
+-- the kinds that come last, in decks of both sorts
 abbrev pub further_kinds : List Kind
 further_kinds = Piece ∷ Acct ∷ Charge ∷ ToGo ∷ Status ∷ Res ∷ Load ∷ End ∷ []
 
--- those that a deck of a sort has
+-- the kinds of cards that a deck of a sort has
 abbrev pub kinds_of : Sort → List Kind
 kinds_of sort = first_kinds ++ work_kinds sort ++ further_kinds
 
@@ -119,7 +119,7 @@ slots_of sort kind = (entry_of kind).slots sort
 abbrev pub width_of : Kind → ℕ
 width_of kind = (entry_of kind).most
 
--- how many fields they must have
+-- how many fields a kind's cards must have, the kind itself among them
 abbrev pub least_width_of : Kind → ℕ
 least_width_of kind = (entry_of kind).least
 

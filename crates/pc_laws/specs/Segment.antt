@@ -144,7 +144,7 @@ abbrev pub backward_rises : Network → Knees → Segment → ℕ
 backward_rises net knees seg =
     sum_to (length net.arcs) (λ a. if is_backward net.arcs seg.moves a then rises_above net knees seg 0 a else 0)
 
--- what a unit of length less costs across the cut: the first of these sums less the second
+-- what a unit of length less costs across the cut: the forward rises less the backward rises
 abbrev pub cut_gain : Network → Knees → Segment → ℤ
 cut_gain net knees seg = pos (forward_rises net knees seg) -ℤ pos (backward_rises net knees seg)
 

@@ -19,13 +19,13 @@ abbrev pub slope_in : Term → List PieceRow → ℕ → ℕ
 slope_in term pieces zero = term.slope
 slope_in term pieces (suc k) = (slice_index_or pieces k (record { activity = 0; units = 0; slope = 0 })).slope
 
--- the duration below which its k-th piece begins: normal for the first, and for each later one what is left of the
+-- the duration below which an activity's k-th piece begins: normal for the first, and for each later one what is left of the
 -- pieces from there on above crash
 abbrev pub knee_in : Term → List PieceRow → ℕ → ℕ
 knee_in term pieces zero = term.normal
 knee_in term pieces (suc k) = term.crash + units_of (drop k pieces)
 
--- by how much the slope of its k-th piece is above that of the piece before
+-- by how much the slope of an activity's k-th piece is above that of the piece before
 abbrev pub rise_in : Term → List PieceRow → ℕ → ℕ
 rise_in term pieces zero = term.slope
 rise_in term pieces (suc k) = slope_in term pieces (suc k) - slope_in term pieces k

@@ -9,19 +9,19 @@ use Rattle.pc_model.specs.Network.{Network, IsLongest}
 abbrev pub term_at : List Term → ℕ → Term
 term_at terms a = slice_index_or terms a (record { normal = 0; crash = 0; cost = 0; slope = 0 })
 
--- the activity's normal duration
+-- activity a's normal duration
 abbrev pub normal_of : List Term → ℕ → ℕ
 normal_of terms a = (term_at terms a).normal
 
--- its crash duration
+-- activity a's crash duration
 abbrev pub crash_of : List Term → ℕ → ℕ
 crash_of terms a = (term_at terms a).crash
 
--- what it costs at its normal duration
+-- what activity a costs at its normal duration
 abbrev pub base_cost_of : List Term → ℕ → ℕ
 base_cost_of terms a = (term_at terms a).cost
 
--- what each of the first units by which it is shortened costs
+-- what each of the first units by which activity a is shortened costs
 abbrev pub slope_of : List Term → ℕ → ℕ
 slope_of terms a = (term_at terms a).slope
 

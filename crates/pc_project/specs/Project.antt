@@ -110,10 +110,11 @@ accounts_in deck = map (account_of deck) deck.accounts
 abbrev pub money_of : Deck → MoneyCard → MoneyRow
 money_of deck card = record { account = number_among (account_codes deck) card.account; day = card.day; amount = card.amount }
 
--- the charges, and the amounts to go
+-- the charges
 abbrev pub charges_in : Deck → List MoneyRow
 charges_in deck = map (money_of deck) deck.charges
 
+-- the amounts to go
 abbrev pub togos_in : Deck → List MoneyRow
 togos_in deck = map (money_of deck) deck.togos
 
@@ -121,7 +122,7 @@ togos_in deck = map (money_of deck) deck.togos
 abbrev pub work_of : Deck → ActCard → WorkRow
 work_of deck act = record { item = item_of_act deck act; cost = act.cost }
 
--- the same of all activities
+-- what all activities cost, and at which items
 abbrev pub work_in : Deck → List WorkRow
 work_in deck = map (work_of deck) deck.acts
 

@@ -37,7 +37,7 @@ IsUntouched s = s.new ≡ s.old
 abbrev pub OfBytes : {X : Type 0} → Side X → (List ℕ → Type 0) → Type 0
 OfBytes s P = IfSome (s.bytes s.old) P
 
--- the same, where they are a deck
+-- the bytes that the source had left, which are a deck, have P, where it tells them
 abbrev pub OfDeck : {X : Type 0} → Side X → (List ℕ → Type 0) → Type 0
 OfDeck s P = OfBytes s P
 

@@ -49,7 +49,7 @@ abbrev pub IsInOrder : ℤ → ℤ → List StatusRow → ℕ → Type 0
 IsInOrder start as_of statuses k =
     (reason : StatusFault) → HasReason start as_of statuses k reason → ⊥
 
--- all of them are
+-- all statuses are in order
 abbrev pub AreInOrder : ℤ → ℤ → List StatusRow → Type 0
 AreInOrder start as_of statuses = (k : ℕ) → k < length statuses → IsInOrder start as_of statuses k
 
