@@ -46,7 +46,7 @@ pub record Entry (Lists : Type 0) : Type 1 where
   pub Card : Type 0
   -- the card that a record spells, of the record's number and its fields
   pub spelled : ℕ → List (List ℕ) → Card
-  -- what the fields must be in decks of a sort, behind the kind itself
+  -- what the fields must be in decks of a sort, after the kind itself
   pub slots : Sort → List Slot
   -- how many fields a card must have, the kind itself among them
   pub least : ℕ
@@ -65,7 +65,7 @@ pub record Entry (Lists : Type 0) : Type 1 where
 
 -- how the cards of a kind are written
 pub record Written (Card : Type 0) : Type 0 where
-  -- the fields of a card as they are written, behind the kind itself, each in the one spelling that its form has
+  -- the fields of a card as they are written, after the kind itself, each in the one spelling that its form has
   pub written : Card → List (List ℕ)
   -- the same card in another record
   pub at_row : ℕ → Card → Card

@@ -17,7 +17,7 @@ abbrev pub listed_by : (once : Bool) (C : Type 0) → HeldBy once C → List C
 listed_by true C held = option_to_list held
 listed_by false C held = held
 
--- the cards in other records, one behind the other: each by how it looks in another record
+-- the cards in other records, one after the other: each by how it looks in another record
 abbrev pub numbered_from : {C : Type 0} → (ℕ → C → C) → ℕ → List C → List C
 numbered_from at_row row [] = []
 numbered_from at_row row (card ∷ cards) = at_row row card ∷ numbered_from at_row (row + 1) cards

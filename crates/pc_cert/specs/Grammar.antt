@@ -5,7 +5,7 @@ use Rattle.pc_cert.specs.declared.line.CertLine.TheVariants.{Head, Normal, Step,
 use Rattle.pc_cert.specs.declared.place.Place.{Place}
 use Rattle.pc_cert.specs.declared.place.Place.TheVariants.{Start, AfterHead, NormalWalk, CrashWalk, InSegment, Between, Ended}
 
--- where the line behind this one stands, or none where this one may not stand here
+-- the place after this line, or none where this line is not allowed at this place
 abbrev pub next : Place → CertLine → Option Place
 -- the first line is CERT
 next Start (Head version project events activities) =
@@ -26,7 +26,7 @@ next (InSegment shape events activities) (Act code duration flows) =
     if events == 0 && (nat_lt 0 activities && (shape.version == 2 || length flows == 2)) then Some (InSegment shape events (activities - 1)) else None
 -- and then CLOSE
 next (InSegment shape events activities) Close = if events == 0 && activities == 0 then Some (Between shape) else None
--- behind a segment comes another one, or END
+-- after a segment comes another one, or END
 next (Between shape) (Segment upper lower cost slope) = Some (InSegment shape shape.events shape.activities)
 next (Between shape) End = Some Ended
 -- no other line may stand anywhere

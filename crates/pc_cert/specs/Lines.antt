@@ -6,7 +6,7 @@ use Rattle.pc_cert.specs.declared.line.CertLine.TheVariants.{Head, Normal, Step,
 use Rattle.pc_cert.specs.declared.number.TheConstants.{MAX_DIGITS}
 use Rattle.pc_cert.specs.declared.flows.TheConstants.{MAX_FLOWS}
 
--- each of the numbers behind a space
+-- each of the numbers after a space
 abbrev pub numbers : List ℕ → List ℕ
 numbers [] = []
 numbers (n ∷ ns) = spaced (decimal n) (numbers ns)

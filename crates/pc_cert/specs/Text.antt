@@ -7,7 +7,7 @@ use Rattle.pc_text.specs.Fields.{◌>>=◌}
 use Rattle.pc_cert.specs.Lines.{spelling, IsWritable}
 use Rattle.pc_cert.specs.Grammar.{next}
 
--- the lines one behind the other, each with its end (10)
+-- the lines one after the other, each with its end (10)
 abbrev pub text_of : List CertLine → List ℕ
 text_of [] = []
 text_of (line ∷ lines) = spelling line ++ 10 ∷ text_of lines
@@ -17,12 +17,12 @@ abbrev pub AreWritable : List CertLine → Type 0
 AreWritable [] = Unit {0}
 AreWritable (line ∷ lines) = IsWritable line × AreWritable lines
 
--- the place behind lines that come from a place on, where each may stand in its own
+-- the place after lines that begin at a place; none where one of them is not allowed at its place
 abbrev pub ran : Place → List CertLine → Option Place
 ran place [] = Some place
 ran place (line ∷ lines) = next place line >>= (λ behind. ran behind lines)
 
--- the lines can be spelled and may come from the beginning on, and this is the place behind them
+-- the lines can be written, they are allowed in this order from the beginning, and this is the place after them
 pub record LeadTo (place : Place) (lines : List CertLine) : Type 0 where
   pub fit : AreWritable lines
   pub order : ran Start lines ≡ Some place

@@ -13,7 +13,7 @@ use Rattle.pc_deck.specs.Judged.{Seen}
 use Rattle.pc_deck.specs.Kinds.{limit_of, slots_of, stands_once}
 use Rattle.pc_deck.specs.Refusal.{is_whole_as, kind_named, seen_among}
 
--- a card is of this kind and has no fault behind the cards that were seen
+-- a card is of this kind and has no fault after the cards that were seen
 pub record IsFaultlessAs (seen : Seen) (card : Numbered) (kind : Kind) : Type 0 where
   pub named : kind_named seen.sort card ≡ Some kind
   -- PROJECT comes first

@@ -111,7 +111,7 @@ held_in lists kind = (entry_of kind).held lists
 abbrev pub card_of : (kind : Kind) → ℕ → List (List ℕ) → CardOf kind
 card_of kind = (entry_of kind).spelled
 
--- what the fields of a kind's cards must be in decks of a sort, behind the kind itself
+-- what the fields of a kind's cards must be in decks of a sort, after the kind itself
 abbrev pub slots_of : Sort → Kind → List Slot
 slots_of sort kind = (entry_of kind).slots sort
 
