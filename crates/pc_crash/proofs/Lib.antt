@@ -2,6 +2,7 @@ pub mod PieceLaws
 mod GroupLaws
 mod KneeListLaws
 mod LaidLaws
+mod LinkLaws
 mod MoveLaws
 pub mod CostLaws
 pub mod OwnPieceLaws

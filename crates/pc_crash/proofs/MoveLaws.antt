@@ -341,6 +341,7 @@ module _ (s : Inside) (net : PricedNetwork) (view : priced_network s ≡ net) (i
             (λ n. AreLaid s.net.now.arcs (set (priced_network s).terms a new) s.pieces.items n (set s.layout.rows.items a set_row)
             (put_mid row.first (row.first + row.count - row.first) s.layout.knees.items new_part))
             (length-map s.layout.rows.items (λ (r : PriceRow). r.term) ∙ sym (length-set s.layout.rows.items a set_row)) set_laid);
+        linked = inv.linked;
       }
 
       -- of the network before with that term

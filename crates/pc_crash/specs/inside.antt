@@ -7,4 +7,5 @@ pub mod Priced
 pub mod Looks
 pub mod OwnPieces
 pub mod CrashNets
+pub mod Links
 pub mod Steps

@@ -2,9 +2,14 @@
 ghost use Rattle.std.specs.Prelude.{◌≡◌, ◌≢◌, ℕ, ◌+◌, ◌<◌, length, IsTrue, ◌↔◌, IfOk, IfSome, IfNone};
 ghost use Rattle.pc_model.specs.Codes.{text_at};
 ghost use Rattle.pc_model.specs.Cost.{IsPriced};
+ghost use Rattle.pc_model.specs.Greatest.{places};
+ghost use Rattle.pc_model.specs.inside.Greatest.{IsListed};
 ghost use Rattle.pc_model.specs.Pieces.{ArePieces};
 ghost use Rattle.pc_model.specs.Schedule.{AreTerms, term_at};
+ghost use Rattle.pc_model.specs.Walk.{from_of, to_of};
+ghost use Rattle.pc_net.specs.Networks.{events_from, events_to};
 ghost use Rattle.pc_crash.specs.inside.KneeLists.{AreKneesOf};
+ghost use Rattle.pc_crash.specs.inside.Links.{activities_of, link_at};
 ghost use Rattle.pc_crash.specs.inside.Looks.{IsLookAt};
 ghost use Rattle.pc_crash.specs.Priced.{knees_in, ArePiecesWithinLimits};
 ghost use Rattle.pc_crash.specs.inside.Priced.{AreNames};
@@ -13,6 +18,7 @@ ghost use Rattle.pc_crash.specs.Terms.{AreWithinLimits};
 use crate::counting::Steps;
 use crate::knee_list::KneeList;
 use crate::laying::{PriceTable, laid_out};
+use crate::linking::{Link, LinkTable, linked};
 use crate::looking::Look;
 use pc_model::{PieceRow, Term};
 use pc_names::Names;
@@ -28,6 +34,7 @@ use std::sync::ledger::Ledger;
 pub struct CrashNet<'n> {
     pub(crate) net: &'n Net,
     pub(crate) layout: PriceTable,
+    links: LinkTable,
     pieces: Vec<PieceRow>,
     project: Code,
     events: Vec<Code>,
@@ -40,6 +47,7 @@ impl<'n> Drop for CrashNet<'n> {
         let CrashNet {
             net: _net,
             layout: _layout,
+            links: _links,
             pieces: _pieces,
             project: _project,
             events: _events,
@@ -92,6 +100,7 @@ impl<'n> CrashNet<'n> {
         Ok(CrashNet {
             net,
             layout: laid_out(alloc, net, terms, pieces)?,
+            links: linked(alloc, net)?,
             pieces: Vec::from_slice(alloc, pieces)?,
             project,
             events: Vec::from_slice(alloc, events)?,
@@ -167,6 +176,30 @@ impl<'n> CrashNet<'n> {
         ensures { AreKneesOf (knees_in self.now) a result }
     {
         self.layout.knees_of(a)
+    }
+
+    /// Returns the activities that begin at the event, in card order, each with the event where it ends.
+    pub fn out_links(&self, e: u32) -> &[Link]
+        requires { e < self.now.network.events }
+        ensures listed { IsListed (λ a. from_of self.now.network.arcs a ≡ e) (length self.now.network.arcs)
+            (activities_of result.now) }
+        ensures places { activities_of result.now ≡ places e 0 (events_from self.now.network.arcs) }
+        ensures others { (k : ℕ) → k < length result.now →
+            (link_at result.now k).other ≡ to_of self.now.network.arcs (link_at result.now k).activity }
+    {
+        self.links.begun(e)
+    }
+
+    /// Returns the activities that end at the event, in card order, each with the event where it begins.
+    pub fn in_links(&self, e: u32) -> &[Link]
+        requires { e < self.now.network.events }
+        ensures listed { IsListed (λ a. to_of self.now.network.arcs a ≡ e) (length self.now.network.arcs)
+            (activities_of result.now) }
+        ensures places { activities_of result.now ≡ places e 0 (events_to self.now.network.arcs) }
+        ensures others { (k : ℕ) → k < length result.now →
+            (link_at result.now k).other ≡ from_of self.now.network.arcs (link_at result.now k).activity }
+    {
+        self.links.ended(e)
     }
 
     /// Returns what a search along the network needs of an activity, and counts one step.

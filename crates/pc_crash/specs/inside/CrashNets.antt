@@ -5,6 +5,7 @@ use Rattle.pc_model.specs.Pieces.{ArePieces}
 use Rattle.pc_model.specs.Schedule.{AreTerms}
 use Rattle.pc_crash.specs.declared.crash_net.CrashNet.TheInside.{Inside}
 use Rattle.pc_crash.specs.inside.Laid.{AreLaid}
+use Rattle.pc_crash.specs.inside.Links.{AreLinked}
 use Rattle.pc_crash.specs.Priced.{PricedNetwork, ArePiecesWithinLimits}
 use Rattle.pc_crash.specs.inside.Priced.{AreNames}
 use Rattle.pc_crash.specs.Terms.{AreWithinLimits}
@@ -32,7 +33,8 @@ pub record IsWhole (net : PricedNetwork) : Type 0 where
   pub events : AreNames net.network.events net.events
   pub activities : AreNames (length net.network.arcs) net.activities
 
--- the fields are those of a whole priced network, laid out
+-- the fields are those of a whole priced network, laid out, with the activities at each event linked
 pub record IsWholeInside (net : Inside) : Type 0 where
   pub whole : IsWhole (priced_network net)
   pub laid : AreLaid net.net.now.arcs (priced_network net).terms net.pieces.items (length net.layout.rows.items) net.layout.rows.items net.layout.knees.items
+  pub linked : AreLinked net.net.now.arcs net.net.now.events net.links.rows.items net.links.links.items

@@ -20,6 +20,7 @@ invariant_of-result c =
         activities = rw c.in_ok-build.ensures c.requires.activities;
       };
       laid = rw (terms, pieces, c.in_ok-laid_out.ensures.laid.one_each) c.in_ok-laid_out.ensures.laid;
+      linked = c.in_ok-linked.ensures;
     }
 
 pub laid_out-requires-clause-terms : goal.laid_out-requires-clause-terms
