@@ -1,14 +1,15 @@
 //! Labels that are given along steps with room, from event to event.
-ghost use Rattle.std.specs.Prelude.{◌≡◌, ◌+◌, ◌*◌, ◌<◌, ◌≤◌, ℕ, length, slice_index};
+ghost use Rattle.std.specs.Prelude.{◌≡◌, ◌+◌, ◌*◌, ◌<◌, ◌≤◌, ℕ, length};
 ghost use Rattle.pc_model.specs.Greatest.{StandsBelow};
 ghost use Rattle.pc_model.specs.Walk.{from_of, to_of};
+ghost use Rattle.pc_crash.specs.inside.Links.{activities_of, link_at};
 ghost use Rattle.pc_flow.specs.board.Sheets.{rank_of};
 ghost use Rattle.pc_flow.specs.inside.board.Labelling.{HaveRoom};
 ghost use Rattle.pc_flow.specs.inside.search.Searches.{IsSearch};
 ghost use Rattle.pc_flow.specs.inside.search.Growing.{IsAt, degree, AreListed, AreSettled, GoesOn, HasSettled, HasGrown};
 
 use crate::search::search::Search;
-use pc_crash::Steps;
+use pc_crash::{Link, Steps};
 use pc_net::degree_laws::each_activity_stands_once;
 use std::sync::ledger::Ledger;
 
@@ -25,48 +26,52 @@ impl<'n> Search<'n> {
         ensures counted { steps.new ≤ steps.old + degree self.old.net.now e }
         ensures goes_on { GoesOn self.old.net.now (IsAt self.old.net.now e) self.old.board self.new.board }
     {
-        let net = self.net.net();
-        self.scan_begun(e, net.out_arcs(e), steps);
-        self.scan_ended(e, net.in_arcs(e), steps);
+        let net = self.net;
+        self.scan_begun(e, net.out_links(e), steps);
+        self.scan_ended(e, net.in_links(e), steps);
     }
 
     // Visits these activities, which begin at an event with a label.
     #[inline(always)]
-    fn scan_begun<L: Ledger>(&mut self, e: u32, activities: &[u32], steps: &mut Steps<L>)
-        requires known { (k : ℕ) → k < length activities.now →
-            slice_index activities.now k < length self.old.net.now.network.arcs }
-        requires begin { (k : ℕ) → k < length activities.now →
-            from_of self.old.net.now.network.arcs (slice_index activities.now k) ≡ e }
+    fn scan_begun<L: Ledger>(&mut self, e: u32, links: &[Link], steps: &mut Steps<L>)
+        requires known { (k : ℕ) → k < length links.now →
+            (link_at links.now k).activity < length self.old.net.now.network.arcs }
+        requires begin { (k : ℕ) → k < length links.now →
+            from_of self.old.net.now.network.arcs (link_at links.now k).activity ≡ e }
+        requires others { (k : ℕ) → k < length links.now →
+            to_of self.old.net.now.network.arcs (link_at links.now k).activity ≡ (link_at links.now k).other }
         requires labelled { 0 < rank_of self.old.board e }
         requires search { IsSearch self.old.net.now self.old.board }
         requires room { HaveRoom self.old.board }
         ensures net { self.new.net.now ≡ self.old.net.now }
-        ensures counted { steps.new ≤ steps.old + length activities.now }
+        ensures counted { steps.new ≤ steps.old + length links.now }
         ensures goes_on { GoesOn self.old.net.now
-            (StandsBelow activities.now (length activities.now)) self.old.board self.new.board }
+            (StandsBelow (activities_of links.now) (length links.now)) self.old.board self.new.board }
     {
-        for a in activities {
-            self.visit_along_from(*a, e, steps);
+        for link in links {
+            self.visit_along_from(link.activity, e, link.other, steps);
         }
     }
 
     // Visits these activities, which end at an event with a label.
     #[inline(always)]
-    fn scan_ended<L: Ledger>(&mut self, e: u32, activities: &[u32], steps: &mut Steps<L>)
-        requires known { (k : ℕ) → k < length activities.now →
-            slice_index activities.now k < length self.old.net.now.network.arcs }
-        requires end { (k : ℕ) → k < length activities.now →
-            to_of self.old.net.now.network.arcs (slice_index activities.now k) ≡ e }
+    fn scan_ended<L: Ledger>(&mut self, e: u32, links: &[Link], steps: &mut Steps<L>)
+        requires known { (k : ℕ) → k < length links.now →
+            (link_at links.now k).activity < length self.old.net.now.network.arcs }
+        requires end { (k : ℕ) → k < length links.now →
+            to_of self.old.net.now.network.arcs (link_at links.now k).activity ≡ e }
+        requires others { (k : ℕ) → k < length links.now →
+            from_of self.old.net.now.network.arcs (link_at links.now k).activity ≡ (link_at links.now k).other }
         requires labelled { 0 < rank_of self.old.board e }
         requires search { IsSearch self.old.net.now self.old.board }
         requires room { HaveRoom self.old.board }
         ensures net { self.new.net.now ≡ self.old.net.now }
-        ensures counted { steps.new ≤ steps.old + length activities.now }
+        ensures counted { steps.new ≤ steps.old + length links.now }
         ensures goes_on { GoesOn self.old.net.now
-            (StandsBelow activities.now (length activities.now)) self.old.board self.new.board }
+            (StandsBelow (activities_of links.now) (length links.now)) self.old.board self.new.board }
     {
-        for a in activities {
-            self.visit_against_from(*a, e, steps);
+        for link in links {
+            self.visit_against_from(link.activity, link.other, e, steps);
         }
     }
 

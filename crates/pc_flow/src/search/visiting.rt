@@ -104,89 +104,117 @@ impl<'n> Search<'n> {
     }
 
     /// Visits an activity that begins at an event with a label: along it, if its other end has none. One look.
+    ///
+    /// This and the next three calls get the events at both ends, so that the rank of the other end alone says of most
+    /// activities that labels may not cross. What else is known of an activity is read only where they may.
     #[inline(always)]
-    pub fn visit_along_from<L: Ledger>(&mut self, a: u32, e: u32, steps: &mut Steps<L>)
+    pub fn visit_along_from<L: Ledger>(&mut self, a: u32, from: u32, to: u32, steps: &mut Steps<L>)
         requires known { a < length self.old.net.now.network.arcs }
-        requires begins { from_of self.old.net.now.network.arcs a ≡ e }
-        requires labelled { 0 < rank_of self.old.board e }
+        requires begins { from_of self.old.net.now.network.arcs a ≡ from }
+        requires ends { to_of self.old.net.now.network.arcs a ≡ to }
+        requires labelled { 0 < rank_of self.old.board from }
         requires search { IsSearch self.old.net.now self.old.board }
         requires room { HaveRoom self.old.board }
         ensures net { self.new.net.now ≡ self.old.net.now }
         ensures counted { steps.new ≤ steps.old + 1 }
         ensures visited { IsVisited self.old.net.now self.old.board self.new.board a }
     {
-        let look = self.net.look(a, steps);
-        if self.board.rank(look.to) == 0 {
-            self.cross_along(a, e, look.to, look.crash, look.knees.as_slice());
+        steps.tick();
+        if self.board.rank(to) == 0 {
+            let term = self.net.term(a);
+            let knees = self.net.knees(a);
+            self.cross_along(a, from, to, term.crash, knees.as_slice());
         }
     }
 
-    /// Visits an activity that ends at an event with a label: against it, if something flows and its other end has
-    /// none. At most one look.
+    /// Visits an activity that ends at an event with a label: against it, if its other end has none and something
+    /// flows. One look.
     #[inline(always)]
-    pub fn visit_against_from<L: Ledger>(&mut self, a: u32, e: u32, steps: &mut Steps<L>)
+    pub fn visit_against_from<L: Ledger>(
+        &mut self,
+        a: u32,
+        from: u32,
+        to: u32,
+        steps: &mut Steps<L>,
+    )
         requires known { a < length self.old.net.now.network.arcs }
-        requires ends { to_of self.old.net.now.network.arcs a ≡ e }
-        requires labelled { 0 < rank_of self.old.board e }
+        requires begins { from_of self.old.net.now.network.arcs a ≡ from }
+        requires ends { to_of self.old.net.now.network.arcs a ≡ to }
+        requires labelled { 0 < rank_of self.old.board to }
         requires search { IsSearch self.old.net.now self.old.board }
         requires room { HaveRoom self.old.board }
         ensures net { self.new.net.now ≡ self.old.net.now }
         ensures counted { steps.new ≤ steps.old + 1 }
         ensures visited { IsVisited self.old.net.now self.old.board self.new.board a }
     {
-        if self.board.flow(a) > 0 {
-            let look = self.net.look(a, steps);
-            if self.board.rank(look.from) == 0 {
-                self.cross_against(a, look.from, e, look.crash, look.knees.as_slice());
-            }
+        steps.tick();
+        if self.board.rank(from) == 0 && self.board.flow(a) > 0 {
+            let term = self.net.term(a);
+            let knees = self.net.knees(a);
+            self.cross_against(a, from, to, term.crash, knees.as_slice());
         }
     }
 
     /// Visits an activity that ends at an event without a label: along it, if its other end has one. Returns whether
     /// the event has a label then. One look.
     #[inline(always)]
-    pub fn visit_along_to<L: Ledger>(&mut self, a: u32, e: u32, steps: &mut Steps<L>) -> bool
+    pub fn visit_along_to<L: Ledger>(
+        &mut self,
+        a: u32,
+        from: u32,
+        to: u32,
+        steps: &mut Steps<L>,
+    ) -> bool
         requires known { a < length self.old.net.now.network.arcs }
-        requires ends { to_of self.old.net.now.network.arcs a ≡ e }
-        requires unlabelled { rank_of self.old.board e ≡ 0 }
+        requires begins { from_of self.old.net.now.network.arcs a ≡ from }
+        requires ends { to_of self.old.net.now.network.arcs a ≡ to }
+        requires unlabelled { rank_of self.old.board to ≡ 0 }
         requires search { IsSearch self.old.net.now self.old.board }
         requires room { HaveRoom self.old.board }
         ensures net { self.new.net.now ≡ self.old.net.now }
         ensures counted { steps.new ≤ steps.old + 1 }
-        ensures labelled { IsTrue result ↔ (0 < rank_of self.new.board e) }
+        ensures labelled { IsTrue result ↔ (0 < rank_of self.new.board to) }
         ensures visited { IsVisited self.old.net.now self.old.board self.new.board a }
     {
-        let look = self.net.look(a, steps);
-        if self.board.rank(look.from) == 0 {
+        steps.tick();
+        if self.board.rank(from) == 0 {
             return false;
         }
-        self.cross_along(a, look.from, e, look.crash, look.knees.as_slice());
-        self.board.rank(e) > 0
+        let term = self.net.term(a);
+        let knees = self.net.knees(a);
+        self.cross_along(a, from, to, term.crash, knees.as_slice());
+        self.board.rank(to) > 0
     }
 
-    /// Visits an activity that begins at an event without a label: against it, if something flows and its other end has
-    /// one. Returns whether the event has a label then. At most one look.
+    /// Visits an activity that begins at an event without a label: against it, if its other end has one and something
+    /// flows. Returns whether the event has a label then. One look.
     #[inline(always)]
-    pub fn visit_against_to<L: Ledger>(&mut self, a: u32, e: u32, steps: &mut Steps<L>) -> bool
+    pub fn visit_against_to<L: Ledger>(
+        &mut self,
+        a: u32,
+        from: u32,
+        to: u32,
+        steps: &mut Steps<L>,
+    ) -> bool
         requires known { a < length self.old.net.now.network.arcs }
-        requires begins { from_of self.old.net.now.network.arcs a ≡ e }
-        requires unlabelled { rank_of self.old.board e ≡ 0 }
+        requires begins { from_of self.old.net.now.network.arcs a ≡ from }
+        requires ends { to_of self.old.net.now.network.arcs a ≡ to }
+        requires unlabelled { rank_of self.old.board from ≡ 0 }
         requires search { IsSearch self.old.net.now self.old.board }
         requires room { HaveRoom self.old.board }
         ensures net { self.new.net.now ≡ self.old.net.now }
         ensures counted { steps.new ≤ steps.old + 1 }
-        ensures labelled { IsTrue result ↔ (0 < rank_of self.new.board e) }
+        ensures labelled { IsTrue result ↔ (0 < rank_of self.new.board from) }
         ensures visited { IsVisited self.old.net.now self.old.board self.new.board a }
     {
-        if self.board.flow(a) == 0 {
+        steps.tick();
+        if self.board.rank(to) == 0 || self.board.flow(a) == 0 {
             return false;
         }
-        let look = self.net.look(a, steps);
-        if self.board.rank(look.to) == 0 {
-            return false;
-        }
-        self.cross_against(a, e, look.to, look.crash, look.knees.as_slice());
-        self.board.rank(e) > 0
+        let term = self.net.term(a);
+        let knees = self.net.knees(a);
+        self.cross_against(a, from, to, term.crash, knees.as_slice());
+        self.board.rank(from) > 0
     }
 
     // Labels the event where an activity ends that labels may cross along it, or has the activity wait.

@@ -1,37 +1,38 @@
 use Rattle.std.proofs.Common.{◌≡◌, length, refl, ◌∙◌, subst, arith}
-use Rattle.std.specs.Prelude.{slice_index}
 use Rattle.pc_model.specs.Greatest.{StandsBelow}
+use Rattle.pc_crash.specs.inside.Links.{activities_of, link_at}
 use Rattle.pc_flow.specs.inside.search.Searches.{IsVisited}
 use Rattle.pc_flow.specs.inside.search.Growing.{GoesOn}
 use Rattle.pc_flow.proofs.lemmas.search.GrowingLaws.{goes_on-begins, goes_on-visits, grows-labelled}
+use Rattle.pc_flow.proofs.lemmas.search.LinkLaws.{activity_at}
 use Rattle.pc_flow.proofs.search.search.Search.scan_ended.Goals as goal
 
-pub loop-a-init : goal.loop-a-init
-loop-a-init g c = record {
+pub loop-link-init : goal.loop-link-init
+loop-link-init g c = record {
   net = refl;
   counted = omega arith;
-  goes_on = goes_on-begins c.args.self.now.net.now (StandsBelow c.args.activities.now 0) c.args.self.now.board c.requires.search c.requires.room
+  goes_on = goes_on-begins c.args.self.now.net.now (StandsBelow (activities_of c.args.links.now) 0) c.args.self.now.board c.requires.search c.requires.room
       (λ a stands. omega (arith, stands.1));
 }
 
 pub visit_against_from-requires-clause-labelled : goal.visit_against_from-requires-clause-labelled
 visit_against_from-requires-clause-labelled g c =
-    grows-labelled c.args.self.now.board c.loop-a.self.board c.loop-a.invariant.goes_on.grows c.args.e c.requires.labelled
+    grows-labelled c.args.self.now.board c.loop-link.self.board c.loop-link.invariant.goes_on.grows c.args.e c.requires.labelled
 
-pub loop-a-preserved : goal.loop-a-preserved
-loop-a-preserved g c =
-    let on = c.loop-a.invariant in
-    let visited : IsVisited c.args.self.now.net.now c.loop-a.self.board c.visit_against_from.new.self.board (slice_index c.args.activities.now c.loop-a.a-index) =
-    subst (λ net. IsVisited net c.loop-a.self.board c.visit_against_from.new.self.board (slice_index c.args.activities.now c.loop-a.a-index)) on.net c.visit_against_from.ensures.visited in
+pub loop-link-preserved : goal.loop-link-preserved
+loop-link-preserved g c =
+    let on = c.loop-link.invariant in
+    let visited : IsVisited c.args.self.now.net.now c.loop-link.self.board c.visit_against_from.new.self.board (link_at c.args.links.now c.loop-link.link-index).activity =
+    subst (λ net. IsVisited net c.loop-link.self.board c.visit_against_from.new.self.board (link_at c.args.links.now c.loop-link.link-index).activity) on.net c.visit_against_from.ensures.visited in
     record {
       net = c.visit_against_from.ensures.net ∙ on.net;
       counted = omega (arith, c.visit_against_from.ensures.counted, on.counted);
-      goes_on = goes_on-visits c.args.self.now.net.now c.args.activities.now c.loop-a.a-index (slice_index c.args.activities.now c.loop-a.a-index)
-          c.args.self.now.board c.loop-a.self.board c.visit_against_from.new.self.board on.goes_on refl visited;
+      goes_on = goes_on-visits c.args.self.now.net.now (activities_of c.args.links.now) c.loop-link.link-index (link_at c.args.links.now c.loop-link.link-index).activity
+          c.args.self.now.board c.loop-link.self.board c.visit_against_from.new.self.board on.goes_on (activity_at c.args.links.now c.loop-link.link-index c.loop-link-test.true) visited;
     }
 
 pub returns-clause-goes_on : goal.returns-clause-goes_on
 returns-clause-goes_on g c =
-    let xs = c.args.activities.now in
-    let all : c.loop-a.a-index ≡ length xs = omega (arith, c.loop-a-test.false, c.loop-a.auto.a-index-end) in
-    subst (λ n. GoesOn c.args.self.now.net.now (StandsBelow xs n) c.args.self.now.board c.loop-a.self.board) all c.loop-a.invariant.goes_on
+    let xs = activities_of c.args.links.now in
+    let all : c.loop-link.link-index ≡ length c.args.links.now = omega (arith, c.loop-link-test.false, c.loop-link.auto.link-index-end) in
+    subst (λ n. GoesOn c.args.self.now.net.now (StandsBelow xs n) c.args.self.now.board c.loop-link.self.board) all c.loop-link.invariant.goes_on

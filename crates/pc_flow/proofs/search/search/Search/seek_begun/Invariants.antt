@@ -1,13 +1,14 @@
 use Rattle.std.proofs.Common.{◌≡◌, ◌≤◌, ◌+◌}
 use Rattle.pc_model.specs.Greatest.{StandsBelow}
 use Rattle.pc_flow.specs.board.Sheets.{rank_of}
+use Rattle.pc_crash.specs.inside.Links.{activities_of}
 use Rattle.pc_flow.specs.inside.search.Growing.{GoesOn}
 use Rattle.pc_flow.proofs.search.search.Search.seek_begun.Given as goal
 
-abbrev pub invariant-loop-a : goal.invariant-loop-a
-invariant-loop-a g l = record {
+abbrev pub invariant-loop-link : goal.invariant-loop-link
+invariant-loop-link g l = record {
   net : l.self.net.now ≡ l.initial.self.net.now;
-  counted : l.steps ≤ l.initial.steps + l.a-index;
+  counted : l.steps ≤ l.initial.steps + l.link-index;
   unlabelled : rank_of l.self.board l.e ≡ 0;
-  goes_on : GoesOn l.initial.self.net.now (StandsBelow l.activities l.a-index) l.initial.self.board l.self.board;
+  goes_on : GoesOn l.initial.self.net.now (StandsBelow (activities_of l.links) l.link-index) l.initial.self.board l.self.board;
 }
