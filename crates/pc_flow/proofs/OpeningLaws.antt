@@ -1,5 +1,5 @@
 -- A solver before its first segment: all durations are normal, and nothing flows.
-use Rattle.std.proofs.Common.{◌≡◌, ℕ, ◌-◌, ◌<◌, ◌≤◌, true, false, List, [], ◌∷◌, length, refl, sym, ◌∙◌, ap, subst, inl, inr, arith}
+use Rattle.std.proofs.Common.{◌≡◌, ℕ, ◌-◌, ◌^◌, ◌<◌, ◌≤◌, true, false, List, [], ◌∷◌, length, refl, sym, ◌∙◌, ap, subst, inl, inr, arith}
 use Rattle.std.proofs.Math.Path.{fun_ext}
 use Rattle.std.proofs.lemmas.Bool.{cases_eq, cases_lt}
 use Rattle.pc_cells.specs.Spans.{Cells}
@@ -14,6 +14,7 @@ use Rattle.pc_model.proofs.Schedules.Durations.{normals-at, crash-normal}
 use Rattle.pc_model.proofs.Costs.NormalCost.{cost_of-same}
 use Rattle.pc_model.proofs.Costs.PieceLaws.{normal_cost}
 use Rattle.pc_model.proofs.Walks.PlaceLaws.{zero-at}
+use Rattle.pc_laws.specs.Stair.{full_reach}
 use Rattle.pc_laws.specs.Steps.{IsStairOptimal}
 use Rattle.pc_laws.proofs.Stairs.OnStair.{knees_fall}
 use Rattle.pc_laws.proofs.Stairs.StairStates.{stair-opening_state}
@@ -26,10 +27,11 @@ use Rattle.pc_flow.specs.inside.board.Sheets.{queue_of, slot_of, clear_sheet}
 use Rattle.pc_flow.specs.inside.board.Labelling.{HasStep, HaveRoom, AreTimes, IsRanked}
 use Rattle.pc_flow.specs.inside.board.Moves.{StartsAt}
 use Rattle.pc_flow.proofs.lemmas.board.AfterPruning.{time-labelled, time-unlabelled}
-use Rattle.pc_flow.specs.inside.search.Searches.{IsSearch, IsOnStairs, IsWaiting}
+use Rattle.pc_flow.specs.inside.search.Searches.{stair_at, IsSearch, IsOnStairs, AreLengths, IsWaiting}
 use Rattle.pc_flow.specs.inside.search.Growing.{IsScanned, IsMet, AreListed}
 use Rattle.pc_flow.specs.search.Labelling.{length_at}
 use Rattle.pc_flow.specs.inside.search.Labelling.{slope_at, IsStateWith, IsBetween}
+use Rattle.pc_flow.proofs.lemmas.search.KeptLaws.{with_lengths, lengths-kept}
 use Rattle.pc_flow.proofs.lemmas.search.StateLaws.{state-own}
 use Rattle.pc_flow.specs.declared.early.TheConstants.{MAX_LENGTH}
 use Rattle.pc_flow.specs.Courses.{Course, IsLevel}
@@ -47,48 +49,70 @@ some-activities net range sound = let (walk, walked) = sound.reached net.end ran
     some [] walked = absurd (range.apart walked)
     some (a ∷ walk) walked = omega (arith, walked.0)
 
--- what is kept of a time stays when the start gets its label
-pub kept-before : (t u : Sheet) (start e : ℕ) {end : ℕ} → StartsAt t u start → end ≡ e → kept_time t end ≡ kept_time u e
-kept-before t u start e starts same = ap (kept_time t) same ∙ sym (ap (λ (v : Sheet). kept_time v e) starts.rest)
+-- what is kept of a time stays when lengths are kept and the start gets its label
+pub kept-before : (t v u : Sheet) (start e : ℕ) {end : ℕ} → v ≡ record t { up = v.up; down = v.down } → StartsAt v u start → end ≡ e
+    → kept_time t end ≡ kept_time u e
+kept-before t v u start e third starts same =
+    ap (kept_time t) same ∙ (sym (ap (λ (w : Sheet). kept_time w e) third) ∙ sym (ap (λ (w : Sheet). kept_time w e) starts.rest))
+
+-- nothing flows on a board whose times alone were set
+pub flow-clear : (home : Cells) (events activities : ℕ) (b s t : Sheet) → b ≡ clear_sheet home events activities → s ≡ record b { time = s.time }
+    → t ≡ record s { time = t.time } → (a : ℕ) → flow_of t a ≡ 0
+flow-clear home events activities b s t board first second a =
+    ap (λ (w : Sheet). flow_of w a) second
+    ∙ (ap (λ (w : Sheet). flow_of w a) first ∙ (ap (λ (w : Sheet). flow_of w a) board ∙ zero-at activities a))
+
+-- the knees of an activity reach no further than a number
+pub reach-small : (net : PricedNetwork) → IsPriced net.network net.terms (knees_in net) → AreWithinLimits net.terms → ArePieces net.terms net.pieces
+    → ArePiecesWithinLimits net.pieces → (a : ℕ) → a < length net.network.arcs → full_reach (stair_at net a) < 2 ^ 64
+reach-small net priced limits pieces piece_limits a known =
+    omega (arith, last_slope-small net.terms net.pieces a pieces limits.gentle piece_limits.gentle (omega (arith, known, priced.terms_fit.one_each)))
 
 -- the board after both passes over the events, with the start's label
-module _ (net : PricedNetwork) (home : Cells) (b s t u : Sheet) (events activities start : ℕ)
+module _ (net : PricedNetwork) (home : Cells) (b s t v u : Sheet) (events activities start : ℕ)
     (are_events : events ≡ net.network.events) (are_activities : activities ≡ length net.network.arcs) (is_start : start ≡ net.network.start)
     (board : b ≡ clear_sheet home events activities) (first : s ≡ record b { time = s.time }) (second : t ≡ record s { time = t.time })
-    (starts : StartsAt t u start) where
+    (third : v ≡ record t { up = v.up; down = v.down }) (starts : StartsAt v u start) where
   clear-board : b ≡ clear_sheet home net.network.events (length net.network.arcs)
   clear-board =
       board
       ∙ (ap (λ (n : ℕ). clear_sheet home n activities) are_events ∙ ap (λ (n : ℕ). clear_sheet home net.network.events n) are_activities)
 
   kept : (e : ℕ) → kept_time u e ≡ kept_time t e
-  kept e = ap (λ (v : Sheet). kept_time v e) starts.rest
+  kept e = ap (λ (w : Sheet). kept_time w e) starts.rest ∙ ap (λ (w : Sheet). kept_time w e) third
 
-  rank-clear : (e : ℕ) → rank_of t e ≡ 0
+  rank-clear : (e : ℕ) → rank_of v e ≡ 0
   rank-clear e =
-      ap (λ (v : Sheet). rank_of v e) second
-      ∙ (ap (λ (v : Sheet). rank_of v e) first ∙ (ap (λ (v : Sheet). rank_of v e) clear-board ∙ zero-at net.network.events e))
+      ap (λ (w : Sheet). rank_of w e) third
+      ∙ (ap (λ (w : Sheet). rank_of w e) second
+      ∙ (ap (λ (w : Sheet). rank_of w e) first ∙ (ap (λ (w : Sheet). rank_of w e) clear-board ∙ zero-at net.network.events e)))
 
-  abbrev with_times : Sheet → List ℕ → Sheet
-  with_times v times = record v { time = times; rank = u.rank; queue = u.queue; count = 1 }
+  -- board w with the labels, times and lengths of board x
+  abbrev opened_as : Sheet → Sheet → Sheet
+  opened_as w x = record w { time = x.time; rank = x.rank; queue = x.queue; count = 1; up = x.up; down = x.down }
 
-  rest : u ≡ with_times (clear_sheet home net.network.events (length net.network.arcs)) u.time
-  rest =
+  abbrev there : Sheet → Sheet
+  there w = record w { time = t.time; rank = u.rank; queue = u.queue; count = 1; up = v.up; down = v.down }
+
+  reached : u ≡ there (clear_sheet home net.network.events (length net.network.arcs))
+  reached =
       starts.rest
-      ∙ (ap (λ (v : Sheet). record v { rank = u.rank; queue = u.queue; count = 1 }) second
-      ∙ (ap (λ (v : Sheet). with_times v t.time) first
-      ∙ (ap (λ (v : Sheet). with_times v t.time) clear-board
-      ∙ ap (λ (times : List ℕ). with_times (clear_sheet home net.network.events (length net.network.arcs)) times)
-      (sym (ap (λ (v : Sheet). v.time) starts.rest)))))
+      ∙ (ap (λ (w : Sheet). record w { rank = u.rank; queue = u.queue; count = 1 }) third
+      ∙ (ap (λ (w : Sheet). record w { rank = u.rank; queue = u.queue; count = 1; up = v.up; down = v.down }) second
+      ∙ (ap there first ∙ ap there clear-board)))
+
+  rest : u ≡ opened_as (clear_sheet home net.network.events (length net.network.arcs)) u
+  rest = reached ∙ ap (opened_as (clear_sheet home net.network.events (length net.network.arcs))) (sym reached)
 
   pub opened : ((e : ℕ) → e < net.network.events → IsEarly net.network (normals net.terms) e (kept_time t e))
-      → ((e : ℕ) → e < net.network.events → kept_time t e ≤ MAX_LENGTH) → IsOpened net home u
-  opened early small = record {
+      → ((e : ℕ) → e < net.network.events → kept_time t e ≤ MAX_LENGTH) → AreLengths net v → IsOpened net home u
+  opened early small lengths = record {
     rest = rest;
     queue = starts.queue_at ∙ is_start;
     first = subst (λ e. rank_of u e ≡ 1) is_start starts.rank_at;
     others = λ e other. starts.rank_off e (λ same. other (same ∙ is_start)) ∙ rank-clear e;
     early = λ e inside. subst (λ n. IsEarly net.network (normals net.terms) e n) (sym (kept e)) (early e inside);
+    lengths = lengths-kept net v u (starts.rest ∙ ap (λ (w : Sheet). with_lengths w v) (sym starts.rest)) lengths;
     small = λ e inside. omega (arith, kept e, small e inside);
   }
 
@@ -210,8 +234,7 @@ module _ (net : PricedNetwork) (home : Cells) (s : Sheet) (is : IsOpened net hom
   stairs : IsOnStairs net s
   stairs = record {
     falling = knees_fall net.network net.terms (knees_in net) priced.knees_fit;
-    reach = λ a known.
-        omega (arith, last_slope-small net.terms net.pieces a pieces limits.gentle piece_limits.gentle (omega (arith, known, priced.terms_fit.one_each)));
+    reach = reach-small net priced limits pieces piece_limits;
     ahead = state.ahead;
     on = state.on_stair;
     small = λ a known. omega (arith, flow-is a);
@@ -244,6 +267,7 @@ module _ (net : PricedNetwork) (home : Cells) (s : Sheet) (is : IsOpened net hom
     };
     waiting = waiting;
     stairs = stairs;
+    lengths = is.lengths;
     led = record {
       along = λ e inside has none. absurd (no-step e has);
       against = λ e inside has some. absurd (no-step e has);

@@ -4,6 +4,7 @@
 
 pub mod board;
 mod early;
+mod lengths;
 pub mod look_laws;
 mod opening;
 mod pace;

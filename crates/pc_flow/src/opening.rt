@@ -7,6 +7,7 @@ ghost use Rattle.pc_flow.specs.inside.Openings.{IsOpened};
 
 use crate::board::Board;
 use crate::early::keep_early_times;
+use crate::lengths::keep_lengths;
 use crate::pace::Pace;
 use pc_cells::Region;
 use pc_crash::CrashNet;
@@ -19,9 +20,10 @@ pub(crate) struct Opening {
     pub(crate) shortest: u64,
 }
 
-/// A board in the free cells of a region on which the start alone has a label. Two passes over the events.
+/// A board in the free cells of a region on which the start alone has a label. Two passes over the events, and one over
+/// the activities.
 pub(crate) fn open_board(region: Region, net: &CrashNet<'_>) -> Opening
-    requires { 8 * net.now.network.events + 4 * length net.now.network.arcs ≤ free_of region }
+    requires { 8 * net.now.network.events + 6 * length net.now.network.arcs ≤ free_of region }
     ensures opened { IsOpened net.now region result.board }
     ensures longest { result.longest ≡ kept_time result.board net.now.network.end }
     ensures shortest { IsAllCrashLength net.now.network net.now.terms result.shortest }
@@ -32,6 +34,7 @@ pub(crate) fn open_board(region: Region, net: &CrashNet<'_>) -> Opening
     let shortest = board.kept_time(shape.end());
     keep_early_times(&mut board, net, Pace::Normal);
     let longest = board.kept_time(shape.end());
+    keep_lengths(&mut board, net);
     board.start_at(shape.start());
     Opening {
         board,

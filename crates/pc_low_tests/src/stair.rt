@@ -1,5 +1,5 @@
 //! The staircases of three activities.
-use pc_flow::stair::{Knee, Piece, Stop, beside, flow_at, piece_of, stop_against, stop_along};
+use pc_flow::stair::{Knee, Lengths, Piece, beside, flow_at, lengths_of, piece_of, room_against, room_along};
 
 // Normal at 4 units, three more for each unit of flow below it, three more below 3 units, and crash at 2.
 const TWO: [Knee; 2] = [Knee { at: 4, rise: 3 }, Knee { at: 3, rise: 3 }];
@@ -17,8 +17,8 @@ fn piece(length: u64, below: u64, above: u64) -> Piece {
     }
 }
 
-fn stop(after: u64, room: u64) -> Stop {
-    Stop { after, room }
+fn lengths(up: u64, down: u64) -> Lengths {
+    Lengths { up, down }
 }
 
 #[test]
@@ -44,25 +44,39 @@ fn pieces(rt: HostRuntime) {
     assert!(rt; found == wanted);
 }
 
+// What is kept where 1, 3, 4, 6 and 8 units flow: the third unit is the last on the first knee.
 #[test]
-fn stops(rt: HostRuntime) {
+fn next_and_last(rt: HostRuntime) {
     let found = [
-        stop_along(&TWO, 2, 6, 0),
-        stop_along(&TWO, 2, 3, 4),
-        stop_along(&TWO, 2, 3, 6),
-        stop_against(&TWO, 2, 3, 3),
-        stop_against(&TWO, 2, 3, 5),
-        stop_against(&TWO, 2, 2, 8),
+        lengths_of(&TWO, 2, 1),
+        lengths_of(&TWO, 2, 3),
+        lengths_of(&TWO, 2, 4),
+        lengths_of(&TWO, 2, 6),
+        lengths_of(&TWO, 2, 8),
+        lengths_of(&FREE, 1, 5),
     ];
     let wanted = [
-        stop(2, 3),
-        stop(0, 2),
-        stop(1, u64::MAX - 6),
-        stop(1, 3),
-        stop(0, 2),
-        stop(0, 2),
+        lengths(4, 4),
+        lengths(3, 4),
+        lengths(3, 3),
+        lengths(2, 3),
+        lengths(2, 2),
+        lengths(1, 3),
     ];
-    assert!(rt; found == wanted);
+    assert!(rt; (found == wanted) & (lengths_of(&FREE, 1, 0).up == 3));
+}
+
+#[test]
+fn rooms(rt: HostRuntime) {
+    let found = [
+        room_along(&TWO, 2, 0),
+        room_along(&TWO, 2, 4),
+        room_along(&TWO, 2, 6),
+        room_against(&TWO, 2, 3),
+        room_against(&TWO, 2, 5),
+        room_against(&TWO, 2, 8),
+    ];
+    assert!(rt; found == [3, 2, u64::MAX - 6, 3, 2, 2]);
 }
 
 /// What flows at the two knees and beside them.

@@ -26,7 +26,7 @@ fn ways<L: Ledger>(
     let mut steps = Steps::<L>::new(blank);
     // For the fact that each activity goes between two events of the network.
     let _shape = net.net();
-    let mut board = Board::new(Region::with_cells(alloc, 36)?, 3, 3);
+    let mut board = Board::new(Region::with_cells(alloc, 42)?, 3, 3);
     board.start_at(0);
     let search = Search { net, board };
     let (first, second) = (net.look(0, &mut steps), net.look(1, &mut steps));

@@ -3,6 +3,7 @@ pub mod AfterPruning
 pub mod AfterRaising
 pub mod BoardLaws
 pub mod ClearLaws
+pub mod EnteringLaws
 pub mod PruningLaws
 pub mod RaisingLaws
 pub mod RoomLaws

@@ -8,6 +8,7 @@ pub mod GrowLaws
 pub mod GrowingLaws
 pub mod KeptLaws
 pub mod LabelLaws
+pub mod LengthLaws
 pub mod LinkLaws
 pub mod RaiseLaws
 pub mod RaisedLaws

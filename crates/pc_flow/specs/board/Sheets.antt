@@ -19,12 +19,14 @@ pub record Sheet : Type 0 where
   pub near : List ℕ
   pub room : List ℕ
   pub lost : List ℕ
-  -- the flow along an activity; the activities that wait for a fall; the place of one of these, counted from 1; and a sum of
-  -- falls before which it does not stop
+  -- the flow along an activity; the activities that wait for a fall; the place of one of these, counted from 1; a sum of
+  -- falls before which it does not stop; and the lengths of the arcs on which the next unit of the flow and the last one run
   pub flow : List ℕ
   pub waiting : List ℕ
   pub slot : List ℕ
   pub due : List ℕ
+  pub up : List ℕ
+  pub down : List ℕ
   -- the sum of the falls; how many events have a label, how many of them were scanned; and how many activities wait
   pub fallen : ℕ
   pub count : ℕ

@@ -1,5 +1,6 @@
 -- What contracts within and between crates speak of besides what the clauses of the top calls and the laws reach.
 pub mod Searches
+pub mod Lengths
 pub mod Growing
 pub mod Choosing
 pub mod Labelling

@@ -44,7 +44,7 @@ impl Board {
     pub fn new(region: Region, events: u32, activities: u32) -> Board
         requires events { 0 < events }
         requires activities { 0 < activities }
-        requires room { 8 * events + 4 * activities ≤ free_of region }
+        requires room { 8 * events + 6 * activities ≤ free_of region }
         ensures { result ≡ clear_sheet region events activities }
     {
         let mut region = region;
@@ -102,7 +102,7 @@ impl Board {
 fn columns_of(region: &mut Region, events: usize, activities: usize) -> Columns
     requires events { 0 < events }
     requires activities { 0 < activities }
-    requires room { 8 * events + 4 * activities ≤ free_of region.old }
+    requires room { 8 * events + 6 * activities ≤ free_of region.old }
     ensures { AreColumnsTaken region.old region.new events activities result }
 {
     Columns {
@@ -118,5 +118,7 @@ fn columns_of(region: &mut Region, events: usize, activities: usize) -> Columns
         waiting: region.take_free(activities),
         slot: region.take_free(activities),
         due: region.take_free(activities),
+        up: region.take_free(activities),
+        down: region.take_free(activities),
     }
 }

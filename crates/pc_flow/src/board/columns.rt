@@ -17,6 +17,8 @@ pub(in crate::board) enum Column {
     Waiting,
     Slot,
     Due,
+    Up,
+    Down,
 }
 
 /// Where each column stands.
@@ -34,6 +36,8 @@ pub(in crate::board) struct Columns {
     pub(in crate::board) waiting: Span,
     pub(in crate::board) slot: Span,
     pub(in crate::board) due: Span,
+    pub(in crate::board) up: Span,
+    pub(in crate::board) down: Span,
 }
 
 impl Columns {
@@ -57,6 +61,8 @@ impl Columns {
             Column::Waiting => self.waiting,
             Column::Slot => self.slot,
             Column::Due => self.due,
+            Column::Up => self.up,
+            Column::Down => self.down,
         }
     }
 }

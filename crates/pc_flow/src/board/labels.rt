@@ -1,9 +1,9 @@
 //! The events with a label, and the steps that gave it to them.
 
-ghost use Rattle.std.specs.Prelude.{◌≡◌, ◌+◌, ◌<◌, ◌≤◌, ◌^◌};
+ghost use Rattle.std.specs.Prelude.{◌≡◌, ◌+◌, ◌-◌, ◌<◌, ◌≤◌, ◌^◌};
 ghost use Rattle.pc_flow.specs.board.Sheets.{rank_of, flow_of, kept_time, time_of};
-ghost use Rattle.pc_flow.specs.inside.board.Sheets.{queue_of, step_of, against_of, near_of, room_of, lost_of};
-ghost use Rattle.pc_flow.specs.inside.board.Moves.{KeepsAt, LosesAt, StepsBack, SetsStep, SetsTime, StartsAt, EntersAt};
+ghost use Rattle.pc_flow.specs.inside.board.Sheets.{queue_of, step_of, against_of, near_of, room_of, lost_of, up_of, down_of};
+ghost use Rattle.pc_flow.specs.inside.board.Moves.{KeepsAt, LosesAt, StepsBack, SetsStep, SetsTime, SetsLengths, StartsAt, QueuesLast, EntersAt};
 
 use crate::board::board::Board;
 use crate::board::columns::Column;
@@ -112,6 +112,39 @@ impl Board {
         self.get(Column::Flow, a)
     }
 
+    /// Returns the length of the arc on which the next unit of an activity's flow runs.
+    pub fn up(&self, a: u32) -> u64
+        requires { a < self.now.activities }
+        ensures { result ≡ up_of self.now a }
+    {
+        self.get(Column::Up, a)
+    }
+
+    /// Returns the length of the arc on which the last unit of an activity's flow runs.
+    pub fn down(&self, a: u32) -> u64
+        requires { a < self.now.activities }
+        ensures { result ≡ down_of self.now a }
+    {
+        self.get(Column::Down, a)
+    }
+
+    /// Sets the lengths of the arcs on which the next unit of an activity's flow and its last one run.
+    pub fn set_lengths(&mut self, a: u32, up: u64, down: u64)
+        requires { a < self.old.activities }
+        ensures { SetsLengths self.old self.new a up down }
+    {
+        self.set(Column::Up, a, up);
+        self.set(Column::Down, a, down);
+    }
+
+    /// Returns the activity of the step that gave an event its label.
+    pub fn step(&self, e: u32) -> u32
+        requires { e < self.now.events }
+        ensures { result ≡ step_of self.now e }
+    {
+        self.number(Column::Step, e)
+    }
+
     /// Sets the number that is kept for an event's time.
     pub fn set_time(&mut self, e: u32, time: u64)
         requires { e < self.old.events }
@@ -137,12 +170,30 @@ impl Board {
         requires deep { self.old.fallen ≤ kept_time self.old e }
         ensures { EntersAt self.old self.new e a against near room }
     {
+        self.rest_at(e);
+        self.queue_last(e);
+        self.set_step(e, a, against, near, room);
+    }
+
+    // Takes the falls off the number that is kept for an event's time.
+    fn rest_at(&mut self, e: u32)
+        requires known { e < self.old.events }
+        requires deep { self.old.fallen ≤ kept_time self.old e }
+        ensures { SetsTime self.old self.new e (kept_time self.old e - self.old.fallen) }
+    {
         let time = self.get(Column::Time, e);
         self.set(Column::Time, e, time - self.fallen);
+    }
+
+    // Puts an event at the end of the queue.
+    fn queue_last(&mut self, e: u32)
+        requires known { e < self.old.events }
+        requires room { self.old.count < self.old.events }
+        ensures { QueuesLast self.old self.new e }
+    {
         self.set(Column::Queue, self.count, e as u64);
         self.count += 1;
         self.set(Column::Rank, e, self.count as u64);
-        self.set_step(e, a, against, near, room);
     }
 
     // Sets the step that gives an event its label.
@@ -226,7 +277,7 @@ impl Board {
     {
         let room = self.room(e);
         self.set(Column::Room, e, room - by);
-        let a = self.number(Column::Step, e);
+        let a = self.step(e);
         let flow = self.flow(a);
         if self.number(Column::Against, e) == 0 {
             self.set(Column::Flow, a, flow + by);

@@ -1,5 +1,5 @@
 //! The flow raised along the steps that led to the end.
-ghost use Rattle.std.specs.Prelude.{◌<◌, ℕ};
+ghost use Rattle.std.specs.Prelude.{◌≡◌, ◌<◌, ℕ};
 ghost use Rattle.pc_flow.specs.inside.board.Labelling.{HasStep, IsRanked, IsRankedBack, HaveSteps, HaveRoom};
 ghost use Rattle.pc_flow.specs.inside.board.Raising.{IsLeast, IsRaised, StandFirst};
 
@@ -28,6 +28,7 @@ impl Board {
         requires known { end < self.old.events }
         requires led { HasStep self.old end }
         ensures raised { IsRaised self.old self.new end result.by }
+        ensures lengths { self.new ≡ record self.old { room = self.new.room; flow = self.new.flow } }
         ensures stand { StandFirst self.new result.standing }
     {
         let least = self.least_room(end);

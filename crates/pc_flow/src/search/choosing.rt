@@ -49,6 +49,6 @@ impl<'n> Search<'n> {
     {
         let look = self.net.look(a, steps);
         let way = self.way(a, &look)?;
-        Some(self.stop(a, &look, way).after)
+        Some(self.stop(a, &look, way))
     }
 }

@@ -1,15 +1,20 @@
 //! The flow raised where the labels reach the end.
 ghost use Rattle.std.specs.Prelude.{◌≡◌, ◌<◌};
 ghost use Rattle.pc_flow.specs.board.Sheets.{rank_of};
+ghost use Rattle.pc_flow.specs.inside.board.Labelling.{IsFor, IsRankedBack, HaveSteps};
 ghost use Rattle.pc_flow.specs.inside.board.Raising.{StandFirst};
+ghost use Rattle.pc_flow.specs.inside.search.Searches.{IsOnStairs};
+ghost use Rattle.pc_flow.specs.inside.search.Lengths.{IsRenewedBack};
 ghost use Rattle.pc_flow.specs.inside.search.Growing.{AreSettled};
 ghost use Rattle.pc_flow.specs.inside.search.Labelling.{IsBetween, IsAboveAllCrash, HasRaised};
 
 use crate::board::Augmentation;
+use crate::lengths::renew_lengths;
 use crate::search::search::Search;
 
 impl<'n> Search<'n> {
-    /// Augments the flow along the steps that led to the end, as far as they have residual capacity. No look.
+    /// Augments the flow along the steps that led to the end, as far as they have residual capacity, and renews what is
+    /// kept of their activities. No look.
     pub fn raise(&mut self) -> Augmentation
         requires between { IsBetween self.old.net.now self.old.board }
         requires above { IsAboveAllCrash self.old.net.now self.old.board }
@@ -23,6 +28,26 @@ impl<'n> Search<'n> {
         // With an order of the events, no activity has more flow than the value.
         let _order = net.order();
         let end = net.end();
-        self.board.raise(end)
+        let raised = self.board.raise(end);
+        self.renew_back(end);
+        raised
+    }
+
+    // Renews the lengths that are kept of the activities of all steps that led to an event.
+    fn renew_back(&mut self, end: u32)
+        requires known { end < self.old.board.events }
+        requires fits { IsFor self.old.net.now.network self.old.board }
+        requires back { IsRankedBack self.old.board }
+        requires steps { HaveSteps self.old.board }
+        requires stairs { IsOnStairs self.old.net.now self.old.board }
+        ensures net { self.new.net.now ≡ self.old.net.now }
+        ensures renewed { IsRenewedBack self.old.net.now self.old.board self.new.board end }
+    {
+        let mut e = end;
+        while self.board.rank(e) > 1 {
+            let a = self.board.step(e);
+            renew_lengths(&mut self.board, self.net, a);
+            e = self.board.near(e);
+        }
     }
 }

@@ -9,7 +9,7 @@ ghost use Rattle.pc_flow.specs.inside.search.Searches.{IsSearch, IsSeen, IsPrice
 
 use crate::search::search::Search;
 use crate::search::way::Way;
-use crate::stair::{Knee, Stop, stop_against, stop_along};
+use crate::stair::{Knee, room_against, room_along};
 use pc_crash::{Look, Steps};
 use std::sync::ledger::Ledger;
 
@@ -34,47 +34,47 @@ impl<'n> Search<'n> {
         }
     }
 
-    /// Returns after how long a step of the times an activity stops that labels may cross this way, and the residual
-    /// capacity that its step then has.
+    /// Returns after how long a step of the times an activity stops that labels may cross this way.
     #[inline(always)]
-    pub fn stop(&self, a: u32, look: &Look, way: Way) -> Stop
+    pub fn stop(&self, a: u32, look: &Look, way: Way) -> u64
         requires known { a < length self.now.net.now.network.arcs }
         requires look { IsLookAt self.now.net.now a look.now }
         requires board { IsPricedBoard self.now.net.now self.now.board }
         requires way { IsWay self.now.net.now self.now.board a (Some way) }
         ensures { StopsAfter self.now.net.now self.now.board a way result }
     {
-        let knees = look.knees.as_slice();
         match way {
-            Way::Along => self.stops_along(a, look.from, look.to, look.crash, knees),
-            Way::Against => self.stops_against(a, look.from, look.to, look.crash, knees),
+            Way::Along => self.stops_along(a, look.from, look.to),
+            Way::Against => self.stops_against(a, look.from, look.to),
         }
     }
 
-    // The stop of an activity that labels may cross along it.
+    // After how long an activity stops that labels may cross along it.
     #[inline(always)]
-    fn stops_along(&self, a: u32, from: u32, to: u32, crash: u64, knees: &[Knee]) -> Stop
+    fn stops_along(&self, a: u32, from: u32, to: u32) -> u64
         requires known { a < length self.now.net.now.network.arcs }
-        requires seen { IsSeen self.now.net.now a from to crash knees.now }
+        requires begins { from ≡ from_of self.now.net.now.network.arcs a }
+        requires ends { to ≡ to_of self.now.net.now.network.arcs a }
         requires board { IsPricedBoard self.now.net.now self.now.board }
         requires way { MayGoAlong self.now.net.now self.now.board a }
         ensures { StopsAlong self.now.net.now self.now.board a result }
     {
         let gap = self.board.falling_time(to) - self.board.resting_time(from);
-        stop_along(knees, crash, gap, self.board.flow(a))
+        gap - self.board.up(a)
     }
 
-    // The stop of an activity that labels may cross against it.
+    // After how long an activity stops that labels may cross against it.
     #[inline(always)]
-    fn stops_against(&self, a: u32, from: u32, to: u32, crash: u64, knees: &[Knee]) -> Stop
+    fn stops_against(&self, a: u32, from: u32, to: u32) -> u64
         requires known { a < length self.now.net.now.network.arcs }
-        requires seen { IsSeen self.now.net.now a from to crash knees.now }
+        requires begins { from ≡ from_of self.now.net.now.network.arcs a }
+        requires ends { to ≡ to_of self.now.net.now.network.arcs a }
         requires board { IsPricedBoard self.now.net.now self.now.board }
         requires way { MayGoAgainst self.now.net.now self.now.board a }
         ensures { StopsAgainst self.now.net.now self.now.board a result }
     {
         let gap = self.board.resting_time(to) - self.board.falling_time(from);
-        stop_against(knees, crash, gap, self.board.flow(a))
+        self.board.down(a) - gap
     }
 
     /// Labels the far event of an activity if its step has residual capacity, and otherwise lets the activity wait for
@@ -228,12 +228,13 @@ impl<'n> Search<'n> {
         ensures net { self.new.net.now ≡ self.old.net.now }
         ensures visited { IsVisited self.old.net.now self.old.board self.new.board a }
     {
-        let stop = self.stops_along(a, from, to, crash, knees);
-        if stop.after > 0 {
+        let after = self.stops_along(a, from, to);
+        if after > 0 {
             self.wait(a);
             return;
         }
-        self.board.enter(to, a, false, from, stop.room);
+        let room = room_along(knees, crash, self.board.flow(a));
+        self.board.enter(to, a, false, from, room);
     }
 
     // Labels the event where an activity begins that labels may cross against it, or has the activity wait.
@@ -247,12 +248,13 @@ impl<'n> Search<'n> {
         ensures net { self.new.net.now ≡ self.old.net.now }
         ensures visited { IsVisited self.old.net.now self.old.board self.new.board a }
     {
-        let stop = self.stops_against(a, from, to, crash, knees);
-        if stop.after > 0 {
+        let after = self.stops_against(a, from, to);
+        if after > 0 {
             self.wait(a);
             return;
         }
-        self.board.enter(from, a, true, to, stop.room);
+        let room = room_against(knees, crash, self.board.flow(a));
+        self.board.enter(from, a, true, to, room);
     }
 
     // Has an activity wait that stops only after a fall.

@@ -1,14 +1,16 @@
-//! The staircase of an activity in numbers: the length of the arc on which a unit of its flow runs, how far a gap may
-//! change before the flow must, and what of a whole flow runs on each knee.
+//! The staircase of an activity in numbers: the lengths of the arcs on which units of its flow run, how far the flow
+//! may change where the gap is as long as an arc, and what of a whole flow runs on each knee.
 //!
 //! An activity's knees are a slice in the order in which the duration falls, the first at the normal duration. No more
 //! than a handful are there, so each call looks at them one after the other.
 
 mod filling;
+mod lengths;
 mod piece;
-mod stop;
+mod room;
 
 pub use filling::{beside, flow_at};
+pub use lengths::{Lengths, lengths_of};
 pub use pc_model::Knee;
 pub use piece::{Piece, piece_of};
-pub use stop::{Stop, stop_against, stop_along};
+pub use room::{room_against, room_along};

@@ -9,7 +9,7 @@ use Rattle.pc_flow.specs.inside.board.Raising.{event_back, IsOffWay, IsStepTaken
 use Rattle.pc_flow.proofs.lemmas.board.RaisingLaws.{way-both}
 
 -- an event is on the way, or it is not
-find_below : (f : ℕ) (back : ℕ → ℕ) (k : ℕ) → ((j : ℕ) × (j < k) × (f ≡ back j)) ⊎ ((j : ℕ) → j < k → f ≢ back j)
+pub find_below : (f : ℕ) (back : ℕ → ℕ) (k : ℕ) → ((j : ℕ) × (j < k) × (f ≡ back j)) ⊎ ((j : ℕ) → j < k → f ≢ back j)
 find_below f back zero = inr (λ j none. absurd (omega arith))
 find_below f back (suc k) =
     elim (cases_eq f (back k)) [
@@ -37,7 +37,7 @@ module _ (s t : Sheet) (end by k : ℕ) (steps : HaveSteps s) (raised : IsRaised
   abbrev raising : IsRaising s t end by k (queue_of s 0)
   raising = raised.raising
 
-  rest : t ≡ record s { room = t.room; flow = t.flow }
+  rest : t ≡ record s { room = t.room; flow = t.flow; up = t.up; down = t.down }
   rest = raising.rest
 
   on_way : (f : ℕ) → ((j : ℕ) × (j < k) × (f ≡ event_back s end j)) ⊎ IsOffWay s end k f

@@ -7,7 +7,7 @@ use Rattle.pc_cells.specs.Spans.{Cells}
 use Rattle.pc_cells.specs.inside.Spans.{with_span, cells_before, IsSpan}
 use Rattle.pc_cells.proofs.LiveLaws.{live-set, cells_before-set}
 use Rattle.pc_flow.specs.declared.board.columns.Column.{Column}
-use Rattle.pc_flow.specs.declared.board.columns.Column.TheVariants.{Time, Rank, Queue, Step, Against, Near, Room, Lost, Flow, Waiting, Slot, Due}
+use Rattle.pc_flow.specs.declared.board.columns.Column.TheVariants.{Time, Rank, Queue, Step, Against, Near, Room, Lost, Flow, Waiting, Slot, Due, Up, Down}
 use Rattle.pc_flow.specs.declared.board.board.Board.TheInside.{Inside}
 use Rattle.pc_flow.specs.board.Sheets.{Sheet}
 use Rattle.pc_flow.specs.inside.board.Places.{place_of, span_of, column_of, with_column, size_of, small_at, is_small, IsSetAt}
@@ -28,6 +28,8 @@ laid-column events activities home f fallen count head len Flow = refl
 laid-column events activities home f fallen count head len Waiting = refl
 laid-column events activities home f fallen count head len Slot = refl
 laid-column events activities home f fallen count head len Due = refl
+laid-column events activities home f fallen count head len Up = refl
+laid-column events activities home f fallen count head len Down = refl
 
 laid-with_column : (events activities : ℕ) (home : Cells) (f : ℕ → List ℕ) (fallen count head len : ℕ) (column : Column) (xs : List ℕ)
     → laid_sheet events activities home (λ n. if n == place_of column then xs else f n) fallen count head len
@@ -44,6 +46,8 @@ laid-with_column events activities home f fallen count head len Flow xs = refl
 laid-with_column events activities home f fallen count head len Waiting xs = refl
 laid-with_column events activities home f fallen count head len Slot xs = refl
 laid-with_column events activities home f fallen count head len Due xs = refl
+laid-with_column events activities home f fallen count head len Up xs = refl
+laid-with_column events activities home f fallen count head len Down xs = refl
 
 -- lists that agree make the same sheet
 pub laid-same : (events activities : ℕ) (home : Cells) (f g : ℕ → List ℕ) (fallen count head len : ℕ) → ((n : ℕ) → f n ≡ g n)

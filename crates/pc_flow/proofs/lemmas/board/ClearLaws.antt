@@ -7,7 +7,7 @@ use Rattle.pc_cells.specs.declared.span.Mark.{Mark}
 use Rattle.pc_cells.specs.Spans.{Cells}
 use Rattle.pc_cells.specs.inside.Spans.{cells_before, IsSpan, IsMark}
 use Rattle.pc_flow.specs.declared.board.columns.Column.{Column}
-use Rattle.pc_flow.specs.declared.board.columns.Column.TheVariants.{Time, Rank, Queue, Step, Against, Near, Room, Lost, Flow, Waiting, Slot, Due}
+use Rattle.pc_flow.specs.declared.board.columns.Column.TheVariants.{Time, Rank, Queue, Step, Against, Near, Room, Lost, Flow, Waiting, Slot, Due, Up, Down}
 use Rattle.pc_flow.specs.declared.board.columns.Columns.{Columns}
 use Rattle.pc_flow.specs.declared.board.board.Board.TheInside.{Inside}
 use Rattle.pc_flow.specs.inside.board.Sheets.{clear_sheet}
@@ -29,6 +29,8 @@ zeros-at events activities Flow i = zero-at activities i
 zeros-at events activities Waiting i = zero-at activities i
 zeros-at events activities Slot i = zero-at activities i
 zeros-at events activities Due i = zero-at activities i
+zeros-at events activities Up i = zero-at activities i
+zeros-at events activities Down i = zero-at activities i
 
 zeros-size : (events activities : ℕ) (column : Column) → length (get_or (zeros events activities) (place_of column) []) ≡ size_of events activities column
 zeros-size events activities Time = length-replicate events 0
@@ -43,6 +45,8 @@ zeros-size events activities Flow = length-replicate activities 0
 zeros-size events activities Waiting = length-replicate activities 0
 zeros-size events activities Slot = length-replicate activities 0
 zeros-size events activities Due = length-replicate activities 0
+zeros-size events activities Up = length-replicate activities 0
+zeros-size events activities Down = length-replicate activities 0
 
 module _ (home now : Cells) (mark : Mark) (columns : Columns) (events activities : ℕ) (marked : IsMark home.spans mark) (all : mark.spans ≡ length home.spans)
     (taken : AreColumnsTaken home now events activities columns) where

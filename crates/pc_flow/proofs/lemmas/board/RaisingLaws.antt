@@ -307,10 +307,16 @@ module _ (s t : Sheet) (e by k x : ℕ) (back : IsRankedBack s) (steps : HaveSte
               (part_forward net (flow_of s) by (flow_of t) (flow_of u) (step_of s x) x a (joined.along_to x known has zero_way) (along-here zero_way) others now)
         ]
 
+    reached : u ≡ record s { room = u.room; flow = u.flow; up = t.up; down = t.down }
+    reached = moved.rest ∙ ap (λ (v : Sheet). record v { room = u.room; flow = u.flow }) raising.rest
+
+    rest : u ≡ record s { room = u.room; flow = u.flow; up = u.up; down = u.down }
+    rest = reached ∙ ap (λ (v : Sheet). record s { room = v.room; flow = v.flow; up = v.up; down = v.down }) (sym reached)
+
     pub raising-goes_on : IsRaising s u e by (suc k) (near_of s x)
     raising-goes_on = record {
       way = way;
-      rest = moved.rest ∙ ap (λ (v : Sheet). record v { room = u.room; flow = u.flow }) raising.rest;
+      rest = rest;
       taken = λ j below. elim (cases_lt j k) [
         | inl early ↦ before j early
         | inr last ↦

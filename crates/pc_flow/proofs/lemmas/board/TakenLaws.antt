@@ -8,7 +8,7 @@ use Rattle.pc_cells.specs.Spans.{Cells}
 use Rattle.pc_cells.specs.inside.Spans.{IsSpan, IsTaken}
 use Rattle.pc_cells.proofs.LiveLaws.{live-append}
 use Rattle.pc_flow.specs.declared.board.columns.Column.{Column}
-use Rattle.pc_flow.specs.declared.board.columns.Column.TheVariants.{Time, Rank, Queue, Step, Against, Near, Room, Lost, Flow, Waiting, Slot, Due}
+use Rattle.pc_flow.specs.declared.board.columns.Column.TheVariants.{Time, Rank, Queue, Step, Against, Near, Room, Lost, Flow, Waiting, Slot, Due, Up, Down}
 use Rattle.pc_flow.specs.inside.board.Taken.{AreColumnsTaken}
 use Rattle.pc_flow.specs.inside.board.Places.{place_of, span_of}
 
@@ -56,7 +56,7 @@ span-after home was now end before rest len k s at size taken all =
         ∙ ap (λ ys. home.spans ++ ys) (append_assoc before (replicate len 0 ∷ []) rest)
         ∙ sym (ap (λ (r : Cells). r.spans) all)
 
-module _ (events activities : ℕ) (r0 r1 r2 r3 r4 r5 r6 r7 r8 r9 r10 r11 r12 : Cells) (time rank queue step against near room lost flow waiting slot due : Span)
+module _ (events activities : ℕ) (r0 r1 r2 r3 r4 r5 r6 r7 r8 r9 r10 r11 r12 r13 r14 : Cells) (time rank queue step against near room lost flow waiting slot due up down : Span)
     (taken_time : IsTaken r0 r1 events time)
     (taken_rank : IsTaken r1 r2 events rank)
     (taken_queue : IsTaken r2 r3 events queue)
@@ -68,7 +68,9 @@ module _ (events activities : ℕ) (r0 r1 r2 r3 r4 r5 r6 r7 r8 r9 r10 r11 r12 : 
     (taken_flow : IsTaken r8 r9 activities flow)
     (taken_waiting : IsTaken r9 r10 activities waiting)
     (taken_slot : IsTaken r10 r11 activities slot)
-    (taken_due : IsTaken r11 r12 activities due) where
+    (taken_due : IsTaken r11 r12 activities due)
+    (taken_up : IsTaken r12 r13 activities up)
+    (taken_down : IsTaken r13 r14 activities down) where
   abbrev ev : List ℕ
   ev = replicate events 0
 
@@ -114,7 +116,13 @@ module _ (events activities : ℕ) (r0 r1 r2 r3 r4 r5 r6 r7 r8 r9 r10 r11 r12 : 
   at_12 : r12 ≡ with_more r0 (ev ∷ ev ∷ ev ∷ ev ∷ ev ∷ ev ∷ ev ∷ ev ∷ act ∷ act ∷ act ∷ act ∷ [])
   at_12 = taken-after r0 r11 r12 (ev ∷ ev ∷ ev ∷ ev ∷ ev ∷ ev ∷ ev ∷ ev ∷ act ∷ act ∷ act ∷ []) activities due at_11 taken_due
 
-  pub columns-taken : AreColumnsTaken r0 r12 events activities (record {
+  at_13 : r13 ≡ with_more r0 (ev ∷ ev ∷ ev ∷ ev ∷ ev ∷ ev ∷ ev ∷ ev ∷ act ∷ act ∷ act ∷ act ∷ act ∷ [])
+  at_13 = taken-after r0 r12 r13 (ev ∷ ev ∷ ev ∷ ev ∷ ev ∷ ev ∷ ev ∷ ev ∷ act ∷ act ∷ act ∷ act ∷ []) activities up at_12 taken_up
+
+  at_14 : r14 ≡ with_more r0 (ev ∷ ev ∷ ev ∷ ev ∷ ev ∷ ev ∷ ev ∷ ev ∷ act ∷ act ∷ act ∷ act ∷ act ∷ act ∷ [])
+  at_14 = taken-after r0 r13 r14 (ev ∷ ev ∷ ev ∷ ev ∷ ev ∷ ev ∷ ev ∷ ev ∷ act ∷ act ∷ act ∷ act ∷ act ∷ []) activities down at_13 taken_down
+
+  pub columns-taken : AreColumnsTaken r0 r14 events activities (record {
     time = time;
     rank = rank;
     queue = queue;
@@ -127,19 +135,38 @@ module _ (events activities : ℕ) (r0 r1 r2 r3 r4 r5 r6 r7 r8 r9 r10 r11 r12 : 
     waiting = waiting;
     slot = slot;
     due = due;
+    up = up;
+    down = down;
   })
-  columns-taken = record { region = at_12; spans = spans } where
-    spans : (column : Column) → IsSpan r12.spans (length r0.spans + place_of column) (span_of
-        (record { time = time; rank = rank; queue = queue; step = step; against = against; near = near; room = room; lost = lost; flow = flow; waiting = waiting; slot = slot; due = due }) column)
-    spans Time = span-after r0 r0 r1 r12 [] (ev ∷ ev ∷ ev ∷ ev ∷ ev ∷ ev ∷ ev ∷ act ∷ act ∷ act ∷ act ∷ []) events 0 time at_0 refl taken_time at_12
-    spans Rank = span-after r0 r1 r2 r12 (ev ∷ []) (ev ∷ ev ∷ ev ∷ ev ∷ ev ∷ ev ∷ act ∷ act ∷ act ∷ act ∷ []) events 1 rank at_1 refl taken_rank at_12
-    spans Queue = span-after r0 r2 r3 r12 (ev ∷ ev ∷ []) (ev ∷ ev ∷ ev ∷ ev ∷ ev ∷ act ∷ act ∷ act ∷ act ∷ []) events 2 queue at_2 refl taken_queue at_12
-    spans Step = span-after r0 r3 r4 r12 (ev ∷ ev ∷ ev ∷ []) (ev ∷ ev ∷ ev ∷ ev ∷ act ∷ act ∷ act ∷ act ∷ []) events 3 step at_3 refl taken_step at_12
-    spans Against = span-after r0 r4 r5 r12 (ev ∷ ev ∷ ev ∷ ev ∷ []) (ev ∷ ev ∷ ev ∷ act ∷ act ∷ act ∷ act ∷ []) events 4 against at_4 refl taken_against at_12
-    spans Near = span-after r0 r5 r6 r12 (ev ∷ ev ∷ ev ∷ ev ∷ ev ∷ []) (ev ∷ ev ∷ act ∷ act ∷ act ∷ act ∷ []) events 5 near at_5 refl taken_near at_12
-    spans Room = span-after r0 r6 r7 r12 (ev ∷ ev ∷ ev ∷ ev ∷ ev ∷ ev ∷ []) (ev ∷ act ∷ act ∷ act ∷ act ∷ []) events 6 room at_6 refl taken_room at_12
-    spans Lost = span-after r0 r7 r8 r12 (ev ∷ ev ∷ ev ∷ ev ∷ ev ∷ ev ∷ ev ∷ []) (act ∷ act ∷ act ∷ act ∷ []) events 7 lost at_7 refl taken_lost at_12
-    spans Flow = span-after r0 r8 r9 r12 (ev ∷ ev ∷ ev ∷ ev ∷ ev ∷ ev ∷ ev ∷ ev ∷ []) (act ∷ act ∷ act ∷ []) activities 8 flow at_8 refl taken_flow at_12
-    spans Waiting = span-after r0 r9 r10 r12 (ev ∷ ev ∷ ev ∷ ev ∷ ev ∷ ev ∷ ev ∷ ev ∷ act ∷ []) (act ∷ act ∷ []) activities 9 waiting at_9 refl taken_waiting at_12
-    spans Slot = span-after r0 r10 r11 r12 (ev ∷ ev ∷ ev ∷ ev ∷ ev ∷ ev ∷ ev ∷ ev ∷ act ∷ act ∷ []) (act ∷ []) activities 10 slot at_10 refl taken_slot at_12
-    spans Due = span-after r0 r11 r12 r12 (ev ∷ ev ∷ ev ∷ ev ∷ ev ∷ ev ∷ ev ∷ ev ∷ act ∷ act ∷ act ∷ []) [] activities 11 due at_11 refl taken_due at_12
+  columns-taken = record { region = at_14; spans = spans } where
+    spans : (column : Column) → IsSpan r14.spans (length r0.spans + place_of column) (span_of
+        (record {
+          time = time;
+          rank = rank;
+          queue = queue;
+          step = step;
+          against = against;
+          near = near;
+          room = room;
+          lost = lost;
+          flow = flow;
+          waiting = waiting;
+          slot = slot;
+          due = due;
+          up = up;
+          down = down;
+        }) column)
+    spans Time = span-after r0 r0 r1 r14 [] (ev ∷ ev ∷ ev ∷ ev ∷ ev ∷ ev ∷ ev ∷ act ∷ act ∷ act ∷ act ∷ act ∷ act ∷ []) events 0 time at_0 refl taken_time at_14
+    spans Rank = span-after r0 r1 r2 r14 (ev ∷ []) (ev ∷ ev ∷ ev ∷ ev ∷ ev ∷ ev ∷ act ∷ act ∷ act ∷ act ∷ act ∷ act ∷ []) events 1 rank at_1 refl taken_rank at_14
+    spans Queue = span-after r0 r2 r3 r14 (ev ∷ ev ∷ []) (ev ∷ ev ∷ ev ∷ ev ∷ ev ∷ act ∷ act ∷ act ∷ act ∷ act ∷ act ∷ []) events 2 queue at_2 refl taken_queue at_14
+    spans Step = span-after r0 r3 r4 r14 (ev ∷ ev ∷ ev ∷ []) (ev ∷ ev ∷ ev ∷ ev ∷ act ∷ act ∷ act ∷ act ∷ act ∷ act ∷ []) events 3 step at_3 refl taken_step at_14
+    spans Against = span-after r0 r4 r5 r14 (ev ∷ ev ∷ ev ∷ ev ∷ []) (ev ∷ ev ∷ ev ∷ act ∷ act ∷ act ∷ act ∷ act ∷ act ∷ []) events 4 against at_4 refl taken_against at_14
+    spans Near = span-after r0 r5 r6 r14 (ev ∷ ev ∷ ev ∷ ev ∷ ev ∷ []) (ev ∷ ev ∷ act ∷ act ∷ act ∷ act ∷ act ∷ act ∷ []) events 5 near at_5 refl taken_near at_14
+    spans Room = span-after r0 r6 r7 r14 (ev ∷ ev ∷ ev ∷ ev ∷ ev ∷ ev ∷ []) (ev ∷ act ∷ act ∷ act ∷ act ∷ act ∷ act ∷ []) events 6 room at_6 refl taken_room at_14
+    spans Lost = span-after r0 r7 r8 r14 (ev ∷ ev ∷ ev ∷ ev ∷ ev ∷ ev ∷ ev ∷ []) (act ∷ act ∷ act ∷ act ∷ act ∷ act ∷ []) events 7 lost at_7 refl taken_lost at_14
+    spans Flow = span-after r0 r8 r9 r14 (ev ∷ ev ∷ ev ∷ ev ∷ ev ∷ ev ∷ ev ∷ ev ∷ []) (act ∷ act ∷ act ∷ act ∷ act ∷ []) activities 8 flow at_8 refl taken_flow at_14
+    spans Waiting = span-after r0 r9 r10 r14 (ev ∷ ev ∷ ev ∷ ev ∷ ev ∷ ev ∷ ev ∷ ev ∷ act ∷ []) (act ∷ act ∷ act ∷ act ∷ []) activities 9 waiting at_9 refl taken_waiting at_14
+    spans Slot = span-after r0 r10 r11 r14 (ev ∷ ev ∷ ev ∷ ev ∷ ev ∷ ev ∷ ev ∷ ev ∷ act ∷ act ∷ []) (act ∷ act ∷ act ∷ []) activities 10 slot at_10 refl taken_slot at_14
+    spans Due = span-after r0 r11 r12 r14 (ev ∷ ev ∷ ev ∷ ev ∷ ev ∷ ev ∷ ev ∷ ev ∷ act ∷ act ∷ act ∷ []) (act ∷ act ∷ []) activities 11 due at_11 refl taken_due at_14
+    spans Up = span-after r0 r12 r13 r14 (ev ∷ ev ∷ ev ∷ ev ∷ ev ∷ ev ∷ ev ∷ ev ∷ act ∷ act ∷ act ∷ act ∷ []) (act ∷ []) activities 12 up at_12 refl taken_up at_14
+    spans Down = span-after r0 r13 r14 r14 (ev ∷ ev ∷ ev ∷ ev ∷ ev ∷ ev ∷ ev ∷ ev ∷ act ∷ act ∷ act ∷ act ∷ act ∷ []) [] activities 13 down at_13 refl taken_down at_14

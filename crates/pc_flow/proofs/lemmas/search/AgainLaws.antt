@@ -26,7 +26,7 @@ use Rattle.pc_flow.proofs.lemmas.board.AfterPruning.{
 }
 use Rattle.pc_flow.specs.inside.search.Searches.{stair_at, gap_at, next_at, last_at, IsSearch, IsOnStairs, AreLed, IsSettled, grown_as}
 use Rattle.pc_flow.specs.inside.search.Growing.{IsAtLost, degree, IsReached, IsScanned, IsMet, AreSettled, GoesOn, relabelled, HasLookedAgain}
-use Rattle.pc_flow.proofs.lemmas.search.KeptLaws.{with_list, waiting-kept}
+use Rattle.pc_flow.proofs.lemmas.search.KeptLaws.{with_list, waiting-kept, with_lengths, lengths-kept}
 use Rattle.pc_flow.proofs.lemmas.search.GrowingLaws.{met-was, met-reached, settled-grows}
 use Rattle.pc_flow.proofs.lemmas.search.GrowLaws.{headed, search-headed, room-headed}
 use Rattle.pc_flow.proofs.lemmas.search.DegreeLaws.{degrees-few}
@@ -127,6 +127,7 @@ module _ (net : PricedNetwork) (s u : Sheet) (gone : ℕ) (search : IsSearch net
     joined = pruned-joined s u gone search.ranked pruned net.network search.joined;
     waiting = waiting-kept s u (pruned.rest ∙ ap (λ (v : Sheet). with_list v s) (sym pruned.rest)) search.waiting;
     stairs = stairs;
+    lengths = lengths-kept net s u (pruned.rest ∙ ap (λ (v : Sheet). with_lengths v s) (sym pruned.rest)) search.lengths;
     led = led;
   }
 

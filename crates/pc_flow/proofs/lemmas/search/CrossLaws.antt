@@ -2,7 +2,6 @@
 use Rattle.std.proofs.Common.{◌≡◌, ◌≢◌, ℕ, List, ◌<◌, ◌≤◌, Some, true, false, length, sym, ◌∙◌, ap, subst, inl, inr, arith}
 use Rattle.std.proofs.lemmas.Bool.{cases_eq}
 use Rattle.pc_model.specs.declared.Knee.{Knee}
-use Rattle.pc_flow.specs.declared.stair.stop.Stop.{Stop}
 use Rattle.pc_crash.specs.Priced.{PricedNetwork}
 use Rattle.pc_flow.specs.board.Sheets.{Sheet, kept_time, rank_of}
 use Rattle.pc_flow.specs.inside.board.Sheets.{slot_of}
@@ -11,7 +10,7 @@ use Rattle.pc_flow.specs.inside.board.Labelling.{HaveRoom}
 use Rattle.pc_flow.proofs.lemmas.board.AfterEntering.{IsNewStep, queue-room}
 use Rattle.pc_flow.specs.declared.search.way.Way.{Way}
 use Rattle.pc_flow.specs.declared.search.way.Way.TheVariants.{Along, Against}
-use Rattle.pc_flow.specs.inside.search.Searches.{IsSearch, IsSeen, MayGoAlong, MayGoAgainst, IsWay, StopsAlong, StopsAgainst, StopsAfter, StopsLater, IsVisited}
+use Rattle.pc_flow.specs.inside.search.Searches.{IsSearch, IsSeen, MayGoAlong, MayGoAgainst, IsWay, StopsAfter, HasRoomAlong, HasRoomAgainst, StopsLater, IsVisited}
 use Rattle.pc_flow.proofs.lemmas.search.VisitLaws.{visited-still, visited-waits}
 use Rattle.pc_flow.proofs.lemmas.search.EnterLaws.{visited-enters}
 
@@ -20,14 +19,14 @@ module _ (net : PricedNetwork) (s : Sheet) (a : ℕ) (search : IsSearch net s) (
   activity = omega (arith, known, search.fits.activities)
 
   -- labels may cross it only the one way
-  pub stops-later : (way : Way) (stop : Stop) → IsWay net s a (Some way) → StopsAfter net s a way stop → 0 < stop.after → StopsLater net s a
-  stops-later Along stop may stops some = record {
-    along = λ along. omega (arith, stops.after, some);
+  pub stops-later : (way : Way) (after : ℕ) → IsWay net s a (Some way) → StopsAfter net s a way after → 0 < after → StopsLater net s a
+  stops-later Along after may stops some = record {
+    along = λ along. omega (arith, stops, some);
     against = λ against. absurd (omega (arith, may.to, against.to));
   }
-  stops-later Against stop may stops some = record {
+  stops-later Against after may stops some = record {
     along = λ along. absurd (omega (arith, may.from, along.from));
-    against = λ against. omega (arith, stops.after, some);
+    against = λ against. omega (arith, stops, some);
   }
 
   -- it waits, or did so before
@@ -51,7 +50,7 @@ module _ (net : PricedNetwork) (s : Sheet) (a : ℕ) (search : IsSearch net s) (
     to-known = omega (arith, seen.ends, search.in_range.to_in a known, search.fits.events)
 
     -- the event where it ends enters
-    module _ (stop : Stop) (may : MayGoAlong net s a) (stops : StopsAlong net s a stop) where
+    module _ (may : MayGoAlong net s a) where
       pub to-none : rank_of s to ≡ 0
       to-none = ap (rank_of s) seen.ends ∙ may.to
 
@@ -61,24 +60,24 @@ module _ (net : PricedNetwork) (s : Sheet) (a : ℕ) (search : IsSearch net s) (
       pub to-deep : s.fallen ≤ kept_time s to
       to-deep = search.times.deep to to-known to-none
 
-      to-new : IsNewStep net.network s to a false from stop.room
-      to-new = record {
+      to-new : (units : ℕ) → HasRoomAlong net s a units → IsNewStep net.network s to a false from units
+      to-new units has = record {
         unlabelled = to-none;
         known = to-known;
         near_known = from-known;
         near_labelled = omega (arith, ap (rank_of s) seen.begins, may.from);
         activity = activity;
-        some = stops.some;
-        along = λ is. (sym seen.begins, sym seen.ends, stops.small);
+        some = has.some;
+        along = λ is. (sym seen.begins, sym seen.ends, has.small);
         back = λ is. cc;
       }
 
-      pub crossed-along : (t : Sheet) → stop.after ≡ 0 → EntersAt s t to a false from stop.room → IsVisited net s t a
-      crossed-along t now entered =
-          visited-enters net s t to a false from stop.room search known to-new entered (λ is. stops.room now) (λ is. cc) room
+      pub crossed-along : (t : Sheet) (units : ℕ) → HasRoomAlong net s a units → EntersAt s t to a false from units → IsVisited net s t a
+      crossed-along t units has entered =
+          visited-enters net s t to a false from units search known (to-new units has) entered (λ is. has.on) (λ is. cc) room
 
     -- the event where it begins enters
-    module _ (stop : Stop) (may : MayGoAgainst net s a) (stops : StopsAgainst net s a stop) where
+    module _ (may : MayGoAgainst net s a) where
       pub from-none : rank_of s from ≡ 0
       from-none = ap (rank_of s) seen.begins ∙ may.from
 
@@ -88,18 +87,18 @@ module _ (net : PricedNetwork) (s : Sheet) (a : ℕ) (search : IsSearch net s) (
       pub from-deep : s.fallen ≤ kept_time s from
       from-deep = search.times.deep from from-known from-none
 
-      from-new : IsNewStep net.network s from a true to stop.room
-      from-new = record {
+      from-new : (units : ℕ) → HasRoomAgainst net s a units → IsNewStep net.network s from a true to units
+      from-new units has = record {
         unlabelled = from-none;
         known = from-known;
         near_known = to-known;
         near_labelled = omega (arith, ap (rank_of s) seen.ends, may.to);
         activity = activity;
-        some = stops.some;
+        some = has.some;
         along = λ is. cc;
-        back = λ is. (sym seen.begins, sym seen.ends, stops.within);
+        back = λ is. (sym seen.begins, sym seen.ends, has.within);
       }
 
-      pub crossed-against : (t : Sheet) → stop.after ≡ 0 → EntersAt s t from a true to stop.room → IsVisited net s t a
-      crossed-against t now entered =
-          visited-enters net s t from a true to stop.room search known from-new entered (λ is. cc) (λ is. stops.room now) room
+      pub crossed-against : (t : Sheet) (units : ℕ) → HasRoomAgainst net s a units → EntersAt s t from a true to units → IsVisited net s t a
+      crossed-against t units has entered =
+          visited-enters net s t from a true to units search known (from-new units has) entered (λ is. cc) (λ is. has.on) room

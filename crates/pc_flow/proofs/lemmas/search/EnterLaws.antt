@@ -21,7 +21,7 @@ use Rattle.pc_flow.proofs.lemmas.board.AfterEntering.{
   entered-joined,
 }
 use Rattle.pc_flow.specs.inside.search.Searches.{stair_at, gap_at, IsOnStairs, IsSearch, IsSettled, grown_as, Grows, IsVisited}
-use Rattle.pc_flow.proofs.lemmas.search.KeptLaws.{with_list, waiting-kept}
+use Rattle.pc_flow.proofs.lemmas.search.KeptLaws.{with_list, waiting-kept, with_lengths, lengths-kept}
 
 module _ (net : PricedNetwork) (s t : Sheet) (e a : ℕ) (against : Bool) (near room : ℕ) (search : IsSearch net s) (known : a < length net.network.arcs)
     (new : IsNewStep net.network s e a against near room) (entered : EntersAt s t e a against near room)
@@ -136,6 +136,7 @@ module _ (net : PricedNetwork) (s t : Sheet) (e a : ℕ) (against : Bool) (near 
     joined = entered-joined net.network s t e a against near room new entered search.joined;
     waiting = waiting-kept s t (entered.rest ∙ ap (λ (v : Sheet). with_list v s) (sym entered.rest)) search.waiting;
     stairs = stairs;
+    lengths = lengths-kept net s t (entered.rest ∙ ap (λ (v : Sheet). with_lengths v s) (sym entered.rest)) search.lengths;
     led = record { along = led-along; against = led-against };
   }
 

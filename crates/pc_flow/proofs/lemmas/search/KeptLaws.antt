@@ -3,7 +3,7 @@ use Rattle.std.proofs.Common.{◌≡◌, ◌≤◌, sym, subst}
 use Rattle.pc_crash.specs.Priced.{PricedNetwork}
 use Rattle.pc_flow.specs.board.Sheets.{Sheet}
 use Rattle.pc_flow.specs.inside.board.Labelling.{AreTimes}
-use Rattle.pc_flow.specs.inside.search.Searches.{IsWaiting, IsOnStairs, IsPricedBoard, AreLed, IsSearch}
+use Rattle.pc_flow.specs.inside.search.Searches.{IsWaiting, IsOnStairs, AreLengths, IsPricedBoard, AreLed, IsSearch}
 
 -- board s with the activities of board t that wait
 abbrev pub with_list : Sheet → Sheet → Sheet
@@ -18,6 +18,14 @@ waiting-kept s t same waiting =
       within = waiting.within;
       listed = waiting.listed;
     })
+
+-- board s with the flows of board t and the lengths of their arcs
+abbrev pub with_lengths : Sheet → Sheet → Sheet
+with_lengths s t = record s { flow = t.flow; up = t.up; down = t.down }
+
+pub lengths-kept : (net : PricedNetwork) (s t : Sheet) → t ≡ with_lengths t s → AreLengths net s → AreLengths net t
+lengths-kept net s t same lengths =
+    subst (λ v. AreLengths net v) (sym same) (λ a known. record { up = (lengths a known).up; down = (lengths a known).down })
 
 -- board s with the list, the counts and the falls of board t
 abbrev pub recounted : Sheet → Sheet → Sheet
@@ -51,6 +59,7 @@ search-recounted net s t search scanned times waiting stairs led = record {
   };
   waiting = waiting;
   stairs = stairs;
+  lengths = λ a known. record { up = (search.lengths a known).up; down = (search.lengths a known).down };
   led = led;
 }
 
@@ -71,6 +80,7 @@ board-relisted net s t search = record {
     on = search.stairs.on;
     small = search.stairs.small;
   };
+  lengths = λ a known. record { up = (search.lengths a known).up; down = (search.lengths a known).down };
 }
 
 -- and a search, if the list is right

@@ -14,7 +14,7 @@ use Rattle.pc_flow.specs.inside.search.Growing.{IsScanned, IsMet, AreSettled}
 use Rattle.pc_flow.proofs.lemmas.search.StepLaws.{step-from_labelled, step-to_labelled}
 
 module _ (net : PricedNetwork) (s t : Sheet) (end by k : ℕ) (search : IsSearch net s) (raised : IsRaisedBy s t end by k) where
-  rest : t ≡ record s { room = t.room; flow = t.flow }
+  rest : t ≡ record s { room = t.room; flow = t.flow; up = t.up; down = t.down }
   rest = raised.raising.rest
 
   rank-same : (e : ℕ) → rank_of t e ≡ rank_of s e

@@ -22,7 +22,7 @@ use Rattle.pc_flow.proofs.lemmas.board.AfterRaising.{
   raised-joined,
   raised-for,
 }
-use Rattle.pc_flow.specs.inside.search.Searches.{stair_at, gap_at, IsSearch, IsWaiting, IsOnStairs, AreLed}
+use Rattle.pc_flow.specs.inside.search.Searches.{stair_at, gap_at, IsSearch, IsWaiting, IsOnStairs, AreLengths, AreLed}
 use Rattle.pc_flow.specs.inside.search.Growing.{AreSettled}
 use Rattle.pc_flow.specs.search.Labelling.{length_at, slopes_in}
 use Rattle.pc_flow.specs.inside.search.Labelling.{slope_at, IsStateWith, IsAboveAllCrash, IsBetween, HasRaised}
@@ -34,7 +34,7 @@ module _ (net : PricedNetwork) (known : IsKnown net) (order : List ℕ) (ordered
   abbrev search : IsSearch net s
   search = between.search
 
-  rest : t ≡ record s { room = t.room; flow = t.flow }
+  rest : t ≡ record s { room = t.room; flow = t.flow; up = t.up; down = t.down }
   rest = raised.raising.rest
 
   part : IsPart net.network (flow_of s) (flow_of t) net.network.start by
@@ -83,8 +83,8 @@ module _ (net : PricedNetwork) (known : IsKnown net) (order : List ℕ) (ordered
   time-same : (e : ℕ) → time_of t e ≡ time_of s e
   time-same = raised-time s t net.network.end by k search.steps raised
 
-  stairs : IsOnStairs net t
-  stairs = record {
+  pub stairs-raised : IsOnStairs net t
+  stairs-raised = record {
     falling = search.stairs.falling;
     reach = search.stairs.reach;
     ahead = λ a inside.
@@ -140,8 +140,8 @@ module _ (net : PricedNetwork) (known : IsKnown net) (order : List ℕ) (ordered
     listed = search.waiting.listed;
   })
 
-  search-raised : IsSearch net t
-  search-raised = record {
+  search-raised : AreLengths net t → IsSearch net t
+  search-raised lengths = record {
     in_range = search.in_range;
     few = search.few;
     fits = raised-for s t net.network.end by k search.steps raised net.network search.fits;
@@ -152,16 +152,17 @@ module _ (net : PricedNetwork) (known : IsKnown net) (order : List ℕ) (ordered
     times = raised-times s t net.network.end by k search.steps raised search.times;
     joined = raised-joined s t net.network.end by k search.steps raised net.network search.joined;
     waiting = waiting;
-    stairs = stairs;
+    stairs = stairs-raised;
+    lengths = lengths;
     led = led;
   }
 
-  pub has_raised : AreSettled net s → HasRaised net s t by
-  has_raised settled = record {
+  pub has_raised : AreLengths net t → AreSettled net s → HasRaised net s t by
+  has_raised lengths settled = record {
     raised = (k, raised);
     rest = rest;
     some = raised.some;
-    search = search-raised;
+    search = search-raised lengths;
     settled = settled-raised net s t net.network.end by k search raised settled;
     slope = slope;
     state = state;

@@ -1,14 +1,14 @@
--- Where an activity stops, in words of what was seen of it.
+-- When an activity stops and how far its flow may change then, in words of what was seen of it.
 use Rattle.std.proofs.Common.{◌≡◌, ℕ, List, ◌+◌, ◌-◌, ◌^◌, ◌<◌, ◌≤◌, length, sym, ◌∙◌, ap, subst, arith}
 use Rattle.pc_model.specs.declared.Knee.{Knee}
-use Rattle.pc_model.specs.Walk.{to_of}
+use Rattle.pc_model.specs.Walk.{from_of, to_of}
 use Rattle.pc_laws.specs.Stair.{Stair, IsFalling, IsSameStair, full_reach, unit_length, IsOnStair}
 use Rattle.pc_laws.proofs.Stairs.SameStair.{same-full_reach, same-unit, same-on_stair, on_same-stair, same-falling}
 use Rattle.pc_flow.specs.inside.stair.Rows.{stair}
-use Rattle.pc_flow.specs.declared.stair.stop.Stop.{Stop}
 use Rattle.pc_crash.specs.Priced.{PricedNetwork}
 use Rattle.pc_flow.specs.board.Sheets.{Sheet, time_of, flow_of}
-use Rattle.pc_flow.specs.inside.search.Searches.{stair_at, gap_at, IsSeen, IsOnStairs, StopsAlong, StopsAgainst}
+use Rattle.pc_flow.specs.inside.board.Sheets.{up_of, down_of}
+use Rattle.pc_flow.specs.inside.search.Searches.{stair_at, gap_at, IsSeen, IsOnStairs, IsPricedBoard, StopsAlong, StopsAgainst, HasRoomAlong, HasRoomAgainst}
 
 module _ (net : PricedNetwork) (s : Sheet) (a from to crash : ℕ) (knees : List Knee) (known : a < length net.network.arcs)
     (seen : IsSeen net a from to crash knees)
@@ -25,30 +25,50 @@ module _ (net : PricedNetwork) (s : Sheet) (a from to crash : ℕ) (knees : List
   pub seen-falling : IsFalling here
   seen-falling = same-falling here (stair_at net a) same (stairs.falling a known)
 
-  -- the gap in words of what was seen
-  pub seen-gap : time_of s to - time_of s from ≡ gap_at net s a
-  seen-gap = ap (λ e. time_of s e - time_of s from) seen.ends ∙ ap (λ e. time_of s (to_of net.network.arcs a) - time_of s e) seen.begins
-
-  pub seen-on : IsOnStair here (time_of s to - time_of s from) (flow_of s a)
-  seen-on = subst (λ gap. IsOnStair here gap (flow_of s a)) (sym seen-gap) (same-on_stair here (stair_at net a) same (gap_at net s a) (flow_of s a) (stairs.on a known))
-
-  seen-back : (gap flow : ℕ) → gap ≡ gap_at net s a → IsOnStair here gap flow → IsOnStair (stair_at net a) (gap_at net s a) flow
-  seen-back gap flow at on = subst (λ g. IsOnStair (stair_at net a) g flow) at (on_same-stair here (stair_at net a) same gap flow on)
-
-  pub stops-along : (stop : Stop) (gap flow : ℕ) → gap ≡ gap_at net s a → flow ≡ flow_of s a → stop.after + unit_length here flow ≡ gap → 0 < stop.room
-      → flow + stop.room < 2 ^ 64 → (stop.after ≡ 0 → IsOnStair here gap (flow + stop.room)) → StopsAlong net s a stop
-  stops-along stop gap flow at is after some small room = record {
-    after = omega (arith, after, at, same-unit here (stair_at net a) same flow, ap (unit_length (stair_at net a)) is);
+  -- the gap may be as long as the next unit's arc: so much room leads to a flow on the staircase
+  pub room-along : (room flow : ℕ) → flow ≡ flow_of s a → 0 < room → flow + room < 2 ^ 64
+      → ((gap : ℕ) → IsOnStair here gap flow → unit_length here flow ≡ gap → IsOnStair here gap (flow + room))
+      → StopsAlong net s a 0 → HasRoomAlong net s a room
+  room-along room flow is some small on stops = record {
     some = some;
     small = omega (arith, small, is);
-    room = λ now. subst (λ f. IsOnStair (stair_at net a) (gap_at net s a) (f + stop.room)) is (seen-back gap (flow + stop.room) at (room now));
-  }
+    on = subst (λ f. IsOnStair (stair_at net a) (gap_at net s a) (f + room)) is (on_same-stair here (stair_at net a) same (gap_at net s a) (flow + room)
+        (on (gap_at net s a) seen-on (omega (arith, stops, same-unit here (stair_at net a) same flow, ap (unit_length (stair_at net a)) is))));
+  } where
+    seen-on : IsOnStair here (gap_at net s a) flow
+    seen-on = subst (λ f. IsOnStair here (gap_at net s a) f) (sym is) (same-on_stair here (stair_at net a) same (gap_at net s a) (flow_of s a) (stairs.on a known))
 
-  pub stops-against : (stop : Stop) (gap flow : ℕ) → gap ≡ gap_at net s a → flow ≡ flow_of s a → gap + stop.after ≡ unit_length here (flow - 1) → 0 < stop.room
-      → stop.room ≤ flow → (stop.after ≡ 0 → IsOnStair here gap (flow - stop.room)) → StopsAgainst net s a stop
-  stops-against stop gap flow at is after some within room = record {
-    after = omega (arith, after, at, same-unit here (stair_at net a) same (flow - 1), ap (λ f. unit_length (stair_at net a) (f - 1)) is);
+  -- or as long as the last unit's arc
+  pub room-against : (room flow : ℕ) → flow ≡ flow_of s a → 0 < room → room ≤ flow
+      → ((gap : ℕ) → IsOnStair here gap flow → unit_length here (flow - 1) ≡ gap → IsOnStair here gap (flow - room))
+      → StopsAgainst net s a 0 → HasRoomAgainst net s a room
+  room-against room flow is some within on stops = record {
     some = some;
     within = omega (arith, within, is);
-    room = λ now. subst (λ f. IsOnStair (stair_at net a) (gap_at net s a) (f - stop.room)) is (seen-back gap (flow - stop.room) at (room now));
-  }
+    on = subst (λ f. IsOnStair (stair_at net a) (gap_at net s a) (f - room)) is (on_same-stair here (stair_at net a) same (gap_at net s a) (flow - room)
+        (on (gap_at net s a) seen-on (omega (arith, stops, same-unit here (stair_at net a) same (flow - 1), ap (λ f. unit_length (stair_at net a) (f - 1)) is))));
+  } where
+    seen-on : IsOnStair here (gap_at net s a) flow
+    seen-on = subst (λ f. IsOnStair here (gap_at net s a) f) (sym is) (same-on_stair here (stair_at net a) same (gap_at net s a) (flow_of s a) (stairs.on a known))
+
+-- the lengths that are kept, and the gap
+module _ (net : PricedNetwork) (s : Sheet) (a from to : ℕ) (known : a < length net.network.arcs) (begins : from ≡ from_of net.network.arcs a)
+    (ends : to ≡ to_of net.network.arcs a) (board : IsPricedBoard net s) where
+  -- the gap in words of what was seen
+  gap-seen : time_of s to - time_of s from ≡ gap_at net s a
+  gap-seen = ap (λ e. time_of s e - time_of s from) ends ∙ ap (λ e. time_of s (to_of net.network.arcs a) - time_of s e) begins
+
+  pub seen-ahead : time_of s from ≤ time_of s to
+  seen-ahead = omega (arith, board.stairs.ahead a known, ap (time_of s) begins, ap (time_of s) ends)
+
+  pub up-fits : up_of s a ≤ time_of s to - time_of s from
+  up-fits = omega (arith, gap-seen, (board.lengths a known).up, (board.stairs.on a known).next)
+
+  pub down-fits : 0 < flow_of s a → time_of s to - time_of s from ≤ down_of s a
+  down-fits flows = omega (arith, gap-seen, (board.lengths a known).down flows, (board.stairs.on a known).last flows)
+
+  pub after-along : (gap up : ℕ) → gap ≡ time_of s to - time_of s from → up ≡ up_of s a → StopsAlong net s a (gap - up)
+  after-along gap up is at = omega (arith, is, at, gap-seen, up-fits, (board.lengths a known).up)
+
+  pub after-against : (gap down : ℕ) → 0 < flow_of s a → gap ≡ time_of s to - time_of s from → down ≡ down_of s a → StopsAgainst net s a (down - gap)
+  after-against gap down flows is at = omega (arith, is, at, gap-seen, down-fits flows, (board.lengths a known).down flows)

@@ -7,7 +7,7 @@ use Rattle.pc_flow.specs.declared.board.board.Board.TheInside.{Inside}
 use Rattle.pc_flow.specs.board.Sheets.{Sheet}
 use Rattle.pc_flow.specs.inside.board.Places.{place_of, span_of, size_of, is_small}
 
--- the board whose columns are the lists f 0 to f 11
+-- the board whose columns are the lists f 0 to f 13
 abbrev pub laid_sheet : ℕ → ℕ → Cells → (ℕ → List ℕ) → ℕ → ℕ → ℕ → ℕ → Sheet
 laid_sheet events activities home f fallen count head len = record {
   events = events;
@@ -25,6 +25,8 @@ laid_sheet events activities home f fallen count head len = record {
   waiting = f 9;
   slot = f 10;
   due = f 11;
+  up = f 12;
+  down = f 13;
   fallen = fallen;
   count = count;
   head = head;

@@ -1,7 +1,7 @@
 -- What one call changes on a board. In each record, `rest` says which lists it touches at all.
 use Rattle.std.specs.Prelude.{◌≡◌, ◌≢◌, ℕ, ◌+◌, ◌<◌, ◌≤◌, Bool, if◌then◌else◌}
 use Rattle.pc_flow.specs.board.Sheets.{Sheet, kept_time, rank_of, flow_of}
-use Rattle.pc_flow.specs.inside.board.Sheets.{queue_of, step_of, against_of, near_of, room_of, lost_of, waiting_of, slot_of, due_of}
+use Rattle.pc_flow.specs.inside.board.Sheets.{queue_of, step_of, against_of, near_of, room_of, lost_of, waiting_of, slot_of, due_of, up_of, down_of}
 
 -- event e has the place `place` in the queue
 pub record KeepsAt (s t : Sheet) (e place : ℕ) : Type 0 where
@@ -56,11 +56,27 @@ pub record SetsTime (s t : Sheet) (e time : ℕ) : Type 0 where
   pub time_at : kept_time t e ≡ time
   pub time_off : (f : ℕ) → f ≢ e → kept_time t f ≡ kept_time s f
 
+-- these are the lengths of the arcs of activity a
+pub record SetsLengths (s t : Sheet) (a up down : ℕ) : Type 0 where
+  pub rest : t ≡ record s { up = t.up; down = t.down }
+  pub up_at : up_of t a ≡ up
+  pub up_off : (b : ℕ) → b ≢ a → up_of t b ≡ up_of s b
+  pub down_at : down_of t a ≡ down
+  pub down_off : (b : ℕ) → b ≢ a → down_of t b ≡ down_of s b
+
 -- event e alone has a label
 pub record StartsAt (s t : Sheet) (e : ℕ) : Type 0 where
   pub rest : t ≡ record s { rank = t.rank; queue = t.queue; count = 1 }
   pub queue_at : queue_of t 0 ≡ e
   pub rank_at : rank_of t e ≡ 1
+  pub rank_off : (f : ℕ) → f ≢ e → rank_of t f ≡ rank_of s f
+
+-- event e is the last in the queue
+pub record QueuesLast (s t : Sheet) (e : ℕ) : Type 0 where
+  pub rest : t ≡ record s { rank = t.rank; queue = t.queue; count = s.count + 1 }
+  pub queue_at : queue_of t s.count ≡ e
+  pub queue_off : (k : ℕ) → k ≢ s.count → queue_of t k ≡ queue_of s k
+  pub rank_at : rank_of t e ≡ s.count + 1
   pub rank_off : (f : ℕ) → f ≢ e → rank_of t f ≡ rank_of s f
 
 -- board s with the labels of board t

@@ -2,7 +2,7 @@
 use Rattle.std.specs.Prelude.{◌≡◌, ◌≢◌, ℕ, Bool, not, nat_lt, ◌==◌, ◌&&◌, if◌then◌else◌, List, slice_index}
 use Rattle.pc_cells.specs.declared.span.Span.{Span}
 use Rattle.pc_flow.specs.declared.board.columns.Column.{Column}
-use Rattle.pc_flow.specs.declared.board.columns.Column.TheVariants.{Time, Rank, Queue, Step, Against, Near, Room, Lost, Flow, Waiting, Slot, Due}
+use Rattle.pc_flow.specs.declared.board.columns.Column.TheVariants.{Time, Rank, Queue, Step, Against, Near, Room, Lost, Flow, Waiting, Slot, Due, Up, Down}
 use Rattle.pc_flow.specs.declared.board.columns.Columns.{Columns}
 use Rattle.pc_flow.specs.board.Sheets.{Sheet}
 
@@ -20,6 +20,8 @@ place_of Flow = 8
 place_of Waiting = 9
 place_of Slot = 10
 place_of Due = 11
+place_of Up = 12
+place_of Down = 13
 
 -- where a column stands
 abbrev pub span_of : Columns → Column → Span
@@ -35,6 +37,8 @@ span_of columns Flow = columns.flow
 span_of columns Waiting = columns.waiting
 span_of columns Slot = columns.slot
 span_of columns Due = columns.due
+span_of columns Up = columns.up
+span_of columns Down = columns.down
 
 -- what a column holds
 abbrev pub column_of : Sheet → Column → List ℕ
@@ -50,6 +54,8 @@ column_of s Flow = s.flow
 column_of s Waiting = s.waiting
 column_of s Slot = s.slot
 column_of s Due = s.due
+column_of s Up = s.up
+column_of s Down = s.down
 
 -- the sheet with these numbers in a column
 abbrev pub with_column : Sheet → Column → List ℕ → Sheet
@@ -65,15 +71,17 @@ with_column s Flow xs = record s { flow = xs }
 with_column s Waiting xs = record s { waiting = xs }
 with_column s Slot xs = record s { slot = xs }
 with_column s Due xs = record s { due = xs }
+with_column s Up xs = record s { up = xs }
+with_column s Down xs = record s { down = xs }
 
 -- how many numbers a column has
 abbrev pub size_of : ℕ → ℕ → Column → ℕ
 size_of events activities column = if nat_lt (place_of column) 8 then events else activities
 
--- whether the column at a place has numbers of events or activities, or of places: all but those of times, rooms, flows and
--- falls
+-- whether the column at a place has numbers of events or activities, or of places: all but those of times, rooms, flows,
+-- falls and lengths
 abbrev pub small_at : ℕ → Bool
-small_at n = not (n == 0) && (not (n == 6) && (not (n == 8) && not (n == 11)))
+small_at n = not (n == 0) && (not (n == 6) && (not (n == 8) && nat_lt n 11))
 
 abbrev pub is_small : Column → Bool
 is_small column = small_at (place_of column)

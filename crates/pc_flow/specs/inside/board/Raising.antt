@@ -27,10 +27,10 @@ pub record IsStepTaken (s t : Sheet) (by e : ℕ) : Type 0 where
   pub along : against_of s e ≡ 0 → flow_of t (step_of s e) ≡ flow_of s (step_of s e) + by
   pub against : 0 < against_of s e → flow_of t (step_of s e) + by ≡ flow_of s (step_of s e)
 
--- the flows of the last k steps that led to event e were raised, back to event x
+-- the flows of the last k steps that led to event e were raised, back to event x; nothing is said of the lengths of arcs
 pub record IsRaising (s t : Sheet) (e by k x : ℕ) : Type 0 where
   pub way : IsWayBack s e k x
-  pub rest : t ≡ record s { room = t.room; flow = t.flow }
+  pub rest : t ≡ record s { room = t.room; flow = t.flow; up = t.up; down = t.down }
   pub taken : (j : ℕ) → j < k → IsStepTaken s t by (event_back s e j)
   pub room_off : (f : ℕ) → IsOffWay s e k f → room_of t f ≡ room_of s f
   pub flow_off : (a : ℕ) → ((j : ℕ) → j < k → a ≢ step_of s (event_back s e j)) → flow_of t a ≡ flow_of s a

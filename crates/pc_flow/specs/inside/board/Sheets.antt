@@ -31,6 +31,12 @@ slot_of s a = slice_index s.slot a
 abbrev pub due_of : Sheet → ℕ → ℕ
 due_of s a = slice_index s.due a
 
+abbrev pub up_of : Sheet → ℕ → ℕ
+up_of s a = slice_index s.up a
+
+abbrev pub down_of : Sheet → ℕ → ℕ
+down_of s a = slice_index s.down a
+
 -- a board with 0 at each place
 abbrev pub clear_sheet : Cells → ℕ → ℕ → Sheet
 clear_sheet home events activities = record {
@@ -49,6 +55,8 @@ clear_sheet home events activities = record {
   waiting = replicate activities 0;
   slot = replicate activities 0;
   due = replicate activities 0;
+  up = replicate activities 0;
+  down = replicate activities 0;
   fallen = 0;
   count = 0;
   head = 0;

@@ -6,12 +6,12 @@ use Rattle.pc_flow.specs.declared.board.columns.Column.{Column}
 use Rattle.pc_flow.specs.declared.board.columns.Columns.{Columns}
 use Rattle.pc_flow.specs.inside.board.Places.{place_of, span_of}
 
--- eight spans with a zero for each event, and behind them four with one for each activity
+-- eight spans with a zero for each event, and behind them six with one for each activity
 abbrev pub zeros : ℕ → ℕ → List (List ℕ)
 zeros events activities =
     replicate events 0 ∷ replicate events 0 ∷ replicate events 0 ∷ replicate events 0 ∷ replicate events 0 ∷ replicate events 0
     ∷ replicate events 0 ∷ replicate events 0 ∷ replicate activities 0 ∷ replicate activities 0
-    ∷ replicate activities 0 ∷ replicate activities 0 ∷ []
+    ∷ replicate activities 0 ∷ replicate activities 0 ∷ replicate activities 0 ∷ replicate activities 0 ∷ []
 
 -- the region has these behind its spans, and they are the columns
 pub record AreColumnsTaken (old new : Cells) (events activities : ℕ) (columns : Columns) : Type 0 where

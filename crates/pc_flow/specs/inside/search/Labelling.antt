@@ -40,7 +40,7 @@ MayFall net s by = IsStairFall net.network net.terms (knees_in net) (time_of s) 
 -- the flow was raised by so much along the steps that led to the end, as far as they had room
 pub record HasRaised (net : PricedNetwork) (s t : Sheet) (by : ℕ) : Type 0 where
   pub raised : IsRaised s t net.network.end by
-  pub rest : t ≡ record s { room = t.room; flow = t.flow }
+  pub rest : t ≡ record s { room = t.room; flow = t.flow; up = t.up; down = t.down }
   pub some : 0 < by
   pub search : IsSearch net t
   pub settled : AreSettled net t
@@ -57,9 +57,9 @@ pub record HasFallen (net : PricedNetwork) (s t : Sheet) (by : ℕ) : Type 0 whe
   pub between : IsBetween net t
   pub listed : AreListed net t
 
--- board s relabelled as board t, and with its flows
+-- board s relabelled as board t, and with its flows and their lengths
 abbrev pub risen : Sheet → Sheet → Sheet
-risen s t = record (relabelled s t) { flow = t.flow }
+risen s t = record (relabelled s t) { flow = t.flow; up = t.up; down = t.down }
 
 -- the flow was raised by so much in all, and events were labelled again; times and falls are as they were
 pub record Rises (net : PricedNetwork) (s t : Sheet) (rise : ℕ) : Type 0 where

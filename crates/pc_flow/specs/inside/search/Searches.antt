@@ -6,11 +6,10 @@ use Rattle.pc_model.specs.Network.{IsInRange}
 use Rattle.pc_model.specs.declared.Knee.{Knee}
 use Rattle.pc_model.specs.Schedule.{crash_of, gap_of}
 use Rattle.pc_laws.specs.Stair.{Stair, IsFalling, stair_of, full_reach, unit_length, IsOnStair}
-use Rattle.pc_flow.specs.declared.stair.stop.Stop.{Stop}
 use Rattle.pc_crash.specs.inside.KneeLists.{AreKneesOf}
 use Rattle.pc_crash.specs.Priced.{PricedNetwork, knees_in}
 use Rattle.pc_flow.specs.board.Sheets.{Sheet, time_of, rank_of, flow_of}
-use Rattle.pc_flow.specs.inside.board.Sheets.{queue_of, step_of, against_of, room_of, waiting_of, slot_of}
+use Rattle.pc_flow.specs.inside.board.Sheets.{queue_of, step_of, against_of, room_of, waiting_of, slot_of, up_of, down_of}
 use Rattle.pc_flow.specs.inside.board.Moves.{with_labels}
 use Rattle.pc_flow.specs.inside.board.Labelling.{HasStep, IsRanked, IsRankedBack, HaveSteps, HaveRoom, AreTimes, IsFor, AreJoined}
 use Rattle.pc_flow.specs.declared.search.way.Way.{Way}
@@ -48,12 +47,21 @@ pub record IsOnStairs (net : PricedNetwork) (s : Sheet) : Type 0 where
   pub on : (a : ℕ) → a < length net.network.arcs → IsOnStair (stair_at net a) (gap_at net s a) (flow_of s a)
   pub small : (a : ℕ) → a < length net.network.arcs → flow_of s a + 1 < 2 ^ 64
 
+-- the lengths of the arcs of activity a are kept
+pub record HasLengths (net : PricedNetwork) (s : Sheet) (a : ℕ) : Type 0 where
+  pub up : up_of s a ≡ next_at net s a
+  pub down : 0 < flow_of s a → down_of s a ≡ last_at net s a
+
+abbrev pub AreLengths : PricedNetwork → Sheet → Type 0
+AreLengths net s = (a : ℕ) → a < length net.network.arcs → HasLengths net s a
+
 -- the board is for the network, and on it the flows stand on the staircases at times that fit
 pub record IsPricedBoard (net : PricedNetwork) (s : Sheet) : Type 0 where
   pub in_range : IsInRange net.network
   pub fits : IsFor net.network s
   pub times : AreTimes s
   pub stairs : IsOnStairs net s
+  pub lengths : AreLengths net s
 
 -- what the room of each step leads to stands on the staircase too
 pub record AreLed (net : PricedNetwork) (s : Sheet) : Type 0 where
@@ -75,6 +83,7 @@ pub record IsSearch (net : PricedNetwork) (s : Sheet) : Type 0 where
   pub joined : AreJoined net.network s
   pub waiting : IsWaiting s
   pub stairs : IsOnStairs net s
+  pub lengths : AreLengths net s
   pub led : AreLed net s
 
 -- labels may cross activity a along it, or against it
@@ -104,23 +113,28 @@ pub record IsSeen (net : PricedNetwork) (a from to crash : ℕ) (knees : List Kn
   pub lasts : crash ≡ crash_of net.terms a
   pub bends : AreKneesOf (knees_in net) a knees
 
--- after so much of a fall the gap is the next unit's arc; where that is now, the room leads to a flow on the staircase
-pub record StopsAlong (net : PricedNetwork) (s : Sheet) (a : ℕ) (stop : Stop) : Type 0 where
-  pub after : stop.after + next_at net s a ≡ gap_at net s a
-  pub some : 0 < stop.room
-  pub small : flow_of s a + stop.room < 2 ^ 64
-  pub room : stop.after ≡ 0 → IsOnStair (stair_at net a) (gap_at net s a) (flow_of s a + stop.room)
+-- after so much of a fall the gap is the next unit's arc
+abbrev pub StopsAlong : PricedNetwork → Sheet → ℕ → ℕ → Type 0
+StopsAlong net s a after = after + next_at net s a ≡ gap_at net s a
 
 -- after so much of a fall the gap is the last unit's arc
-pub record StopsAgainst (net : PricedNetwork) (s : Sheet) (a : ℕ) (stop : Stop) : Type 0 where
-  pub after : gap_at net s a + stop.after ≡ last_at net s a
-  pub some : 0 < stop.room
-  pub within : stop.room ≤ flow_of s a
-  pub room : stop.after ≡ 0 → IsOnStair (stair_at net a) (gap_at net s a) (flow_of s a - stop.room)
+abbrev pub StopsAgainst : PricedNetwork → Sheet → ℕ → ℕ → Type 0
+StopsAgainst net s a after = gap_at net s a + after ≡ last_at net s a
 
-abbrev pub StopsAfter : PricedNetwork → Sheet → ℕ → Way → Stop → Type 0
-StopsAfter net s a Along stop = StopsAlong net s a stop
-StopsAfter net s a Against stop = StopsAgainst net s a stop
+abbrev pub StopsAfter : PricedNetwork → Sheet → ℕ → Way → ℕ → Type 0
+StopsAfter net s a Along after = StopsAlong net s a after
+StopsAfter net s a Against after = StopsAgainst net s a after
+
+-- with so many units more, or fewer, the flow stands on the staircase
+pub record HasRoomAlong (net : PricedNetwork) (s : Sheet) (a room : ℕ) : Type 0 where
+  pub some : 0 < room
+  pub small : flow_of s a + room < 2 ^ 64
+  pub on : IsOnStair (stair_at net a) (gap_at net s a) (flow_of s a + room)
+
+pub record HasRoomAgainst (net : PricedNetwork) (s : Sheet) (a room : ℕ) : Type 0 where
+  pub some : 0 < room
+  pub within : room ≤ flow_of s a
+  pub on : IsOnStair (stair_at net a) (gap_at net s a) (flow_of s a - room)
 
 -- where labels may cross activity a, it stops only after a fall
 pub record StopsLater (net : PricedNetwork) (s : Sheet) (a : ℕ) : Type 0 where

@@ -1,4 +1,4 @@
-use Rattle.std.proofs.Common.{◌≡◌, ◌≤◌, suc, ap, sym, ◌∙◌, subst, arith}
+use Rattle.std.proofs.Common.{◌≡◌, ◌≤◌, suc, refl, ap, sym, ◌∙◌, subst, arith}
 use Rattle.pc_flow.specs.board.Sheets.{Sheet, rank_of}
 use Rattle.pc_flow.specs.inside.board.Sheets.{near_of}
 use Rattle.pc_flow.specs.inside.board.Labelling.{HasStep}
@@ -8,7 +8,7 @@ use Rattle.pc_flow.proofs.lemmas.board.AfterRaising.{raised-stand}
 use Rattle.pc_flow.proofs.board.board.Board.raise.Goals as goal
 
 pub loop-self-init : goal.loop-self-init
-loop-self-init c = (0, raising-begins c.args.self.now c.args.end c.least_room-least.result.by c.requires.known)
+loop-self-init c = (0, raising-begins c.args.self.now c.args.end c.least_room-least.result.by c.requires.known, refl)
 
 pub step_back-requires-clause-room : goal.step_back-requires-clause-room
 step_back-requires-clause-room c =
@@ -39,8 +39,11 @@ loop-self-preserved c =
     let next : IsRaising s c.step_back.new.self c.args.end c.least_room-least.result.by (suc on.0) (near_of s c.loop-self.e) =
     raising-goes_on s c.loop-self.self c.args.end c.least_room-least.result.by on.0 c.loop-self.e c.requires.back c.requires.steps has on.1 c.step_back.new.self c.step_back.ensures in
     let near : near_of s c.loop-self.e ≡ c.near-e.result =
-    sym (c.near-e.ensures ∙ ap (λ (u : Sheet). near_of u c.loop-self.e) (next.rest)) in
-    (suc on.0, subst (λ x. IsRaising s c.step_back.new.self c.args.end c.least_room-least.result.by (suc on.0) x) near next)
+    sym (c.near-e.ensures ∙ ap (λ (u : Sheet). near_of u c.loop-self.e) (next.rest)) in (
+      suc on.0,
+      subst (λ x. IsRaising s c.step_back.new.self c.args.end c.least_room-least.result.by (suc on.0) x) near next,
+      c.step_back.ensures.rest ∙ ap (λ (u : Sheet). record u { room = c.step_back.new.self.room; flow = c.step_back.new.self.flow }) on.2,
+    )
 
 pub returns : goal.returns
 returns c =
@@ -54,5 +57,6 @@ returns c =
     raising-ends s t c.args.end by on.0 c.loop-self.e least.0 c.requires.ranked c.requires.back c.requires.room c.requires.led last least.1.least on.1 in
     record {
       raised = (on.0, raised);
+      lengths = on.2;
       stand = raised-stand s t c.args.end by on.0 c.requires.steps raised c.least_room-least.result.standing least.0 least.1 c.requires.room;
     }
