@@ -10,7 +10,7 @@ use Rattle.pc_audit.specs.Certificate.{HasVerdict, Certifies, ProvesCurve}
 use Rattle.pc_audit.specs.CheckOutcome.{OfBoth, IsChecked, IsCheckCut, deck_unread, cert_unread, in_verdict, in_refusal, in_check_usage}
 use Rattle.pc_audit.specs.inside.CheckOutcome.{CheckOutcome, certified, not_certified, deck_refused, check_usage, no_memory, read_fault, write_fault}
 use Rattle.pc_shell.specs.OneWord.{IsOneWord}
-use Rattle.pc_shell.specs.Sides.{Side, HadNoFault, OfDeck, Took}
+use Rattle.pc_shell.specs.Sides.{Side, HadNoFault, OfBytes, Took}
 use Rattle.pc_shell.specs.Verdict.{AcceptedBy, RefusedBy, IsFault}
 use Rattle.pc_audit.proofs.CheckLaws.{curve_of, one_verdict}
 use Rattle.pc_shell.proofs.ReadingLaws.{refusal_is_fault}
@@ -88,7 +88,7 @@ module _ {D C O E : Type 0} (words : List (String Global)) (deck : Side D) (cert
 
   -- a deck that is not refused is accepted
   pub not_refused_accepts : IsOneWord words → HadNoFault deck → (status : Status) → CheckOutcome words deck cert out err status →
-      answer ≡ code_of status → OfDeck deck (λ bytes. (RefusedBy bytes → ⊥) → AcceptedBy bytes ⊎ (answer ≡ 3))
+      answer ≡ code_of status → OfBytes deck (λ bytes. (RefusedBy bytes → ⊥) → AcceptedBy bytes ⊎ (answer ≡ 3))
   not_refused_accepts asked reads _ (certified segments is read same) code = of_one (deck.bytes deck.old) AcceptedBy _ (λ bytes accepted never. inl accepted) is.accepted
   not_refused_accepts asked reads _ (not_certified line reason is same) code = of_one (deck.bytes deck.old) AcceptedBy _ (λ bytes accepted never. inl accepted) is.accepted
   not_refused_accepts asked reads _ (deck_refused is same also) code =
@@ -104,7 +104,7 @@ module _ {D C O E : Type 0} (words : List (String Global)) (deck : Side D) (cert
 
   -- a deck with a fault is refused
   pub refused_deck_ends : IsOneWord words → (status : Status) → CheckOutcome words deck cert out err status → answer ≡ code_of status →
-      OfDeck deck (λ bytes. RefusedBy bytes → HadNoFault deck → HadNoFault err → (answer ≡ 1) ⊎ (answer ≡ 3))
+      OfBytes deck (λ bytes. RefusedBy bytes → HadNoFault deck → HadNoFault err → (answer ≡ 1) ⊎ (answer ≡ 3))
   refused_deck_ends asked _ (certified segments is read same) code =
       of_one (deck.bytes deck.old) AcceptedBy _ (λ bytes accepted faulty reads takes. absurd (refusal_denied bytes (faulty.0) accepted (faulty.1))) is.accepted
   refused_deck_ends asked _ (not_certified line reason is same) code =

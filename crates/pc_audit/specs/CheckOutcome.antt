@@ -4,32 +4,32 @@ use Rattle.std.specs.declared.alloc.Global.{Global}
 use Rattle.pc_check.specs.declared.fail.Verdict.{Verdict}
 use Rattle.pc_deck.specs.Limits.{longest_deck}
 use Rattle.pc_audit.specs.Certificate.{check_usage_text, verdict_text, HasVerdict, IsSettledFor, IsUnsettledFor}
-use Rattle.pc_shell.specs.Sides.{Side, HadFault, IsReadToEnd, IsUntouched, OfBytes, OfDeck, Took, TookAtMost, TookFront}
+use Rattle.pc_shell.specs.Sides.{Side, HadFault, IsReadToEnd, IsUntouched, OfBytes, Took, TookAtMost, TookFront}
 use Rattle.pc_shell.specs.OneWord.{IsOneWord, IsRefusalCut}
 use Rattle.pc_shell.specs.Verdict.{AcceptedBy}
 
 -- the bytes that the two sources had left have P, where they tell them
 abbrev pub OfBoth : {D C : Type 0} → Side D → Side C → (List ℕ → List ℕ → Type 0) → Type 0
-OfBoth deck cert P = OfDeck deck (λ bytes. OfBytes cert (P bytes))
+OfBoth deck cert P = OfBytes deck (λ bytes. OfBytes cert (P bytes))
 
 -- there is one word, the deck was read to its end and is accepted, the certificate is found to be this with nothing pulled behind its
 -- first failing line, and the output took the line that says so
 pub record IsChecked {D C O : Type 0} (words : List (String Global)) (deck : Side D) (cert : Side C) (out : Side O) (verdict : Verdict) : Type 0 where
   pub asked : IsOneWord words
   pub read : IsReadToEnd deck
-  pub accepted : OfDeck deck AcceptedBy
+  pub accepted : OfBytes deck AcceptedBy
   pub has : OfBoth deck cert (λ bytes text. HasVerdict bytes text verdict)
-  pub settled : OfDeck deck (λ bytes. IsSettledFor bytes cert verdict)
+  pub settled : OfBytes deck (λ bytes. IsSettledFor bytes cert verdict)
   pub took : Took out (verdict_text verdict)
 
 -- the same, but that a fault of the output came when it had taken a front of the line
 pub record IsVerdictCut {D C O : Type 0} (words : List (String Global)) (deck : Side D) (cert : Side C) (out : Side O) : Type 0 where
   pub asked : IsOneWord words
   pub read : IsReadToEnd deck
-  pub accepted : OfDeck deck AcceptedBy
+  pub accepted : OfBytes deck AcceptedBy
   pub verdict : Verdict
   pub has : OfBoth deck cert (λ bytes text. HasVerdict bytes text verdict)
-  pub settled : OfDeck deck (λ bytes. IsSettledFor bytes cert verdict)
+  pub settled : OfBytes deck (λ bytes. IsSettledFor bytes cert verdict)
   pub took : TookFront out (verdict_text verdict)
 
 -- where a write fault came: in the verdict, in the line of a fault, or in the usage line. The other output is as it was, and
@@ -43,4 +43,4 @@ pub data IsCheckCut {D C O E : Type 0} (words : List (String Global)) (deck : Si
 -- accepted, and the certificate could not be read, of which no line had failed
 pub data IsUnread {D C : Type 0} (deck : Side D) (cert : Side C) : Type 0 where
   deck_unread : HadFault deck → TookAtMost longest_deck deck → IsUntouched cert → IsUnread deck cert
-  cert_unread : IsReadToEnd deck → OfDeck deck AcceptedBy → HadFault cert → OfDeck deck (λ bytes. IsUnsettledFor bytes cert) → IsUnread deck cert
+  cert_unread : IsReadToEnd deck → OfBytes deck AcceptedBy → HadFault cert → OfBytes deck (λ bytes. IsUnsettledFor bytes cert) → IsUnread deck cert

@@ -21,7 +21,7 @@ ghost use Rattle.pc_audit.specs.CheckOutcome.{IsChecked, IsCheckCut, IsUnread, O
 ghost use Rattle.pc_audit.specs.inside.CheckOutcome.{CheckOutcome};
 ghost use Rattle.pc_shell.specs.OneWord.{IsDeckRefused, IsOneWord};
 ghost use Rattle.pc_shell.specs.Priced.{priced_in};
-ghost use Rattle.pc_shell.specs.Sides.{pulled_side, side, HadNoFault, IsReadToEnd, OfDeck, Took};
+ghost use Rattle.pc_shell.specs.Sides.{pulled_side, side, HadNoFault, IsReadToEnd, OfBytes, Took};
 ghost use Rattle.pc_shell.specs.Verdict.{AcceptedBy, IsProjectOf, RefusedBy};
 
 use crate::telling::tell;
@@ -75,7 +75,7 @@ pub fn check_run<D: Source, C: Source, O: Sink, E: Sink>(
     // 1: the deck is refused, and `err` took the line of its fault. Of the certificate nothing was read.
     ensures refused { result ≡ 1 → IsDeckRefused words.now (side D.left D.faults deck.old deck.new)
         (side E.taken E.faults err.old err.new) }
-    ensures refused_read { result ≡ 1 → OfDeck (side D.left D.faults deck.old deck.new)
+    ensures refused_read { result ≡ 1 → OfBytes (side D.left D.faults deck.old deck.new)
         (λ bytes. length bytes ≤ longest_deck → IsReadToEnd (side D.left D.faults deck.old deck.new)) }
     ensures refused_only { result ≡ 1 → (cert.new ≡ cert.old) × (out.new ≡ out.old) }
 
@@ -111,13 +111,13 @@ pub fn check_run<D: Source, C: Source, O: Sink, E: Sink>(
 
     // A deck that is not refused is accepted, as far as it could be read and but for want of memory.
     ensures acceptance { IsOneWord words.now → HadNoFault (side D.left D.faults deck.old deck.new)
-        → OfDeck (side D.left D.faults deck.old deck.new)
+        → OfBytes (side D.left D.faults deck.old deck.new)
         (λ bytes. (RefusedBy bytes → ⊥) → AcceptedBy bytes ⊎ (result ≡ 3)) }
 
     // Where no fault came, the words, the deck and the certificate decide, but for want of memory.
     ensures words_refused { (IsOneWord words.now → ⊥) → HadNoFault (side E.taken E.faults err.old err.new)
         → result ≡ 2 }
-    ensures deck_refused { IsOneWord words.now → OfDeck (side D.left D.faults deck.old deck.new)
+    ensures deck_refused { IsOneWord words.now → OfBytes (side D.left D.faults deck.old deck.new)
         (λ bytes. RefusedBy bytes → HadNoFault (side D.left D.faults deck.old deck.new)
         → HadNoFault (side E.taken E.faults err.old err.new) → (result ≡ 1) ⊎ (result ≡ 3)) }
     ensures certificate_right { IsOneWord words.now → OfBoth (side D.left D.faults deck.old deck.new)
@@ -139,7 +139,7 @@ pub fn check_run<D: Source, C: Source, O: Sink, E: Sink>(
     // However long the certificate is, the pulls from it are bounded by the deck's project, and by the certificate's
     // own first upper end: by the lines of the header and the walks, of as many segments as that is long, or of one if
     // it is 0, and two more.
-    ensures turns { OfDeck (side D.left D.faults deck.old deck.new)
+    ensures turns { OfBytes (side D.left D.faults deck.old deck.new)
         (λ bytes. (project : TheProject) → IsProjectOf bytes project
         → TakesPulls (most_bytes (priced_in project) + 1) (C.pulls cert.old) (C.pulls cert.new)) }
     ensures own_turns { OfBoth (side D.left D.faults deck.old deck.new)
@@ -161,7 +161,7 @@ fn check_outcome<D: Source, C: Source, O: Sink, E: Sink>(
     ensures outcome { CheckOutcome words.now (side D.left D.faults deck.old deck.new)
         (pulled_side C.left C.faults C.pulls cert.old cert.new)
         (side O.taken O.faults out.old out.new) (side E.taken E.faults err.old err.new) result }
-    ensures turns { OfDeck (side D.left D.faults deck.old deck.new)
+    ensures turns { OfBytes (side D.left D.faults deck.old deck.new)
         (λ bytes. (project : TheProject) → IsProjectOf bytes project
         → TakesPulls (most_bytes (priced_in project) + 1) (C.pulls cert.old) (C.pulls cert.new)) }
     ensures own_turns { OfBoth (side D.left D.faults deck.old deck.new)

@@ -12,7 +12,7 @@ use Rattle.pc_faults.specs.declared.fault.Fault.{Fault}
 use Rattle.pc_project.specs.Project.{Project}
 use Rattle.pc_shell.specs.declared.reading.NoProject.{NoProject}
 use Rattle.pc_shell.specs.declared.reading.NoProject.TheVariants.{Refused, ReadFault, OutOfMemory}
-use Rattle.pc_shell.specs.Sides.{Side, IsReadToEnd, OfDeck}
+use Rattle.pc_shell.specs.Sides.{Side, IsReadToEnd, OfBytes}
 use Rattle.pc_shell.specs.Reading.{HasProjectBy, HasRefusal, HasRefusalBy, too_long as took_too_much, faulty}
 use Rattle.pc_shell.specs.inside.Reading.{HasNoDeck, HasNoProjectBy, IsNoProjectBy, IsWholeDeck, lacking}
 use Rattle.pc_shell.specs.Verdict.{IsFault, too_long}
@@ -57,17 +57,17 @@ module _ (Has : List ℕ → Fault → Type 0) where
 
     -- a deck that is refused has the fault, where F1 is the fault of one that is too long
     pub refusal_has : ((bytes : List ℕ) (fault : Fault) → longest_deck < length bytes → fault ≡ fault_too_long → Has bytes fault)
-        → (fault : Fault) → HasRefusalBy Has source fault → OfDeck source (λ bytes. Has bytes fault)
+        → (fault : Fault) → HasRefusalBy Has source fault → OfBytes source (λ bytes. Has bytes fault)
     refusal_has long fault (took_too_much is took) =
         of_one (source.bytes source.old) _ _ (λ bytes above. long bytes fault above is) (of_a_long_deck _ _ took.0 took.1 took.2)
     refusal_has long fault (faulty read has) = of_one (source.bytes source.old) _ _ (λ bytes both. both.1) has
 
     -- a deck that is refused and not too long was read to its end
-    pub refusal_reads : (fault : Fault) → HasRefusalBy Has source fault → OfDeck source (λ bytes. length bytes ≤ longest_deck → IsReadToEnd source)
+    pub refusal_reads : (fault : Fault) → HasRefusalBy Has source fault → OfBytes source (λ bytes. length bytes ≤ longest_deck → IsReadToEnd source)
     refusal_reads fault (took_too_much is took) =
         of_one (source.bytes source.old) _ _ (λ bytes long short. absurd (omega (arith, long, short))) (of_a_long_deck _ _ took.0 took.1 took.2)
     refusal_reads fault (faulty read has) = of_one (source.bytes source.old) _ _ (λ bytes both short. read) has
 
 -- the same of a plan
-pub refusal_is_fault : {S : Type 0} (source : Side S) (fault : Fault) → HasRefusal source fault → OfDeck source (λ bytes. IsFault bytes fault)
+pub refusal_is_fault : {S : Type 0} (source : Side S) (fault : Fault) → HasRefusal source fault → OfBytes source (λ bytes. IsFault bytes fault)
 refusal_is_fault source fault refusal = refusal_has IsFault source (λ bytes other long is. too_long long is) fault refusal

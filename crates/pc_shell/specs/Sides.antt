@@ -37,10 +37,6 @@ IsUntouched s = s.new ≡ s.old
 abbrev pub OfBytes : {X : Type 0} → Side X → (List ℕ → Type 0) → Type 0
 OfBytes s P = IfSome (s.bytes s.old) P
 
--- the bytes that the source had left, which are a deck, have P, where it tells them
-abbrev pub OfDeck : {X : Type 0} → Side X → (List ℕ → Type 0) → Type 0
-OfDeck s P = OfBytes s P
-
 -- the source has nothing left
 abbrev pub IsReadToEnd : {X : Type 0} → Side X → Type 0
 IsReadToEnd s = IsAtEnd (s.bytes s.new)

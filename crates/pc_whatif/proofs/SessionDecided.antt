@@ -9,7 +9,7 @@ use Rattle.pc_edges.specs.declared.lines.reader.TheConstants.{INPUT_LIMIT}
 use Rattle.pc_shell.specs.declared.status.Status.{Status}
 use Rattle.pc_shell.specs.inside.Status.{code_of}
 use Rattle.pc_shell.specs.OneWord.{IsOneWord}
-use Rattle.pc_shell.specs.Sides.{Side, HadNoFault, IsReadToEnd, IsUntouched, OfBytes, OfDeck}
+use Rattle.pc_shell.specs.Sides.{Side, HadNoFault, IsReadToEnd, IsUntouched, OfBytes}
 use Rattle.pc_shell.specs.Verdict.{AcceptedBy, RefusedBy, IsFault}
 use Rattle.pc_shell.proofs.ReadingLaws.{refusal_is_fault, refusal_reads}
 use Rattle.pc_shell.proofs.SideLaws.{of_any, of_one}
@@ -79,7 +79,7 @@ module _ {D C O E : Type 0} (means : Meaning) (words : List (String Global)) (de
 
   -- a deck that is refused and not too long was read to its end
   pub refused_is_read : (status : Status) → SessionOutcome means words deck edits out err status → answer ≡ code_of status → answer ≡ 1 →
-      OfDeck deck (λ bytes. length bytes ≤ longest_deck → IsReadToEnd deck)
+      OfBytes deck (λ bytes. length bytes ≤ longest_deck → IsReadToEnd deck)
   refused_is_read _ (heard_out asked is same) code at_1 = absurd (omega (arith, code, at_1))
   refused_is_read _ (too_long asked is same) code at_1 = absurd (omega (arith, code, at_1))
   refused_is_read _ (deck_refused is same also) code at_1 = refusal_reads IsFault deck is.fault is.refusal
@@ -90,7 +90,7 @@ module _ {D C O E : Type 0} (means : Meaning) (words : List (String Global)) (de
 
   -- a deck that is not refused is accepted
   pub not_refused_accepts : IsOneWord words → HadNoFault deck → (status : Status) → SessionOutcome means words deck edits out err status →
-      answer ≡ code_of status → OfDeck deck (λ bytes. (RefusedBy bytes → ⊥) → AcceptedBy bytes ⊎ (answer ≡ 3))
+      answer ≡ code_of status → OfBytes deck (λ bytes. (RefusedBy bytes → ⊥) → AcceptedBy bytes ⊎ (answer ≡ 3))
   not_refused_accepts asked reads _ (heard_out one is same) code = of_one (deck.bytes deck.old) AcceptedBy _ (λ bytes accepted never. inl accepted) is.heard.accepted
   not_refused_accepts asked reads _ (too_long one is same) code = of_one (deck.bytes deck.old) AcceptedBy _ (λ bytes accepted never. inl accepted) is.heard.accepted
   not_refused_accepts asked reads _ (deck_refused is same also) code =
@@ -106,7 +106,7 @@ module _ {D C O E : Type 0} (means : Meaning) (words : List (String Global)) (de
 
   -- a deck with a fault is refused
   pub refused_deck_ends : IsOneWord words → (status : Status) → SessionOutcome means words deck edits out err status →
-      answer ≡ code_of status → OfDeck deck (λ bytes. RefusedBy bytes → HadNoFault deck → HadNoFault err → (answer ≡ 1) ⊎ (answer ≡ 3))
+      answer ≡ code_of status → OfBytes deck (λ bytes. RefusedBy bytes → HadNoFault deck → HadNoFault err → (answer ≡ 1) ⊎ (answer ≡ 3))
   refused_deck_ends asked _ (heard_out one is same) code =
       of_one (deck.bytes deck.old) AcceptedBy _ (λ bytes accepted faulty reads takes. absurd (refusal_denied bytes (faulty.0) accepted (faulty.1))) is.heard.accepted
   refused_deck_ends asked _ (too_long one is same) code =
@@ -124,7 +124,7 @@ module _ {D C O E : Type 0} (means : Meaning) (words : List (String Global)) (de
 
   -- on an accepted deck lines are answered, to the end of the edits or to their limit
   pub accepted_deck_ends : IsOneWord words → (status : Status) → SessionOutcome means words deck edits out err status → answer ≡ code_of status
-      → OfDeck deck (λ bytes. AcceptedBy bytes → HadNoFault deck → HadNoFault edits → HadNoFault out → (answer ≡ 0) ⊎ ((answer ≡ 3) ⊎ (answer ≡ 8)))
+      → OfBytes deck (λ bytes. AcceptedBy bytes → HadNoFault deck → HadNoFault edits → HadNoFault out → (answer ≡ 0) ⊎ ((answer ≡ 3) ⊎ (answer ≡ 8)))
   accepted_deck_ends asked _ (heard_out one is same) code = of_any (deck.bytes deck.old) _ (λ bytes accepted reads also takes. inl code)
   accepted_deck_ends asked _ (too_long one is same) code = of_any (deck.bytes deck.old) _ (λ bytes accepted reads also takes. inr (inr code))
   accepted_deck_ends asked _ (deck_refused is same other) code =

@@ -5,7 +5,7 @@ use Rattle.pc_edges.specs.declared.lines.reader.TheConstants.{INPUT_LIMIT}
 use Rattle.pc_edges.specs.lines.Lines.{lines_of, whole_lines}
 use Rattle.pc_edges.specs.lines.Taken.{AreFirst, IsTakenForLast}
 use Rattle.pc_project.specs.Project.{Project}
-use Rattle.pc_shell.specs.Sides.{Side, HadFault, IsReadToEnd, OfDeck, Took, TookFront}
+use Rattle.pc_shell.specs.Sides.{Side, HadFault, IsReadToEnd, OfBytes, Took, TookFront}
 use Rattle.pc_shell.specs.Verdict.{AcceptedBy, IsProjectOf}
 
 -- the line that says which words are asked for
@@ -51,12 +51,12 @@ pub record HasAnsweredSome {C O : Type 0} (answers : List (List ℕ) → List �
 
 -- the text answers the lines on the deck, where its source tells its bytes
 abbrev pub AnswersDeck : {D : Type 0} → Meaning → Side D → List (List ℕ) → List ℕ → Type 0
-AnswersDeck means deck lines text = OfDeck deck (λ bytes. AnswersOn means bytes lines text)
+AnswersDeck means deck lines text = OfBytes deck (λ bytes. AnswersOn means bytes lines text)
 
 -- the deck was read to its end and is accepted, and lines of the edits were answered on it
 pub record IsHeard {D C O : Type 0} (means : Meaning) (deck : Side D) (edits : Side C) (out : Side O) (lines : List ℕ → List (List ℕ)) : Type 0 where
   pub read : IsReadToEnd deck
-  pub accepted : OfDeck deck AcceptedBy
+  pub accepted : OfBytes deck AcceptedBy
   pub answered : HasAnswered (AnswersDeck means deck) edits out lines
 
 -- the whole lines among the first bytes, as many as edits may have
@@ -85,5 +85,5 @@ pub record IsHeardUnread {D C O : Type 0} (means : Meaning) (deck : Side D) (edi
 -- a fault of the output came when it had taken a front of the answers to the first lines of the bytes that were taken
 pub record IsHeardCut {D C O : Type 0} (means : Meaning) (deck : Side D) (edits : Side C) (out : Side O) : Type 0 where
   pub read : IsReadToEnd deck
-  pub accepted : OfDeck deck AcceptedBy
+  pub accepted : OfBytes deck AcceptedBy
   pub answered : HasAnsweredSome (AnswersDeck means deck) edits out

@@ -6,7 +6,7 @@ ghost use Rattle.pc_edges.specs.declared.loading.TheConstants.{STREAM_ROOM};
 ghost use Rattle.pc_edges.specs.lines.Taken.{IsTakenWithin};
 ghost use Rattle.pc_edges.specs.declared.lines.reader.TheConstants.{INPUT_LIMIT};
 ghost use Rattle.pc_shell.specs.OneWord.{IsDeckRefused, IsOneWord};
-ghost use Rattle.pc_shell.specs.Sides.{side, pulled_side, HadNoFault, IsReadToEnd, OfBytes, OfDeck, Took};
+ghost use Rattle.pc_shell.specs.Sides.{side, pulled_side, HadNoFault, IsReadToEnd, OfBytes, Took};
 ghost use Rattle.pc_shell.specs.Verdict.{AcceptedBy, RefusedBy};
 ghost use Rattle.pc_whatif.specs.Heard.{session_usage_text, AnswersOn, IsHeardOut, IsHeardTooLong};
 ghost use Rattle.pc_whatif.specs.inside.Hearing.{Hearing, status_of};
@@ -55,7 +55,7 @@ pub fn session_run<D: Source, C: Source, O: Sink, E: Sink>(
     // 1: the deck is refused, and `err` took the line of its fault. Of the edits nothing was read.
     ensures refused { result ≡ 1 → IsDeckRefused words.now (side D.left D.faults deck.old deck.new)
         (side E.taken E.faults err.old err.new) }
-    ensures refused_read { result ≡ 1 → OfDeck (side D.left D.faults deck.old deck.new)
+    ensures refused_read { result ≡ 1 → OfBytes (side D.left D.faults deck.old deck.new)
         (λ bytes. length bytes ≤ longest_deck → IsReadToEnd (side D.left D.faults deck.old deck.new)) }
     ensures refused_only { result ≡ 1 → (edits.new ≡ edits.old) × (out.new ≡ out.old) }
 
@@ -83,7 +83,7 @@ pub fn session_run<D: Source, C: Source, O: Sink, E: Sink>(
 
     // A deck that is not refused is accepted, as far as it could be read and but for want of memory.
     ensures acceptance { IsOneWord words.now → HadNoFault (side D.left D.faults deck.old deck.new)
-        → OfDeck (side D.left D.faults deck.old deck.new) (λ bytes. (RefusedBy bytes → ⊥) →
+        → OfBytes (side D.left D.faults deck.old deck.new) (λ bytes. (RefusedBy bytes → ⊥) →
         AcceptedBy bytes ⊎ (result ≡ 3)) }
 
     // No deck is both accepted and refused.
@@ -93,11 +93,11 @@ pub fn session_run<D: Source, C: Source, O: Sink, E: Sink>(
     ensures words_refused { (IsOneWord words.now → ⊥) → HadNoFault (side E.taken E.faults err.old err.new) →
         result ≡ 2 }
     ensures deck_refused { IsOneWord words.now →
-        OfDeck (side D.left D.faults deck.old deck.new) (λ bytes. RefusedBy bytes
+        OfBytes (side D.left D.faults deck.old deck.new) (λ bytes. RefusedBy bytes
         → HadNoFault (side D.left D.faults deck.old deck.new)
         → HadNoFault (side E.taken E.faults err.old err.new) → (result ≡ 1) ⊎ (result ≡ 3)) }
     ensures deck_accepted { IsOneWord words.now →
-        OfDeck (side D.left D.faults deck.old deck.new) (λ bytes. AcceptedBy bytes
+        OfBytes (side D.left D.faults deck.old deck.new) (λ bytes. AcceptedBy bytes
         → HadNoFault (side D.left D.faults deck.old deck.new)
         → HadNoFault (pulled_side C.left C.faults C.pulls edits.old edits.new)
         → HadNoFault (side O.taken O.faults out.old out.new) → (result ≡ 0) ⊎ ((result ≡ 3) ⊎ (result ≡ 8))) }

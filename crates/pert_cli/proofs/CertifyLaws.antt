@@ -20,7 +20,7 @@ use Rattle.pert_cli.proofs.AnsweredLaws.{answered}
 use Rattle.pert_cli.proofs.FormDeckLaws.{read_project}
 use Rattle.pert_cli.specs.Words.{AskFor}
 use Rattle.pert_cli.specs.Headline.{TookWholeCurve}
-use Rattle.pc_shell.specs.Sides.{Side, OfDeck, Took}
+use Rattle.pc_shell.specs.Sides.{Side, OfBytes, Took}
 use Rattle.pc_shell.specs.Verdict.{IsProjectOf}
 use Rattle.pert_cli.specs.inside.Outcome.{Outcome}
 
@@ -47,7 +47,7 @@ of_deck (Some bytes) out project text took is accepted =
 
 module _ {S O E : Type 0} (words : List (String Global)) (source : Side S) (out : Side O) (err : Side E) (answer : ℕ) where
   -- where a run for `certify` ended with 0, the output took the whole curve
-  pub takes_whole_curve : (status : Status) → Outcome words source out err status → answer ≡ code_of status → answer ≡ 0 → AskFor Certify words → OfDeck source (TookWholeCurve out)
+  pub takes_whole_curve : (status : Status) → Outcome words source out err status → answer ≡ code_of status → answer ≡ 0 → AskFor Certify words → OfBytes source (TookWholeCurve out)
   takes_whole_curve status outcome code at_0 asked =
       let given = answered words source out err answer Certify asked status outcome code at_0 in
       of_deck (source.bytes source.old) out given.1.project given.0 given.2 given.1.reply.right (read_project source Certify given.1.project refl given.1.deck).is

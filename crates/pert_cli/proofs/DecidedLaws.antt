@@ -11,7 +11,7 @@ use Rattle.pert_cli.specs.declared.forms.Form.{Form}
 use Rattle.pert_cli.specs.FormDeck.{AskToRead, IsOwnDeck, ReadsSource, sort_of}
 use Rattle.pert_cli.specs.inside.FormDeck.{IsLeftBy}
 use Rattle.pert_cli.specs.Words.{AskFor, AskForOne}
-use Rattle.pc_shell.specs.Sides.{Side, HadNoFault, IsReadToEnd, IsUntouched, OfDeck}
+use Rattle.pc_shell.specs.Sides.{Side, HadNoFault, IsReadToEnd, IsUntouched, OfBytes}
 use Rattle.pert_cli.specs.Forms.{IsDenial}
 use Rattle.pert_cli.specs.Handing.{IsReply}
 use Rattle.pert_cli.specs.Verdicts.{AcceptedAs, IsFaultAs, IsMadeAs, RefusedAs}
@@ -47,14 +47,14 @@ module _ (form : Form) where
 module _ {S : Type 0} (source : Side S) (form : Form) (reads : ReadsSource form) where
   -- what it has where it is refused
   refusal_is : (fault : Fault) → IsTurnedDown form source fault →
-      OfDeck source (λ bytes. IsFaultAs (sort_of form) bytes fault)
-      ⊎ ((project : Project) × OfDeck source (λ bytes. IsMadeAs (sort_of form) bytes project) × IsDenial form project fault)
+      OfBytes source (λ bytes. IsFaultAs (sort_of form) bytes fault)
+      ⊎ ((project : Project) × OfBytes source (λ bytes. IsMadeAs (sort_of form) bytes project) × IsDenial form project fault)
   refusal_is fault (by_deck refusal) =
       inl (refusal_has (IsFaultAs (sort_of form)) source (long_as (sort_of form)) fault (read_refusal source form fault reads refusal))
   refusal_is fault (by_form project has denial) = inr (project, (read_project source form project reads has).is, denial)
 
   -- it was read to its end, where it is not too long and refused
-  turned_down_is_read : (fault : Fault) → IsTurnedDown form source fault → OfDeck source (λ bytes. length bytes ≤ longest_deck → IsReadToEnd source)
+  turned_down_is_read : (fault : Fault) → IsTurnedDown form source fault → OfBytes source (λ bytes. length bytes ≤ longest_deck → IsReadToEnd source)
   turned_down_is_read fault (by_deck refusal) =
       refusal_reads (IsFaultAs (sort_of form)) source fault (read_refusal source form fault reads refusal)
   turned_down_is_read fault (by_form project has denial) =
@@ -62,27 +62,27 @@ module _ {S : Type 0} (source : Side S) (form : Form) (reads : ReadsSource form)
       of_one (source.bytes source.old) _ _ (λ bytes is short. mine.read) mine.is
 
   -- it is not accepted, where it or the form refuses
-  turned_down_not_accepted : (fault : Fault) (R : List ℕ → Type 0) → IsTurnedDown form source fault → OfDeck source (λ bytes. IsAcceptedFor form bytes → R bytes)
+  turned_down_not_accepted : (fault : Fault) (R : List ℕ → Type 0) → IsTurnedDown form source fault → OfBytes source (λ bytes. IsAcceptedFor form bytes → R bytes)
   turned_down_not_accepted fault R refusal = elim (refusal_is fault refusal) [
     | inl has ↦ from_both (source.bytes source.old) (λ bytes. IsFaultAs (sort_of form) bytes fault) (IsAcceptedFor form) R (fault_not_accepted form fault) has
     | inr denied ↦ from_both (source.bytes source.old) (λ bytes. IsMadeAs (sort_of form) bytes denied.0) (IsAcceptedFor form) R (denial_not_accepted form denied.0 fault denied.2) denied.1
   ]
 
   -- it is not refused, where there is an answer
-  answered_not_refused : (text : List ℕ) (R : List ℕ → Type 0) → IsAnswer form source text → OfDeck source (λ bytes. IsRefusedFor form bytes → R bytes)
+  answered_not_refused : (text : List ℕ) (R : List ℕ → Type 0) → IsAnswer form source text → OfBytes source (λ bytes. IsRefusedFor form bytes → R bytes)
   answered_not_refused text R is =
       from_both (source.bytes source.old) (λ bytes. IsMadeAs (sort_of form) bytes is.project) (IsRefusedFor form) R
       (answer_not_refused form is.project text is.reply) (read_project source form is.project reads is.deck).is
 
   -- and it is accepted, where there is a project
-  project_accepts : (project : Project) (answer : ℕ) → OfDeck source (λ bytes. IsMadeAs (sort_of form) bytes project)
-      → OfDeck source (λ bytes. (RefusedAs (sort_of form) bytes → ⊥) → AcceptedAs (sort_of form) bytes ⊎ (answer ≡ 3))
+  project_accepts : (project : Project) (answer : ℕ) → OfBytes source (λ bytes. IsMadeAs (sort_of form) bytes project)
+      → OfBytes source (λ bytes. (RefusedAs (sort_of form) bytes → ⊥) → AcceptedAs (sort_of form) bytes ⊎ (answer ≡ 3))
   project_accepts project answer is =
       of_one (source.bytes source.old) (λ bytes. IsMadeAs (sort_of form) bytes project) _ (λ bytes made never. inl (accepts_as (sort_of form) bytes project made)) is
 
   -- so it has a fault or is accepted, where it is turned down
   turned_down_accepts : (fault : Fault) (answer : ℕ) → IsTurnedDown form source fault
-      → OfDeck source (λ bytes. (RefusedAs (sort_of form) bytes → ⊥) → AcceptedAs (sort_of form) bytes ⊎ (answer ≡ 3))
+      → OfBytes source (λ bytes. (RefusedAs (sort_of form) bytes → ⊥) → AcceptedAs (sort_of form) bytes ⊎ (answer ≡ 3))
   turned_down_accepts fault answer refusal = elim (refusal_is fault refusal) [
     | inl has ↦ of_one (source.bytes source.old) (λ bytes. IsFaultAs (sort_of form) bytes fault) _ (λ bytes is never. absurd (never (fault, is))) has
     | inr denied ↦ project_accepts denied.0 answer denied.1
@@ -113,7 +113,7 @@ module _ {S O E : Type 0} (words : List (String Global)) (source : Side S) (out 
   module _ (reads : ReadsSource form) where
     -- a deck of the source that is not refused is accepted
     pub not_refused_accepts : HadNoFault source → (status : Status) → Outcome words source out err status → answer ≡ code_of status
-        → OfDeck source (λ bytes. (RefusedAs (sort_of form) bytes → ⊥) → AcceptedAs (sort_of form) bytes ⊎ (answer ≡ 3))
+        → OfBytes source (λ bytes. (RefusedAs (sort_of form) bytes → ⊥) → AcceptedAs (sort_of form) bytes ⊎ (answer ≡ 3))
     not_refused_accepts whole _ (done is same) is_code =
         let mine = its_answer is.form is.text is.asked is.answer in
         project_accepts source form reads mine.project answer (read_project source form mine.project reads mine.deck).is
@@ -129,7 +129,7 @@ module _ {S O E : Type 0} (words : List (String Global)) (source : Side S) (out 
 
     -- an accepted deck of the source is answered
     pub accepted_ends : (status : Status) → Outcome words source out err status → answer ≡ code_of status →
-        OfDeck source (λ bytes. IsAcceptedFor form bytes → HadNoFault source → HadNoFault out → (answer ≡ 0) ⊎ (answer ≡ 3))
+        OfBytes source (λ bytes. IsAcceptedFor form bytes → HadNoFault source → HadNoFault out → (answer ≡ 0) ⊎ (answer ≡ 3))
     accepted_ends _ (done is same) is_code = of_any (source.bytes source.old) _ (λ bytes accepted whole takes. inl is_code)
     accepted_ends _ (refused is same) is_code = turned_down_not_accepted source form reads is.fault _ (its_refusal is.form is.fault is.asked is.refusal)
     accepted_ends _ (usage no_form took same also) is_code = absurd (no_form form asked)
@@ -141,7 +141,7 @@ module _ {S O E : Type 0} (words : List (String Global)) (source : Side S) (out 
 
     -- a refused one is refused
     pub refused_ends : (status : Status) → Outcome words source out err status → answer ≡ code_of status →
-        OfDeck source (λ bytes. IsRefusedFor form bytes → HadNoFault source → HadNoFault err → (answer ≡ 1) ⊎ (answer ≡ 3))
+        OfBytes source (λ bytes. IsRefusedFor form bytes → HadNoFault source → HadNoFault err → (answer ≡ 1) ⊎ (answer ≡ 3))
     refused_ends _ (done is same) is_code = answered_not_refused source form reads is.text _ (its_answer is.form is.text is.asked is.answer)
     refused_ends _ (refused is same) is_code = of_any (source.bytes source.old) _ (λ bytes faulty whole takes. inl is_code)
     refused_ends _ (usage no_form took same also) is_code = absurd (no_form form asked)
@@ -152,7 +152,7 @@ module _ {S O E : Type 0} (words : List (String Global)) (source : Side S) (out 
     refused_ends _ (write_fault (in_usage no_form took same also)) is_code = absurd (no_form form asked)
 
     -- where it ended with 1, a deck that is not too long was read to its end
-    pub one_is_read : (status : Status) → Outcome words source out err status → answer ≡ code_of status → answer ≡ 1 → OfDeck source (λ bytes. length bytes ≤ longest_deck → IsReadToEnd source)
+    pub one_is_read : (status : Status) → Outcome words source out err status → answer ≡ code_of status → answer ≡ 1 → OfBytes source (λ bytes. length bytes ≤ longest_deck → IsReadToEnd source)
     one_is_read _ (done is same) is_code one = absurd (omega (arith, is_code, one))
     one_is_read _ (refused is same) is_code one = turned_down_is_read source form reads is.fault (its_refusal is.form is.fault is.asked is.refusal)
     one_is_read _ (usage no_form took same also) is_code one = absurd (omega (arith, is_code, one))

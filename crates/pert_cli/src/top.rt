@@ -13,7 +13,7 @@ ghost use Rattle.pert_cli.specs.Headline.{TookWholeCurve};
 ghost use Rattle.pert_cli.specs.Arrows.{TookArrows};
 ghost use Rattle.pert_cli.specs.Migrate.{TookSameProject};
 ghost use Rattle.pert_cli.specs.Words.{AskFor, AskForOne, AskForNone, usage_text};
-ghost use Rattle.pc_shell.specs.Sides.{side, HadFault, HadNoFault, IsReadToEnd, OfDeck, Took, TookAtMost};
+ghost use Rattle.pc_shell.specs.Sides.{side, HadFault, HadNoFault, IsReadToEnd, OfBytes, Took, TookAtMost};
 ghost use Rattle.pert_cli.specs.Verdicts.{AcceptedAs, IsMadeAs, RefusedAs};
 ghost use Rattle.pert_cli.specs.Outcome.{IsAcceptedFor, IsCut, IsDone, IsRefused, IsRefusedFor};
 ghost use Rattle.pert_cli.specs.inside.Outcome.{Outcome};
@@ -57,24 +57,24 @@ pub fn run<S: Source, O: Sink, E: Sink>(
     // every length from the all-crash to the all-normal length the durations and event times printed for it are a
     // schedule of that length, cost what is printed, and no schedule of that length costs less; the printed flow proves
     // this, and the printed cut gives the slope.
-    ensures headline { result ≡ 0 → AskFor Certify words.now → OfDeck (side S.left S.faults source.old source.new)
+    ensures headline { result ≡ 0 → AskFor Certify words.now → OfBytes (side S.left S.faults source.old source.new)
         (TookWholeCurve (side O.taken O.faults out.old out.new)) }
 
     // At 0 for `migrate`, `out` took a deck that is accepted and has the same project, and for which `migrate` writes
     // the same bytes.
-    ensures migrated { result ≡ 0 → AskFor Migrate words.now → OfDeck (side S.left S.faults source.old source.new)
+    ensures migrated { result ≡ 0 → AskFor Migrate words.now → OfBytes (side S.left S.faults source.old source.new)
         (TookSameProject (side O.taken O.faults out.old out.new)) }
 
     // At 0 for `arrows`, the deck is an accepted deck of tasks, and `out` took a deck that is accepted and has the
     // project of the plan generated from them: it has a schedule for a length exactly if the tasks have one, and the
     // same least cost.
-    ensures drawn { result ≡ 0 → AskFor Arrows words.now → OfDeck (side S.left S.faults source.old source.new)
+    ensures drawn { result ≡ 0 → AskFor Arrows words.now → OfBytes (side S.left S.faults source.old source.new)
         (TookArrows (side O.taken O.faults out.old out.new)) }
 
     // 1: the words ask for a form, its deck or the form refuses with a fault, and `err` took the line of the fault.
     ensures refused { result ≡ 1 → IsRefused words.now (side S.left S.faults source.old source.new)
         (side E.taken E.faults err.old err.new) }
-    ensures refused_read { result ≡ 1 → AskToRead words.now → OfDeck (side S.left S.faults source.old source.new)
+    ensures refused_read { result ≡ 1 → AskToRead words.now → OfBytes (side S.left S.faults source.old source.new)
         (λ bytes. length bytes ≤ longest_deck → IsReadToEnd (side S.left S.faults source.old source.new)) }
     ensures refused_only { result ≡ 1 → out.new ≡ out.old }
 
@@ -104,7 +104,7 @@ pub fn run<S: Source, O: Sink, E: Sink>(
     // A deck that is not refused is accepted, unless it could not be read or memory ran out.
     ensures acceptance { (form : TheForm) → AskFor form words.now → ReadsSource form →
         HadNoFault (side S.left S.faults source.old source.new)
-        → OfDeck (side S.left S.faults source.old source.new)
+        → OfBytes (side S.left S.faults source.old source.new)
         (λ bytes. (RefusedAs (sort_of form) bytes → ⊥) → AcceptedAs (sort_of form) bytes ⊎ (result ≡ 3)) }
 
     // An accepted deck has one answer to each form that does not print a schedule of least cost, of which there may be
@@ -128,11 +128,11 @@ pub fn run<S: Source, O: Sink, E: Sink>(
     // form's own.
     ensures words_refused { AskForNone words.now → HadNoFault (side E.taken E.faults err.old err.new) → result ≡ 2 }
     ensures deck_accepted { (form : TheForm) → AskFor form words.now → ReadsSource form
-        → OfDeck (side S.left S.faults source.old source.new) (λ bytes. IsAcceptedFor form bytes
+        → OfBytes (side S.left S.faults source.old source.new) (λ bytes. IsAcceptedFor form bytes
         → HadNoFault (side S.left S.faults source.old source.new)
         → HadNoFault (side O.taken O.faults out.old out.new) → (result ≡ 0) ⊎ (result ≡ 3)) }
     ensures deck_refused { (form : TheForm) → AskFor form words.now → ReadsSource form
-        → OfDeck (side S.left S.faults source.old source.new) (λ bytes. IsRefusedFor form bytes
+        → OfBytes (side S.left S.faults source.old source.new) (λ bytes. IsRefusedFor form bytes
         → HadNoFault (side S.left S.faults source.old source.new)
         → HadNoFault (side E.taken E.faults err.old err.new) → (result ≡ 1) ⊎ (result ≡ 3)) }
     ensures own_accepted { (form : TheForm) (deck : List ℕ) → AskFor form words.now → IsOwnDeck form deck →
