@@ -10,6 +10,7 @@ pub mod KeptLaws
 pub mod LabelLaws
 pub mod LengthLaws
 pub mod LinkLaws
+pub mod MeasureLaws
 pub mod RaiseLaws
 pub mod RaisedLaws
 pub mod SeekLaws

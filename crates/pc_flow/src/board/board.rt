@@ -13,9 +13,10 @@ use std::marker::Model;
 ///
 /// Each event has a time. An event with a label has a rank, its place in the queue counted from 1, and the step that
 /// gave it the label: an activity, whether the step goes against it, the event from which the step comes, and how much
-/// more may flow there. The time of an event without a label is kept with the sum of all steps of the times added, so
-/// that such a step changes none. Each activity has its flow, and may be on the list of those that wait for a step of
-/// the times, with a sum of these steps before which it does not stop.
+/// more may flow there at least. The time of an event without a label is kept with the sum of all steps of the times
+/// added, so that such a step changes none. Each activity has its flow and the lengths of the arcs on which its next
+/// unit and its last one run, and may be on the list of those that wait for a step of the times, with a sum of these
+/// steps before which it does not stop.
 #[derive(Drop)]
 pub struct Board {
     region: Region,

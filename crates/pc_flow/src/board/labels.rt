@@ -1,9 +1,9 @@
 //! The events with a label, and the steps that gave it to them.
 
-ghost use Rattle.std.specs.Prelude.{◌≡◌, ◌+◌, ◌-◌, ◌<◌, ◌≤◌, ◌^◌};
+ghost use Rattle.std.specs.Prelude.{◌≡◌, ◌+◌, ◌-◌, ◌<◌, ◌≤◌, ◌^◌, IsTrue, IsFalse};
 ghost use Rattle.pc_flow.specs.board.Sheets.{rank_of, flow_of, kept_time, time_of};
 ghost use Rattle.pc_flow.specs.inside.board.Sheets.{queue_of, step_of, against_of, near_of, room_of, lost_of, up_of, down_of};
-ghost use Rattle.pc_flow.specs.inside.board.Moves.{KeepsAt, LosesAt, StepsBack, SetsStep, SetsTime, SetsLengths, StartsAt, QueuesLast, EntersAt};
+ghost use Rattle.pc_flow.specs.inside.board.Moves.{KeepsAt, LosesAt, StepsBack, SetsStep, SetsRoom, SetsTime, SetsLengths, StartsAt, QueuesLast, EntersAt};
 
 use crate::board::board::Board;
 use crate::board::columns::Column;
@@ -88,12 +88,29 @@ impl Board {
         self.number(Column::Near, e)
     }
 
-    /// Returns how much the flow of this step may still change.
+    /// Returns how much the flow of this step may still change at least.
     pub fn room(&self, e: u32) -> u64
         requires { e < self.now.events }
         ensures { result ≡ room_of self.now e }
     {
         self.get(Column::Room, e)
+    }
+
+    /// Returns whether the step that gave an event its label goes against its activity.
+    pub fn is_against(&self, e: u32) -> bool
+        requires { e < self.now.events }
+        ensures against { IsTrue result → 0 < against_of self.now e }
+        ensures along { IsFalse result → against_of self.now e ≡ 0 }
+    {
+        self.number(Column::Against, e) > 0
+    }
+
+    /// Sets how much the flow of this step may still change at least.
+    pub fn set_room(&mut self, e: u32, room: u64)
+        requires { e < self.old.events }
+        ensures { SetsRoom self.old self.new e room }
+    {
+        self.set(Column::Room, e, room);
     }
 
     /// Returns an event that lost its label.

@@ -9,7 +9,7 @@ ghost use Rattle.pc_flow.specs.inside.search.Searches.{IsSearch, IsSeen, IsPrice
 
 use crate::search::search::Search;
 use crate::search::way::Way;
-use crate::stair::{Knee, room_against, room_along};
+use crate::stair::Knee;
 use pc_crash::{Look, Steps};
 use std::sync::ledger::Ledger;
 
@@ -233,8 +233,8 @@ impl<'n> Search<'n> {
             self.wait(a);
             return;
         }
-        let room = room_along(knees, crash, self.board.flow(a));
-        self.board.enter(to, a, false, from, room);
+        // One unit more fits. How many do is measured once the flow is raised here.
+        self.board.enter(to, a, false, from, 1);
     }
 
     // Labels the event where an activity begins that labels may cross against it, or has the activity wait.
@@ -253,8 +253,7 @@ impl<'n> Search<'n> {
             self.wait(a);
             return;
         }
-        let room = room_against(knees, crash, self.board.flow(a));
-        self.board.enter(from, a, true, to, room);
+        self.board.enter(from, a, true, to, 1);
     }
 
     // Has an activity wait that stops only after a fall.

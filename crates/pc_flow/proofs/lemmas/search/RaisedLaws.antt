@@ -159,7 +159,7 @@ module _ (net : PricedNetwork) (known : IsKnown net) (order : List ℕ) (ordered
 
   pub has_raised : AreLengths net t → AreSettled net s → HasRaised net s t by
   has_raised lengths settled = record {
-    raised = (k, raised);
+    raised = (s.room, (k, raised));
     rest = rest;
     some = raised.some;
     search = search-raised lengths;

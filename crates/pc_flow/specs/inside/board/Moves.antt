@@ -50,6 +50,12 @@ pub record SetsStep (s t : Sheet) (e a : ℕ) (against : Bool) (near room : ℕ)
   pub rest : t ≡ record s { step = t.step; against = t.against; near = t.near; room = t.room }
   pub step : IsStepSet s t e a against near room
 
+-- the step of event e has so much room
+pub record SetsRoom (s t : Sheet) (e room : ℕ) : Type 0 where
+  pub rest : t ≡ record s { room = t.room }
+  pub room_at : room_of t e ≡ room
+  pub room_off : (f : ℕ) → f ≢ e → room_of t f ≡ room_of s f
+
 -- this is kept of the time of event e
 pub record SetsTime (s t : Sheet) (e time : ℕ) : Type 0 where
   pub rest : t ≡ record s { time = t.time }

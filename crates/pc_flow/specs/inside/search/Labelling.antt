@@ -1,6 +1,6 @@
 -- What holds of a search between two labellings of the events: a raising, a fall, and a whole labelling keep it.
 -- Here is what no clause of a top call and no law reaches.
-use Rattle.std.specs.Prelude.{◌≡◌, ℕ, ◌+◌, ◌^◌, ◌<◌, ◌≤◌, ◌⊎◌}
+use Rattle.std.specs.Prelude.{◌≡◌, ℕ, ◌+◌, ◌^◌, ◌<◌, ◌≤◌, ◌⊎◌, List}
 use Rattle.pc_model.specs.Schedule.{IsAllCrashLength}
 use Rattle.pc_laws.specs.Flow.{outflow}
 use Rattle.pc_laws.specs.Steps.{IsStairOptimal, IsStairFall}
@@ -37,9 +37,9 @@ pub record IsBetween (net : PricedNetwork) (s : Sheet) : Type 0 where
 abbrev pub MayFall : PricedNetwork → Sheet → ℕ → Type 0
 MayFall net s by = IsStairFall net.network net.terms (knees_in net) (time_of s) (flow_of s) (moving s) by
 
--- the flow was raised by so much along the steps that led to the end, as far as they had room
+-- the flow was raised by so much along the steps that led to the end, as far as they had room when this was measured
 pub record HasRaised (net : PricedNetwork) (s t : Sheet) (by : ℕ) : Type 0 where
-  pub raised : IsRaised s t net.network.end by
+  pub raised : (rooms : List ℕ) × IsRaised (record s { room = rooms }) t net.network.end by
   pub rest : t ≡ record s { room = t.room; flow = t.flow; up = t.up; down = t.down }
   pub some : 0 < by
   pub search : IsSearch net t

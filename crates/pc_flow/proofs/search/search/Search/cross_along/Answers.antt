@@ -1,6 +1,6 @@
 use Rattle.std.proofs.Common.{arith}
 use Rattle.pc_flow.specs.declared.search.way.Way.TheVariants.{Along}
-use Rattle.pc_flow.proofs.lemmas.search.StopLaws.{seen-reach, seen-falling, room-along}
+use Rattle.pc_flow.proofs.lemmas.search.MeasureLaws.{unit-along}
 use Rattle.pc_flow.proofs.lemmas.search.CrossLaws.{stops-later, to-room, crossed-along}
 use Rattle.pc_flow.proofs.search.search.Search.cross_along.Goals as goal
 
@@ -9,19 +9,6 @@ wait-requires-clause-later c =
     stops-later c.args.self.now.net.now c.args.self.now.board c.args.a c.requires.search c.requires.known c.requires.room
     Along c.stops_along-after.result c.requires.way c.stops_along-after.ensures c.if-after-gt0.true
 
-pub room_along-room-requires-clause-knees : goal.room_along-room-requires-clause-knees
-room_along-room-requires-clause-knees c =
-    seen-reach c.args.self.now.net.now c.args.self.now.board c.args.a c.args.from c.args.to c.args.crash c.args.knees.now c.requires.known c.requires.seen
-    c.requires.search.stairs
-
-pub room_along-room-requires-clause-falling : goal.room_along-room-requires-clause-falling
-room_along-room-requires-clause-falling c =
-    seen-falling c.args.self.now.net.now c.args.self.now.board c.args.a c.args.from c.args.to c.args.crash c.args.knees.now c.requires.known c.requires.seen
-    c.requires.search.stairs
-
-pub room_along-room-requires-clause-flow : goal.room_along-room-requires-clause-flow
-room_along-room-requires-clause-flow c = omega (arith, c.flow.ensures, c.requires.search.stairs.small c.args.a c.requires.known)
-
 pub enter-requires-clause-room : goal.enter-requires-clause-room
 enter-requires-clause-room c =
     to-room c.args.self.now.net.now c.args.self.now.board c.args.a c.requires.search c.requires.known c.requires.room c.args.from c.args.to c.args.crash c.args.knees.now c.requires.seen
@@ -29,10 +16,8 @@ enter-requires-clause-room c =
 
 pub returns-clause-visited : goal.returns-clause-visited
 returns-clause-visited c =
-    let found = c.room_along-room.ensures in
     crossed-along c.args.self.now.net.now c.args.self.now.board c.args.a c.requires.search c.requires.known c.requires.room c.args.from c.args.to c.args.crash c.args.knees.now c.requires.seen
-    c.requires.way c.enter.new.self c.room_along-room.result
-    (room-along c.args.self.now.net.now c.args.self.now.board c.args.a c.args.from c.args.to c.args.crash c.args.knees.now c.requires.known c.requires.seen
-    c.requires.search.stairs c.room_along-room.result c.flow.result c.flow.ensures found.some found.small found.room
+    c.requires.way c.enter.new.self 1
+    (unit-along c.args.self.now.net.now c.args.self.now.board c.args.a c.requires.known c.requires.search.stairs
     (omega (arith, c.stops_along-after.ensures, c.if-after-gt0.false)))
     c.enter.ensures
