@@ -6,7 +6,15 @@ ghost use Rattle.pc_crash.specs.inside.Links.{activities_of, link_at};
 ghost use Rattle.pc_flow.specs.board.Sheets.{rank_of};
 ghost use Rattle.pc_flow.specs.inside.board.Labelling.{HaveRoom};
 ghost use Rattle.pc_flow.specs.inside.search.Searches.{IsSearch};
-ghost use Rattle.pc_flow.specs.inside.search.Growing.{IsAt, degree, AreListed, AreSettled, GoesOn, HasSettled, HasGrown};
+ghost use Rattle.pc_flow.specs.inside.search.Growing.{
+  IsAt,
+  degree,
+  AreListed,
+  AreSettled,
+  GoesOn,
+  HasSettled,
+  HasGrown,
+};
 
 use crate::search::search::Search;
 use pc_crash::{Link, Steps};

@@ -5,7 +5,18 @@ ghost use Rattle.pc_model.specs.Network.{IsInRange};
 ghost use Rattle.pc_model.specs.Walk.{from_of, to_of};
 ghost use Rattle.pc_flow.specs.board.Sheets.{rank_of};
 ghost use Rattle.pc_flow.specs.inside.board.Labelling.{HaveRoom, IsFor};
-ghost use Rattle.pc_flow.specs.inside.search.Searches.{IsSearch, IsSeen, IsPricedBoard, IsWay, MayGoAlong, MayGoAgainst, StopsAlong, StopsAgainst, StopsAfter, StopsLater, IsVisited};
+ghost use Rattle.pc_flow.specs.inside.search.Searches.{
+  IsSearch,
+  IsPricedBoard,
+  IsWay,
+  MayGoAlong,
+  MayGoAgainst,
+  StopsAlong,
+  StopsAgainst,
+  StopsAfter,
+  StopsLater,
+  IsVisited,
+};
 
 use crate::search::search::Search;
 use crate::search::way::Way;
@@ -96,17 +107,16 @@ impl<'n> Search<'n> {
             Some(way) => way,
             None => return,
         };
-        let knees = look.knees.as_slice();
         match way {
-            Way::Along => self.cross_along(a, look.from, look.to, look.crash, knees),
-            Way::Against => self.cross_against(a, look.from, look.to, look.crash, knees),
+            Way::Along => self.cross_along(a, look.from, look.to),
+            Way::Against => self.cross_against(a, look.from, look.to),
         }
     }
 
     /// Visits an activity that begins at an event with a label: along it, if its other end has none. One look.
     ///
     /// This and the next three calls get the events at both ends, so that the rank of the other end alone says of most
-    /// activities that labels may not cross. What else is known of an activity is read only where they may.
+    /// activities that labels may not cross. The activity's row is not read at all.
     #[inline(always)]
     pub fn visit_along_from<L: Ledger>(&mut self, a: u32, from: u32, to: u32, steps: &mut Steps<L>)
         requires known { a < length self.old.net.now.network.arcs }
@@ -121,9 +131,7 @@ impl<'n> Search<'n> {
     {
         steps.tick();
         if self.board.rank(to) == 0 {
-            let term = self.net.term(a);
-            let knees = self.net.knees(a);
-            self.cross_along(a, from, to, term.crash, knees.as_slice());
+            self.cross_along(a, from, to);
         }
     }
 
@@ -149,9 +157,7 @@ impl<'n> Search<'n> {
     {
         steps.tick();
         if self.board.rank(from) == 0 && self.board.flow(a) > 0 {
-            let term = self.net.term(a);
-            let knees = self.net.knees(a);
-            self.cross_against(a, from, to, term.crash, knees.as_slice());
+            self.cross_against(a, from, to);
         }
     }
 
@@ -180,9 +186,7 @@ impl<'n> Search<'n> {
         if self.board.rank(from) == 0 {
             return false;
         }
-        let term = self.net.term(a);
-        let knees = self.net.knees(a);
-        self.cross_along(a, from, to, term.crash, knees.as_slice());
+        self.cross_along(a, from, to);
         self.board.rank(to) > 0
     }
 
@@ -211,17 +215,16 @@ impl<'n> Search<'n> {
         if self.board.rank(to) == 0 || self.board.flow(a) == 0 {
             return false;
         }
-        let term = self.net.term(a);
-        let knees = self.net.knees(a);
-        self.cross_against(a, from, to, term.crash, knees.as_slice());
+        self.cross_against(a, from, to);
         self.board.rank(from) > 0
     }
 
     // Labels the event where an activity ends that labels may cross along it, or has the activity wait.
     #[inline(never)]
-    fn cross_along(&mut self, a: u32, from: u32, to: u32, crash: u64, knees: &[Knee])
+    fn cross_along(&mut self, a: u32, from: u32, to: u32)
         requires known { a < length self.old.net.now.network.arcs }
-        requires seen { IsSeen self.old.net.now a from to crash knees.now }
+        requires begins { from ≡ from_of self.old.net.now.network.arcs a }
+        requires ends { to ≡ to_of self.old.net.now.network.arcs a }
         requires search { IsSearch self.old.net.now self.old.board }
         requires room { HaveRoom self.old.board }
         requires way { MayGoAlong self.old.net.now self.old.board a }
@@ -239,9 +242,10 @@ impl<'n> Search<'n> {
 
     // Labels the event where an activity begins that labels may cross against it, or has the activity wait.
     #[inline(never)]
-    fn cross_against(&mut self, a: u32, from: u32, to: u32, crash: u64, knees: &[Knee])
+    fn cross_against(&mut self, a: u32, from: u32, to: u32)
         requires known { a < length self.old.net.now.network.arcs }
-        requires seen { IsSeen self.old.net.now a from to crash knees.now }
+        requires begins { from ≡ from_of self.old.net.now.network.arcs a }
+        requires ends { to ≡ to_of self.old.net.now.network.arcs a }
         requires search { IsSearch self.old.net.now self.old.board }
         requires room { HaveRoom self.old.board }
         requires way { MayGoAgainst self.old.net.now self.old.board a }

@@ -1,7 +1,7 @@
 -- An activity that labels may cross: it waits for a fall, or its far event enters.
-use Rattle.std.proofs.Common.{◌≡◌, ◌≢◌, ℕ, List, ◌<◌, ◌≤◌, Some, true, false, length, sym, ◌∙◌, ap, subst, inl, inr, arith}
+use Rattle.std.proofs.Common.{◌≡◌, ◌≢◌, ℕ, ◌<◌, ◌≤◌, Some, true, false, length, sym, ◌∙◌, ap, subst, inl, inr, arith}
 use Rattle.std.proofs.lemmas.Bool.{cases_eq}
-use Rattle.pc_model.specs.declared.Knee.{Knee}
+use Rattle.pc_model.specs.Walk.{from_of, to_of}
 use Rattle.pc_crash.specs.Priced.{PricedNetwork}
 use Rattle.pc_flow.specs.board.Sheets.{Sheet, kept_time, rank_of}
 use Rattle.pc_flow.specs.inside.board.Sheets.{slot_of}
@@ -10,7 +10,7 @@ use Rattle.pc_flow.specs.inside.board.Labelling.{HaveRoom}
 use Rattle.pc_flow.proofs.lemmas.board.AfterEntering.{IsNewStep, queue-room}
 use Rattle.pc_flow.specs.declared.search.way.Way.{Way}
 use Rattle.pc_flow.specs.declared.search.way.Way.TheVariants.{Along, Against}
-use Rattle.pc_flow.specs.inside.search.Searches.{IsSearch, IsSeen, MayGoAlong, MayGoAgainst, IsWay, StopsAfter, HasRoomAlong, HasRoomAgainst, StopsLater, IsVisited}
+use Rattle.pc_flow.specs.inside.search.Searches.{IsSearch, MayGoAlong, MayGoAgainst, IsWay, StopsAfter, HasRoomAlong, HasRoomAgainst, StopsLater, IsVisited}
 use Rattle.pc_flow.proofs.lemmas.search.VisitLaws.{visited-still, visited-waits}
 use Rattle.pc_flow.proofs.lemmas.search.EnterLaws.{visited-enters}
 
@@ -42,17 +42,17 @@ module _ (net : PricedNetwork) (s : Sheet) (a : ℕ) (search : IsSearch net s) (
             }))
       ]
 
-  module _ (from to crash : ℕ) (knees : List Knee) (seen : IsSeen net a from to crash knees) where
+  module _ (from to : ℕ) (begins : from ≡ from_of net.network.arcs a) (ends : to ≡ to_of net.network.arcs a) where
     pub from-known : from < s.events
-    from-known = omega (arith, seen.begins, search.in_range.from_in a known, search.fits.events)
+    from-known = omega (arith, begins, search.in_range.from_in a known, search.fits.events)
 
     pub to-known : to < s.events
-    to-known = omega (arith, seen.ends, search.in_range.to_in a known, search.fits.events)
+    to-known = omega (arith, ends, search.in_range.to_in a known, search.fits.events)
 
     -- the event where it ends enters
     module _ (may : MayGoAlong net s a) where
       pub to-none : rank_of s to ≡ 0
-      to-none = ap (rank_of s) seen.ends ∙ may.to
+      to-none = ap (rank_of s) ends ∙ may.to
 
       pub to-room : s.count < s.events
       to-room = queue-room s to search.ranked to-known to-none
@@ -65,10 +65,10 @@ module _ (net : PricedNetwork) (s : Sheet) (a : ℕ) (search : IsSearch net s) (
         unlabelled = to-none;
         known = to-known;
         near_known = from-known;
-        near_labelled = omega (arith, ap (rank_of s) seen.begins, may.from);
+        near_labelled = omega (arith, ap (rank_of s) begins, may.from);
         activity = activity;
         some = has.some;
-        along = λ is. (sym seen.begins, sym seen.ends, has.small);
+        along = λ is. (sym begins, sym ends, has.small);
         back = λ is. cc;
       }
 
@@ -79,7 +79,7 @@ module _ (net : PricedNetwork) (s : Sheet) (a : ℕ) (search : IsSearch net s) (
     -- the event where it begins enters
     module _ (may : MayGoAgainst net s a) where
       pub from-none : rank_of s from ≡ 0
-      from-none = ap (rank_of s) seen.begins ∙ may.from
+      from-none = ap (rank_of s) begins ∙ may.from
 
       pub from-room : s.count < s.events
       from-room = queue-room s from search.ranked from-known from-none
@@ -92,11 +92,11 @@ module _ (net : PricedNetwork) (s : Sheet) (a : ℕ) (search : IsSearch net s) (
         unlabelled = from-none;
         known = from-known;
         near_known = to-known;
-        near_labelled = omega (arith, ap (rank_of s) seen.ends, may.to);
+        near_labelled = omega (arith, ap (rank_of s) ends, may.to);
         activity = activity;
         some = has.some;
         along = λ is. cc;
-        back = λ is. (sym seen.begins, sym seen.ends, has.within);
+        back = λ is. (sym begins, sym ends, has.within);
       }
 
       pub crossed-against : (t : Sheet) (units : ℕ) → HasRoomAgainst net s a units → EntersAt s t from a true to units → IsVisited net s t a

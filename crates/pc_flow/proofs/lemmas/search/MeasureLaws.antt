@@ -105,14 +105,14 @@ module _ (net : PricedNetwork) (s : Sheet) (search : IsSearch net s) (room : Hav
     inside : a < length net.network.arcs
     inside = omega (arith, at, step-inside)
 
-    seen : IsSeen net a (from_of net.network.arcs a) (to_of net.network.arcs a) crash knees
-    seen = record { begins = refl; ends = refl; lasts = lasts; bends = bends }
+    seen : IsSeen net a crash knees
+    seen = record { lasts = lasts; bends = bends }
 
     pub found-reach : full_reach (stair knees crash) < 2 ^ 64
-    found-reach = seen-reach net s a (from_of net.network.arcs a) (to_of net.network.arcs a) crash knees inside seen search.stairs
+    found-reach = seen-reach net s a crash knees inside seen search.stairs
 
     pub found-falling : IsFalling (stair knees crash)
-    found-falling = seen-falling net s a (from_of net.network.arcs a) (to_of net.network.arcs a) crash knees inside seen search.stairs
+    found-falling = seen-falling net s a crash knees inside seen search.stairs
 
     pub found-flow : (flow : ℕ) → flow ≡ flow_of s a → flow + 1 < 2 ^ 64
     found-flow flow is = omega (arith, is, search.stairs.small a inside)
@@ -126,7 +126,7 @@ module _ (net : PricedNetwork) (s : Sheet) (search : IsSearch net s) (room : Hav
     found-along units flow is none some small on = record {
       along = λ same.
           subst (λ b. HasRoomAlong net s b units) at
-          (room-along net s a (from_of net.network.arcs a) (to_of net.network.arcs a) crash knees inside seen search.stairs units flow is some small on
+          (room-along net s a crash knees inside seen search.stairs units flow is some small on
           (subst (λ b. StopsAlong net s b 0) (sym at) (step-along none)));
       against = λ more. absurd (omega (arith, more, none));
     }
@@ -138,7 +138,7 @@ module _ (net : PricedNetwork) (s : Sheet) (search : IsSearch net s) (room : Hav
       along = λ none. absurd (omega (arith, more, none));
       against = λ same.
           subst (λ b. HasRoomAgainst net s b units) at
-          (room-against net s a (from_of net.network.arcs a) (to_of net.network.arcs a) crash knees inside seen search.stairs units flow is some within on
+          (room-against net s a crash knees inside seen search.stairs units flow is some within on
           (subst (λ b. StopsAgainst net s b 0) (sym at) (step-against more)));
     }
 

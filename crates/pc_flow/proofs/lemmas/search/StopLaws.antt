@@ -10,8 +10,8 @@ use Rattle.pc_flow.specs.board.Sheets.{Sheet, time_of, flow_of}
 use Rattle.pc_flow.specs.inside.board.Sheets.{up_of, down_of}
 use Rattle.pc_flow.specs.inside.search.Searches.{stair_at, gap_at, IsSeen, IsOnStairs, IsPricedBoard, StopsAlong, StopsAgainst, HasRoomAlong, HasRoomAgainst}
 
-module _ (net : PricedNetwork) (s : Sheet) (a from to crash : ℕ) (knees : List Knee) (known : a < length net.network.arcs)
-    (seen : IsSeen net a from to crash knees)
+module _ (net : PricedNetwork) (s : Sheet) (a crash : ℕ) (knees : List Knee) (known : a < length net.network.arcs)
+    (seen : IsSeen net a crash knees)
     (stairs : IsOnStairs net s) where
   abbrev here : Stair
   here = stair knees crash

@@ -106,10 +106,8 @@ IsWay net s a (Some Along) = MayGoAlong net s a
 IsWay net s a (Some Against) = MayGoAgainst net s a
 IsWay net s a None = IsQuiet net s a
 
--- activity a begins and ends at these events, and has this crash duration and these knees
-pub record IsSeen (net : PricedNetwork) (a from to crash : ℕ) (knees : List Knee) : Type 0 where
-  pub begins : from ≡ from_of net.network.arcs a
-  pub ends : to ≡ to_of net.network.arcs a
+-- activity a has this crash duration and these knees
+pub record IsSeen (net : PricedNetwork) (a crash : ℕ) (knees : List Knee) : Type 0 where
   pub lasts : crash ≡ crash_of net.terms a
   pub bends : AreKneesOf (knees_in net) a knees
 

@@ -11,12 +11,12 @@ wait-requires-clause-later c =
 
 pub enter-requires-clause-room : goal.enter-requires-clause-room
 enter-requires-clause-room c =
-    from-room c.args.self.now.net.now c.args.self.now.board c.args.a c.requires.search c.requires.known c.requires.room c.args.from c.args.to c.args.crash c.args.knees.now c.requires.seen
+    from-room c.args.self.now.net.now c.args.self.now.board c.args.a c.requires.search c.requires.known c.requires.room c.args.from c.args.to c.requires.begins c.requires.ends
     c.requires.way
 
 pub returns-clause-visited : goal.returns-clause-visited
 returns-clause-visited c =
-    crossed-against c.args.self.now.net.now c.args.self.now.board c.args.a c.requires.search c.requires.known c.requires.room c.args.from c.args.to c.args.crash c.args.knees.now c.requires.seen
+    crossed-against c.args.self.now.net.now c.args.self.now.board c.args.a c.requires.search c.requires.known c.requires.room c.args.from c.args.to c.requires.begins c.requires.ends
     c.requires.way c.enter.new.self 1
     (unit-against c.args.self.now.net.now c.args.self.now.board c.args.a c.requires.known c.requires.search.stairs c.requires.way.some
     (omega (arith, c.stops_against-after.ensures, c.if-after-gt0.false)))

@@ -11,12 +11,12 @@ wait-requires-clause-later c =
 
 pub enter-requires-clause-room : goal.enter-requires-clause-room
 enter-requires-clause-room c =
-    to-room c.args.self.now.net.now c.args.self.now.board c.args.a c.requires.search c.requires.known c.requires.room c.args.from c.args.to c.args.crash c.args.knees.now c.requires.seen
+    to-room c.args.self.now.net.now c.args.self.now.board c.args.a c.requires.search c.requires.known c.requires.room c.args.from c.args.to c.requires.begins c.requires.ends
     c.requires.way
 
 pub returns-clause-visited : goal.returns-clause-visited
 returns-clause-visited c =
-    crossed-along c.args.self.now.net.now c.args.self.now.board c.args.a c.requires.search c.requires.known c.requires.room c.args.from c.args.to c.args.crash c.args.knees.now c.requires.seen
+    crossed-along c.args.self.now.net.now c.args.self.now.board c.args.a c.requires.search c.requires.known c.requires.room c.args.from c.args.to c.requires.begins c.requires.ends
     c.requires.way c.enter.new.self 1
     (unit-along c.args.self.now.net.now c.args.self.now.board c.args.a c.requires.known c.requires.search.stairs
     (omega (arith, c.stops_along-after.ensures, c.if-after-gt0.false)))
