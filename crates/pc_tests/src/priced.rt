@@ -4,7 +4,7 @@ ghost use Rattle.pc_crash.specs.inside.Steps.{IsBlankOf};
 
 use crate::cases::expect_all;
 use crate::small::{small_net, small_priced};
-use pc_crash::{CrashNet, Knee, Steps, Term};
+use pc_crash::{CrashNet, Knee, Link, Steps, Term};
 use pc_text::Code;
 use std::alloc::Global;
 use std::marker::Brand;
@@ -125,6 +125,26 @@ fn small_look(alloc: Global) -> Option<[u64; 6]> {
 #[test]
 fn looks(rt: HostRuntime) {
     assert!(rt; small_look(rt.alloc()) == Some([1, 2, 5, 3, 5, 1]));
+}
+
+/// The activities of two links, each with the event at its other end.
+fn pair(links: &[Link]) -> Option<[u32; 4]> {
+    match links {
+        [first, second] => Some([first.activity, first.other, second.activity, second.other]),
+        _ => None,
+    }
+}
+
+/// The links of the activities that begin at event 0, and of those that end at event 2.
+fn small_links(alloc: Global) -> Option<[[u32; 4]; 2]> {
+    let net = small_net(alloc)?;
+    let priced = small_priced(alloc, &net)?;
+    Some([pair(priced.out_links(0))?, pair(priced.in_links(2))?])
+}
+
+#[test]
+fn links(rt: HostRuntime) {
+    assert!(rt; small_links(rt.alloc()) == Some([[0, 1, 2, 2], [1, 1, 2, 0]]));
 }
 
 /// What the activities cost at their normal durations and at their crash durations, and activity 0 at 3 units.
