@@ -1,5 +1,5 @@
 //! Going on by lines that come again, also where their activities cross the cut.
-ghost use Rattle.std.specs.Prelude.{◌≡◌, ◌≢◌, ◌+◌, ◌^◌, ◌<◌, ◌≤◌, None, IfSome, length};
+ghost use Rattle.std.specs.Prelude.{◌≡◌, ◌≢◌, ◌+◌, ◌^◌, ◌<◌, None, IfSome, length};
 ghost use Rattle.pc_check.specs.inside.Again.{AddsLine, across_at, going};
 ghost use Rattle.pc_check.specs.inside.Along.{TakesAlong};
 ghost use Rattle.pc_check.specs.inside.Bounds.{IsBounded};
@@ -9,50 +9,22 @@ ghost use Rattle.pc_check.specs.inside.Passed.{PassesAcross};
 ghost use Rattle.pc_check.specs.inside.Safe.{IsCutOf, IsSafe, cut_in};
 
 use crate::adding::{Cut, cut_of};
-use crate::again::advance_acts;
+use crate::again::pass_same;
 use crate::gaps::crossing_of;
 use crate::kept::Kept;
-use crate::passed::{Passed, has_gap, passes_again};
+use crate::passed::{Passed, has_gap};
 use pc_cert::{CertReader, EventFront, Place, WIDTH};
 use pc_crash::CrashNet;
 
-/// Takes lines at the front of the piece as `advance_acts` does, or if there is none, as `advance_across` does.
-#[inline(always)]
-pub(crate) fn advance_same(
-    net: &CrashNet<'_>,
-    kept: &mut Kept,
-    fronts: &[EventFront],
-    reader: &mut CertReader,
-    piece: &[u8],
-) -> usize
-    requires safe { IsSafe net.now kept.old.tally }
-    requires fronts { AreFronts net.now fronts.now }
-    requires bounded { IsBounded net.now kept.old }
-    requires place { reader.old.place ≡ kept.old.place }
-    requires going { reader.old.malformed ≡ None }
-    requires alike { reader.old.lines ≡ kept.old.lines }
-    requires few { kept.old.lines < 2 ^ 63 }
-    ensures same_kept { result ≡ 0 → kept.new ≡ kept.old }
-    ensures same_reader { result ≡ 0 → reader.new ≡ reader.old }
-    ensures takes { 0 < result → TakesAlong piece.now result reader.old reader.new (going net.now kept.old)
-        (going net.now kept.new) }
-    ensures bounded { IsBounded net.now kept.new }
-    ensures safe { IsSafe net.now kept.new.tally }
-{
-    let used = advance_acts(net, kept, fronts, reader, piece);
-    if 0 < used {
-        return used;
-    }
-    advance_across(net, kept, fronts, reader, piece)
-}
-
-/// Takes lines at the front of the piece as `advance_acts` does, where each is of an activity that crosses the cut: the
-/// answer is how many bytes they are with their ends. If there is none, nothing changes, and the answer is 0.
+/// Takes lines at the front of the piece, where all events have come and each line is that of the next activity as it
+/// passed last, and passes again: the answer is how many bytes they are with their ends. Where there is none, nothing
+/// changes, and the answer is 0.
 ///
-/// What the activities add to the cut is counted beside the loop too. `advance_acts` does not count it, and has the
-/// shorter loop: in most networks few activities cross the cut. So this loop ends at the first that does not.
+/// The inner loop takes lines of activities that do not cross the cut, and writes nothing, so that it keeps what it
+/// needs in registers: how many activities have come is counted beside it too. At the first line that it does not take
+/// the outer loop adds to the cut what the activity adds, where its line is one that passes across.
 #[inline(never)]
-fn advance_across(
+pub(crate) fn advance_acts(
     net: &CrashNet<'_>,
     kept: &mut Kept,
     fronts: &[EventFront],
@@ -89,6 +61,15 @@ fn advance_across(
     let mut cut = cut_so_far(kept);
     let mut rest = piece;
     loop {
+        loop {
+            let same = pass_same(net, kept, a, activities, &mut place, rest);
+            if same == 0 {
+                break;
+            }
+            rest = &rest[same..];
+            count += 1;
+            a += 1;
+        }
         let used = pass_across(net, kept, a, activities, &mut place, &mut cut, rest);
         if used == 0 {
             break;
@@ -132,8 +113,6 @@ fn pass_across(
 ) -> usize
     requires count { activities ≡ length net.now.network.arcs }
     requires safe { IsSafe net.now (across_at kept.now a cut.old).tally }
-    requires times { net.now.network.events ≤ length kept.now.tally.times.items }
-    requires moves { net.now.network.events ≤ length kept.now.tally.moves.items }
     requires later { kept.now.segments ≢ 0 }
     requires long { kept.now.tally.lower ≢ kept.now.tally.upper }
     ensures known { 0 < result → a < length net.now.network.arcs }
@@ -143,15 +122,11 @@ fn pass_across(
         (across_at kept.now a cut.old) (across_at kept.now (a + 1) cut.new) }
     ensures safe { 0 < result → IsSafe net.now (across_at kept.now (a + 1) cut.new).tally }
 {
-    // As in `advance_acts`, the last bytes of a piece are read one line at a time.
+    // As in `pass_same`, the last bytes of a piece are read one line at a time.
     if activities <= a || piece.len() < WIDTH {
         return 0;
     }
     let last = &kept.tally.rows[a as usize];
-    // A line that does not cross the cut is for the shorter loop.
-    if passes_again(net, kept, a, last) {
-        return 0;
-    }
     // The bytes before the gaps: of most lines that do not pass here they differ.
     if last.text.again(piece) == 0 {
         return 0;

@@ -1,13 +1,13 @@
 //! Going on by a line that comes again, or that is told by how it begins.
 ghost use Rattle.std.specs.Prelude.{◌≡◌, ◌≢◌, ◌+◌, ◌^◌, ◌<◌, ◌≤◌, None, length};
-ghost use Rattle.pc_check.specs.inside.Again.{AddsLine, AreEnds, acts_at, going};
+ghost use Rattle.pc_check.specs.inside.Again.{AddsLine, AreEnds, across_at, going};
 ghost use Rattle.pc_check.specs.inside.Along.{TakesAlong};
 ghost use Rattle.pc_check.specs.inside.Bounds.{IsBounded};
 ghost use Rattle.pc_check.specs.inside.Fronts.{AreFronts};
 ghost use Rattle.pc_check.specs.inside.Passed.{ArePassed};
 ghost use Rattle.pc_check.specs.inside.Safe.{IsSafe};
 
-use crate::adding::add_event;
+use crate::adding::{Cut, add_event};
 use crate::kept::Kept;
 use crate::passed::passes_again;
 use pc_cert::{CertReader, EventFront, Place, WIDTH};
@@ -116,68 +116,10 @@ fn add_told(
     }
 }
 
-/// Takes lines at the front of the piece, where all events have come and each line is that of the next activity as it
-/// passed last, and passes again: the answer is how many bytes they are with their ends. Where there is none, nothing
-/// changes, and the answer is 0.
-///
-/// The loop writes nothing, so that it keeps what it needs in registers: how many activities have come is counted
-/// beside it too.
-#[inline(never)]
-pub(crate) fn advance_acts(
-    net: &CrashNet<'_>,
-    kept: &mut Kept,
-    fronts: &[EventFront],
-    reader: &mut CertReader,
-    piece: &[u8],
-) -> usize
-    requires safe { IsSafe net.now kept.old.tally }
-    requires fronts { AreFronts net.now fronts.now }
-    requires bounded { IsBounded net.now kept.old }
-    requires place { reader.old.place ≡ kept.old.place }
-    requires going { reader.old.malformed ≡ None }
-    requires alike { reader.old.lines ≡ kept.old.lines }
-    requires few { kept.old.lines < 2 ^ 63 }
-    ensures same_kept { result ≡ 0 → kept.new ≡ kept.old }
-    ensures same_reader { result ≡ 0 → reader.new ≡ reader.old }
-    ensures takes { 0 < result → TakesAlong piece.now result reader.old reader.new (going net.now kept.old)
-        (going net.now kept.new) }
-    ensures bounded { IsBounded net.now kept.new }
-    ensures safe { IsSafe net.now kept.new.tally }
-{
-    let _events = net.net().events();
-    let activities = net.net().activities();
-    let mut place = reader.place();
-    if !reader.is_between()
-        || !matches!(place, Place::InSegment { events: 0, .. })
-        || kept.tally.times.len() < fronts.len()
-        || kept.segments == 0
-        || kept.tally.upper == kept.tally.lower
-    {
-        return 0;
-    }
-    let mut count = 0;
-    let mut a = kept.tally.acts;
-    let mut rest = piece;
-    loop {
-        let used = pass_same(net, kept, a, activities, &mut place, rest);
-        if used == 0 {
-            break;
-        }
-        rest = &rest[used..];
-        count += 1;
-        a += 1;
-    }
-    reader.go_on(place, count);
-    kept.place = place;
-    kept.lines += count;
-    kept.tally.acts = a;
-    piece.len() - rest.len()
-}
-
 /// Goes on behind the line at the front of the piece, where it is that of this activity as it passed last, and passes
 /// again: the answer is how many bytes it is with its end. Else nothing changes, and the answer is 0.
 #[inline(always)]
-fn pass_same(
+pub(crate) fn pass_same(
     net: &CrashNet<'_>,
     kept: &Kept,
     a: u32,
@@ -193,8 +135,8 @@ fn pass_same(
     requires long { kept.now.tally.lower ≢ kept.now.tally.upper }
     ensures known { 0 < result → a < length net.now.network.arcs }
     ensures same_place { result ≡ 0 → place.new ≡ place.old }
-    ensures adds { 0 < result → AddsLine net.now piece.now result place.old place.new (acts_at kept.now a)
-        (acts_at kept.now (a + 1)) }
+    ensures adds { (cut : Cut) → 0 < result → AddsLine net.now piece.now result place.old place.new
+        (across_at kept.now a cut) (across_at kept.now (a + 1) cut) }
 {
     if activities <= a {
         return 0;

@@ -10,7 +10,7 @@ ghost use Rattle.pc_check.specs.inside.Checking.{StandsFor};
 ghost use Rattle.pc_check.specs.inside.Along.{TakesAlong};
 ghost use Rattle.pc_check.specs.declared.fail.Fail.{Fail};
 
-use crate::across::advance_same;
+use crate::across::advance_acts;
 use crate::advancing::advance;
 use crate::again::advance_events;
 use crate::fail::{Fail, Verdict};
@@ -158,7 +158,7 @@ impl<'n> Checker<'n> {
         ensures same_reader { result ≡ 0 → reader.new ≡ reader.old }
         ensures takes { 0 < result → TakesAlong piece.now result reader.old reader.new self.old self.new }
     {
-        let used = advance_same(self.net, &mut self.kept, &self.fronts, reader, piece);
+        let used = advance_acts(self.net, &mut self.kept, &self.fronts, reader, piece);
         if 0 < used {
             return used;
         }

@@ -25,10 +25,6 @@ pub record AddsLine (net : PricedNetwork) (piece : List ℕ) (count : ℕ) (befo
   pub none : first_failing (conditions net (known_by old) line) ≡ None
   pub adds : Adds net line old new
 
--- what is kept where so many activities have come
-abbrev pub acts_at : Kept → ℕ → Kept
-acts_at kept a = record kept { tally = record kept.tally { acts = a } }
-
 -- what is kept where so many activities have come, with these sums and this stop of the cut
 abbrev pub across_at : Kept → ℕ → Cut → Kept
 across_at kept a cut = record kept { tally = record kept.tally { acts = a; forward = cut.forward; backward = cut.backward; stops = cut.stops } }

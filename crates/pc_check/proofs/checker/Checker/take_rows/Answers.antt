@@ -10,33 +10,33 @@ use Rattle.pc_check.specs.inside.Fronts.{AreFronts}
 use Rattle.pc_check.proofs.TakeLaws.{when_none}
 use Rattle.pc_check.proofs.checker.Checker.take_rows.Goals as goal
 
-pub advance_same-used-requires-clause-safe : goal.advance_same-used-requires-clause-safe
-advance_same-used-requires-clause-safe c = c.self.invariant.safe
+pub advance_acts-used-requires-clause-safe : goal.advance_acts-used-requires-clause-safe
+advance_acts-used-requires-clause-safe c = c.self.invariant.safe
 
-pub advance_same-used-requires-clause-fronts : goal.advance_same-used-requires-clause-fronts
-advance_same-used-requires-clause-fronts c = subst (λ fs. AreFronts c.self.inside.net.now fs) (sym c.deref.ensures.value) c.self.invariant.fronts
+pub advance_acts-used-requires-clause-fronts : goal.advance_acts-used-requires-clause-fronts
+advance_acts-used-requires-clause-fronts c = subst (λ fs. AreFronts c.self.inside.net.now fs) (sym c.deref.ensures.value) c.self.invariant.fronts
 
-pub advance_same-used-requires-clause-bounded : goal.advance_same-used-requires-clause-bounded
-advance_same-used-requires-clause-bounded c = when_none c.self.inside.fail (ap (λ s. s.fail) c.self.view_is ∙ c.requires.no_fail) c.self.invariant.bounded
+pub advance_acts-used-requires-clause-bounded : goal.advance_acts-used-requires-clause-bounded
+advance_acts-used-requires-clause-bounded c = when_none c.self.inside.fail (ap (λ s. s.fail) c.self.view_is ∙ c.requires.no_fail) c.self.invariant.bounded
 
-pub advance_same-used-requires-clause-place : goal.advance_same-used-requires-clause-place
-advance_same-used-requires-clause-place c = c.requires.place ∙ sym (ap (λ s. s.kept.place) c.self.view_is)
+pub advance_acts-used-requires-clause-place : goal.advance_acts-used-requires-clause-place
+advance_acts-used-requires-clause-place c = c.requires.place ∙ sym (ap (λ s. s.kept.place) c.self.view_is)
 
-pub advance_same-used-requires-clause-going : goal.advance_same-used-requires-clause-going
-advance_same-used-requires-clause-going c = c.requires.going
+pub advance_acts-used-requires-clause-going : goal.advance_acts-used-requires-clause-going
+advance_acts-used-requires-clause-going c = c.requires.going
 
-pub advance_same-used-requires-clause-alike : goal.advance_same-used-requires-clause-alike
-advance_same-used-requires-clause-alike c = c.requires.alike ∙ sym (ap (λ s. s.kept.lines) c.self.view_is)
+pub advance_acts-used-requires-clause-alike : goal.advance_acts-used-requires-clause-alike
+advance_acts-used-requires-clause-alike c = c.requires.alike ∙ sym (ap (λ s. s.kept.lines) c.self.view_is)
 
-pub advance_same-used-requires-clause-few : goal.advance_same-used-requires-clause-few
-advance_same-used-requires-clause-few c = omega (arith, ap (λ s. s.kept.lines) c.self.view_is, c.requires.few)
+pub advance_acts-used-requires-clause-few : goal.advance_acts-used-requires-clause-few
+advance_acts-used-requires-clause-few c = omega (arith, ap (λ s. s.kept.lines) c.self.view_is, c.requires.few)
 
 pub invariant_of-self : goal.invariant_of-self
 invariant_of-self c =
     let none : c.self.inside.fail ≡ None = ap (λ s. s.fail) c.self.view_is ∙ c.requires.no_fail in
     record {
-      safe = c.advance_same-used.ensures.safe;
-      bounded = subst (λ f. IfNone f (IsBounded c.self.inside.net.now c.advance_same-used.new.kept)) (sym none) c.advance_same-used.ensures.bounded;
+      safe = c.advance_acts-used.ensures.safe;
+      bounded = subst (λ f. IfNone f (IsBounded c.self.inside.net.now c.advance_acts-used.new.kept)) (sym none) c.advance_acts-used.ensures.bounded;
       fronts = c.self.invariant.fronts;
     }
 
@@ -50,39 +50,39 @@ pub returns-then-used-gt0-clause-takes : goal.returns-then-used-gt0-clause-takes
 returns-then-used-gt0-clause-takes c = λ some.
     let none : c.self.inside.fail ≡ None = ap (λ s. s.fail) c.self.view_is ∙ c.requires.no_fail in
     let net = c.self.inside.net.now in
-    let new = c.advance_same-used.new in
-    subst (λ (k : Checking). TakesAlong c.args.piece.now c.advance_same-used.result c.args.reader.now new.reader k (record { net = net; kept = new.kept; fail = c.self.inside.fail })) c.self.view_is
-    (subst (λ f. TakesAlong c.args.piece.now c.advance_same-used.result c.args.reader.now new.reader (record { net = net; kept = c.self.inside.kept; fail = f })
-    (record { net = net; kept = new.kept; fail = f })) (sym none) (c.advance_same-used.ensures.takes some))
+    let new = c.advance_acts-used.new in
+    subst (λ (k : Checking). TakesAlong c.args.piece.now c.advance_acts-used.result c.args.reader.now new.reader k (record { net = net; kept = new.kept; fail = c.self.inside.fail })) c.self.view_is
+    (subst (λ f. TakesAlong c.args.piece.now c.advance_acts-used.result c.args.reader.now new.reader (record { net = net; kept = c.self.inside.kept; fail = f })
+    (record { net = net; kept = new.kept; fail = f })) (sym none) (c.advance_acts-used.ensures.takes some))
 
 pub advance_events-requires-clause-safe : goal.advance_events-requires-clause-safe
-advance_events-requires-clause-safe c = c.advance_same-used.ensures.safe
+advance_events-requires-clause-safe c = c.advance_acts-used.ensures.safe
 
 pub advance_events-requires-clause-fronts : goal.advance_events-requires-clause-fronts
 advance_events-requires-clause-fronts c = subst (λ fs. AreFronts c.self.inside.net.now fs) (sym c.deref-2.ensures.value) c.self.invariant.fronts
 
 pub advance_events-requires-clause-bounded : goal.advance_events-requires-clause-bounded
-advance_events-requires-clause-bounded c = c.advance_same-used.ensures.bounded
+advance_events-requires-clause-bounded c = c.advance_acts-used.ensures.bounded
 
 pub advance_events-requires-clause-place : goal.advance_events-requires-clause-place
 advance_events-requires-clause-place c =
-    let nothing : c.advance_same-used.result ≡ 0 = omega (arith, c.if-used-gt0.false) in
-    ap (λ r. r.place) (c.advance_same-used.ensures.same_reader nothing) ∙ c.requires.place ∙ sym (ap (λ s. s.kept.place) c.self.view_is)
-    ∙ sym (ap (λ k. k.place) (c.advance_same-used.ensures.same_kept nothing))
+    let nothing : c.advance_acts-used.result ≡ 0 = omega (arith, c.if-used-gt0.false) in
+    ap (λ r. r.place) (c.advance_acts-used.ensures.same_reader nothing) ∙ c.requires.place ∙ sym (ap (λ s. s.kept.place) c.self.view_is)
+    ∙ sym (ap (λ k. k.place) (c.advance_acts-used.ensures.same_kept nothing))
 
 pub advance_events-requires-clause-going : goal.advance_events-requires-clause-going
-advance_events-requires-clause-going c = ap (λ r. r.malformed) (c.advance_same-used.ensures.same_reader (omega (arith, c.if-used-gt0.false))) ∙ c.requires.going
+advance_events-requires-clause-going c = ap (λ r. r.malformed) (c.advance_acts-used.ensures.same_reader (omega (arith, c.if-used-gt0.false))) ∙ c.requires.going
 
 pub advance_events-requires-clause-alike : goal.advance_events-requires-clause-alike
 advance_events-requires-clause-alike c =
-    let nothing : c.advance_same-used.result ≡ 0 = omega (arith, c.if-used-gt0.false) in
-    ap (λ r. r.lines) (c.advance_same-used.ensures.same_reader nothing) ∙ c.requires.alike ∙ sym (ap (λ s. s.kept.lines) c.self.view_is)
-    ∙ sym (ap (λ k. k.lines) (c.advance_same-used.ensures.same_kept nothing))
+    let nothing : c.advance_acts-used.result ≡ 0 = omega (arith, c.if-used-gt0.false) in
+    ap (λ r. r.lines) (c.advance_acts-used.ensures.same_reader nothing) ∙ c.requires.alike ∙ sym (ap (λ s. s.kept.lines) c.self.view_is)
+    ∙ sym (ap (λ k. k.lines) (c.advance_acts-used.ensures.same_kept nothing))
 
 pub advance_events-requires-clause-few : goal.advance_events-requires-clause-few
 advance_events-requires-clause-few c =
-    let nothing : c.advance_same-used.result ≡ 0 = omega (arith, c.if-used-gt0.false) in
-    omega (arith, ap (λ k. k.lines) (c.advance_same-used.ensures.same_kept nothing), ap (λ s. s.kept.lines) c.self.view_is, c.requires.few)
+    let nothing : c.advance_acts-used.result ≡ 0 = omega (arith, c.if-used-gt0.false) in
+    omega (arith, ap (λ k. k.lines) (c.advance_acts-used.ensures.same_kept nothing), ap (λ s. s.kept.lines) c.self.view_is, c.requires.few)
 
 pub invariant_of-self-2 : goal.invariant_of-self-2
 invariant_of-self-2 c =
@@ -95,24 +95,24 @@ invariant_of-self-2 c =
 
 pub returns-clause-same : goal.returns-clause-same
 returns-clause-same c = λ none.
-    let nothing : c.advance_same-used.result ≡ 0 = omega (arith, c.if-used-gt0.false) in
-    let same = c.advance_events.ensures.same_kept none ∙ c.advance_same-used.ensures.same_kept nothing in
+    let nothing : c.advance_acts-used.result ≡ 0 = omega (arith, c.if-used-gt0.false) in
+    let same = c.advance_events.ensures.same_kept none ∙ c.advance_acts-used.ensures.same_kept nothing in
     let checking_of : Kept → Checking = λ k. record { net = c.self.inside.net.now; kept = k; fail = c.self.inside.fail } in
     ap checking_of same ∙ c.self.view_is
 
 pub returns-clause-same_reader : goal.returns-clause-same_reader
-returns-clause-same_reader c = λ none. c.advance_events.ensures.same_reader none ∙ c.advance_same-used.ensures.same_reader (omega (arith, c.if-used-gt0.false))
+returns-clause-same_reader c = λ none. c.advance_events.ensures.same_reader none ∙ c.advance_acts-used.ensures.same_reader (omega (arith, c.if-used-gt0.false))
 
 pub returns-clause-takes : goal.returns-clause-takes
 returns-clause-takes c = λ some.
     let none : c.self.inside.fail ≡ None = ap (λ s. s.fail) c.self.view_is ∙ c.requires.no_fail in
-    let nothing : c.advance_same-used.result ≡ 0 = omega (arith, c.if-used-gt0.false) in
+    let nothing : c.advance_acts-used.result ≡ 0 = omega (arith, c.if-used-gt0.false) in
     let net = c.self.inside.net.now in
     let new = c.advance_events.new in
     let takes = c.advance_events.ensures.takes some in
     subst (λ (k : Checking). TakesAlong c.args.piece.now c.advance_events.result c.args.reader.now new.reader k (record { net = net; kept = new.kept; fail = c.self.inside.fail })) c.self.view_is
     (subst (λ f. TakesAlong c.args.piece.now c.advance_events.result c.args.reader.now new.reader (record { net = net; kept = c.self.inside.kept; fail = f })
     (record { net = net; kept = new.kept; fail = f })) (sym none)
-    (subst (λ (r : Reading). TakesAlong c.args.piece.now c.advance_events.result r new.reader (going net c.self.inside.kept) (going net new.kept)) (c.advance_same-used.ensures.same_reader nothing)
-    (subst (λ (k : Kept). TakesAlong c.args.piece.now c.advance_events.result c.advance_same-used.new.reader new.reader (going net k) (going net new.kept))
-    (c.advance_same-used.ensures.same_kept nothing) takes)))
+    (subst (λ (r : Reading). TakesAlong c.args.piece.now c.advance_events.result r new.reader (going net c.self.inside.kept) (going net new.kept)) (c.advance_acts-used.ensures.same_reader nothing)
+    (subst (λ (k : Kept). TakesAlong c.args.piece.now c.advance_events.result c.advance_acts-used.new.reader new.reader (going net k) (going net new.kept))
+    (c.advance_acts-used.ensures.same_kept nothing) takes)))
