@@ -45,6 +45,7 @@ pub(crate) fn advance_acts(
     ensures bounded { IsBounded net.now kept.new }
     ensures safe { IsSafe net.now kept.new.tally }
 {
+    // The limit on events, so that no count of lines overflows.
     let _events = net.net().events();
     let activities = net.net().activities();
     let mut place = reader.place();

@@ -1,7 +1,15 @@
 //! What is asked of an activity's duration and flows, over the list of its knees.
 ghost use Rattle.std.specs.Prelude.{◌≡◌, ◌+◌, ◌^◌, ◌<◌, ◌≤◌, length};
 ghost use Rattle.pc_check.specs.KneeTests.{is_slack_at_knee};
-ghost use Rattle.pc_check.specs.inside.KneeTests.{keeps_rises_over, is_slack_over, is_still_over, rises_over, stops_over, stops_at_knee_over, flow_sum};
+ghost use Rattle.pc_check.specs.inside.KneeTests.{
+  keeps_rises_over,
+  is_slack_over,
+  is_still_over,
+  rises_over,
+  stops_over,
+  stops_at_knee_over,
+  flow_sum,
+};
 
 use crate::gaps::{Crossing, Gap};
 use pc_model::Knee;

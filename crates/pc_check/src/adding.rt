@@ -1,5 +1,18 @@
 //! Adding a line to what is kept of a segment.
-ghost use Rattle.std.specs.Prelude.{◌≡◌, ◌+◌, ◌^◌, ◌<◌, ◌≤◌, ◌++◌, ◌∷◌, [], length, slice_index, vec_len, if◌then◌else◌};
+ghost use Rattle.std.specs.Prelude.{
+  ◌≡◌,
+  ◌+◌,
+  ◌^◌,
+  ◌<◌,
+  ◌≤◌,
+  ◌++◌,
+  ◌∷◌,
+  [],
+  length,
+  slice_index,
+  vec_len,
+  if◌then◌else◌,
+};
 ghost use Rattle.pc_laws.specs.Segment.{is_forward, is_backward, rises_above, span};
 ghost use Rattle.pc_crash.specs.Priced.{knees_in};
 ghost use Rattle.pc_check.specs.inside.Kept.{stretch_of};
@@ -67,6 +80,7 @@ pub(crate) fn add_act(net: &CrashNet<'_>, tally: &mut Tally, crossing: &Crossing
 {
     let cut = cut_of(net, tally, tally.acts, crossing);
     renew(net, tally, passed);
+    // There are so few activities that the sums over a cut fit.
     let _few = net.net().activities();
     tally.forward += cut.forward;
     tally.backward += cut.backward;
@@ -91,6 +105,7 @@ fn renew(net: &CrashNet<'_>, tally: &mut Tally, passed: Passed)
     let a = tally.acts;
     let to = net.net().to(a);
     let from = net.net().from(a);
+    // There are so few activities that the sums at an event fit.
     let _few = net.net().activities();
     let flow = tally.rows[a as usize].flow;
     let cost = tally.rows[a as usize].cost;

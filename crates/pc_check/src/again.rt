@@ -56,6 +56,7 @@ pub(crate) fn advance_events(
     ensures bounded { IsBounded net.now kept.new }
     ensures safe { IsSafe net.now kept.new.tally }
 {
+    // The limits on events and activities, so that no count of lines overflows.
     let _events = net.net().events();
     let _activities = net.net().activities();
     let ends = ends_of(net);

@@ -5,7 +5,15 @@ ghost use Rattle.pc_model.specs.Schedule.{normal_of};
 ghost use Rattle.pc_check.specs.Conditions.{keeps_rises};
 ghost use Rattle.pc_check.specs.inside.Again.{across_at};
 ghost use Rattle.pc_check.specs.inside.Kept.{known_by};
-ghost use Rattle.pc_check.specs.inside.Passed.{IsLineOf, HasPassed, ArePassed, IsNothing, FitsWithin, IsWithin, ComesAgain};
+ghost use Rattle.pc_check.specs.inside.Passed.{
+  IsLineOf,
+  HasPassed,
+  ArePassed,
+  IsNothing,
+  FitsWithin,
+  IsWithin,
+  ComesAgain,
+};
 
 use crate::acts::flow_sum;
 use crate::adding::Cut;

@@ -1,7 +1,19 @@
 //! The reason for which a line fails, if it does: the first condition that is reported there and does not hold.
 ghost use Rattle.std.specs.Prelude.{◌≡◌, ℕ, ◌+◌, ◌^◌, ◌<◌, ◌&&◌, List, [], ◌∷◌, IsTrue, length};
 ghost use Rattle.pc_check.specs.inside.Additions.{IsAct};
-ghost use Rattle.pc_check.specs.Conditions.{condition, conditions, has_head, has_joined_ends, is_code_at, has_act_code, has_duration, has_room, keeps_rises, is_slack, is_slack_in};
+ghost use Rattle.pc_check.specs.Conditions.{
+  condition,
+  conditions,
+  has_head,
+  has_joined_ends,
+  is_code_at,
+  has_act_code,
+  has_duration,
+  has_room,
+  keeps_rises,
+  is_slack,
+  is_slack_in,
+};
 ghost use Rattle.pc_check.specs.Failures.{first_failing};
 ghost use Rattle.pc_laws.specs.Segment.{span};
 ghost use Rattle.pc_crash.specs.Priced.{knees_in};
