@@ -2,8 +2,28 @@
 
 ghost use Rattle.std.specs.Prelude.{◌≡◌, ◌+◌, ◌-◌, ◌<◌, ◌≤◌, ◌^◌, IsTrue, IsFalse};
 ghost use Rattle.pc_flow.specs.board.Sheets.{rank_of, flow_of, kept_time, time_of};
-ghost use Rattle.pc_flow.specs.inside.board.Sheets.{queue_of, step_of, against_of, near_of, room_of, lost_of, up_of, down_of};
-ghost use Rattle.pc_flow.specs.inside.board.Moves.{KeepsAt, LosesAt, StepsBack, SetsStep, SetsRoom, SetsTime, SetsLengths, StartsAt, QueuesLast, EntersAt};
+ghost use Rattle.pc_flow.specs.inside.board.Sheets.{
+  queue_of,
+  step_of,
+  against_of,
+  near_of,
+  room_of,
+  lost_of,
+  up_of,
+  down_of,
+};
+ghost use Rattle.pc_flow.specs.inside.board.Moves.{
+  KeepsAt,
+  LosesAt,
+  StepsBack,
+  SetsStep,
+  SetsRoom,
+  SetsTime,
+  SetsLengths,
+  StartsAt,
+  QueuesLast,
+  EntersAt,
+};
 
 use crate::board::board::Board;
 use crate::board::columns::Column;
