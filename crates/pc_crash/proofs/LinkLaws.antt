@@ -1,5 +1,37 @@
 -- The activities at each event linked, one event further.
-use Rattle.std.proofs.Common.{◌≡◌, ℕ, suc, ◌+◌, ◌-◌, ◌^◌, ◌<◌, ◌≤◌, Bool, true, false, List, [], ◌∷◌, ◌++◌, length, take, drop, slice_index, slice_range, cond, eqb, refl, sym, ◌∙◌, ap, subst, ⊎_elim, arith, length-append, length-drop}
+use Rattle.std.proofs.Common.{
+  ◌≡◌,
+  ℕ,
+  suc,
+  ◌+◌,
+  ◌-◌,
+  ◌^◌,
+  ◌<◌,
+  ◌≤◌,
+  Bool,
+  true,
+  false,
+  List,
+  [],
+  ◌∷◌,
+  ◌++◌,
+  length,
+  take,
+  drop,
+  slice_index,
+  slice_range,
+  cond,
+  eqb,
+  refl,
+  sym,
+  ◌∙◌,
+  ap,
+  subst,
+  ⊎_elim,
+  arith,
+  length-append,
+  length-drop,
+}
 use Rattle.std.proofs.lemmas.Bool.{cases_eq}
 use Rattle.std.proofs.lemmas.List.{get_or_append_left, get_or_push, get_or-map, length-map, length_push, take_more, drop_at, drop-append-le, take-append-le, map-append, take_all, append_assoc}
 use Rattle.pc_model.specs.declared.Arc.{Arc}
