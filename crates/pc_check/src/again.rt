@@ -34,7 +34,7 @@ pub(crate) fn ends_of(net: &CrashNet<'_>) -> EndEvents
 /// how many bytes they are with their ends. Where there is none, nothing changes, and the answer is 0.
 ///
 /// The place and the number of lines are counted beside the loop, and kept once behind it.
-#[inline(always)]
+#[inline(never)]
 pub(crate) fn advance_events(
     net: &CrashNet<'_>,
     kept: &mut Kept,
