@@ -17,3 +17,13 @@ pub(crate) fn expect_ok_none(rt: &impl Abort, wrong: Result<Option<usize>, Alloc
         Err(_) => panic!(rt; "out of memory"),
     }
 }
+
+/// The first of these that does not hold, or none.
+pub(crate) fn first_false(cases: &[bool]) -> Option<usize> {
+    for (i, &holds) in cases.iter().enumerate() {
+        if !holds {
+            return Some(i);
+        }
+    }
+    None
+}

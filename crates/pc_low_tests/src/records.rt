@@ -1,27 +1,43 @@
 //! Decks that are read record by record, and records that are written.
-use crate::cases::expect_ok_none;
+use crate::cases::{expect_ok_none, first_false};
 use pc_records::{Row, RowReader, RowWriter};
 use std::alloc::{AllocError, Global};
 
-// Every record of a deck in square brackets, its fields between strokes, as `[a|b][c]`.
-fn spelled(alloc: Global, deck: &[u8]) -> Result<Vec<u8>, AllocError> {
+// Appends a record in square brackets, its fields between strokes, as `[a|b]`.
+fn spell_row(text: &mut Vec<u8>, row: &Row) -> Result<(), AllocError> {
+    text.push(b'[')?;
+    for i in 0..row.len() {
+        if i > 0 {
+            text.push(b'|')?;
+        }
+        text.extend_from_slice(row.field(i))?;
+    }
+    text.push(b']')?;
+    Ok(())
+}
+
+// The same for each record of a deck, as `[a|b][c]`.
+fn spell_rows(
+    text: &mut Vec<u8>,
+    rows: &mut RowReader<'_>,
+    row: &mut Row,
+) -> Result<(), AllocError> {
+    'rows: while rows.next_row(row)? {
+        spell_row(text, row)?;
+    }
+    Ok(())
+}
+
+// Whether the records of a deck are spelled so.
+fn is_spelled(alloc: Global, deck: &[u8], want: &[u8]) -> Result<bool, AllocError> {
     let mut rows = RowReader::new(alloc, deck);
     let mut row = Row::with_capacity(alloc, 8, 2)?;
     let mut text = Vec::new(alloc);
-    'rows: while rows.next_row(&mut row)? {
-        text.push(b'[')?;
-        for i in 0..row.len() {
-            if i > 0 {
-                text.push(b'|')?;
-            }
-            text.extend_from_slice(row.field(i))?;
-        }
-        text.push(b']')?;
-    }
-    Ok(text)
+    spell_rows(&mut text, &mut rows, &mut row)?;
+    Ok(text.as_slice() == want)
 }
 
-// Decks, and their records as `spelled` writes them.
+// Decks, and their records as `spell_rows` writes them.
 const CASES: &[(&[u8], &[u8])] = &[
     // Line ends: LF, CRLF, a lone CR, none at the end, blank lines.
     (b"", b""),
@@ -56,7 +72,7 @@ const CASES: &[(&[u8], &[u8])] = &[
 // The first of these decks that has other records, or none.
 fn first_misread(alloc: Global) -> Result<Option<usize>, AllocError> {
     for (i, &(deck, want)) in CASES.iter().enumerate() {
-        if spelled(alloc, deck)?.as_slice() != want {
+        if !is_spelled(alloc, deck, want)? {
             return Ok(Some(i));
         }
     }
@@ -84,41 +100,76 @@ fn has_fields(row: &Row) -> bool {
         && row.is_blank_from(9)
 }
 
-// Whether a deck of two records gives them and then nothing more.
-fn gives_two_records(alloc: Global) -> Result<[bool; 7], AllocError> {
+// What is wrong with the records that a reader of two of them gives, from 0 on in this order, or none: the first one is
+// given, with its shape and its fields; the second one is, and is blank; and then nothing more.
+fn first_wrong_read(rows: &mut RowReader<'_>, row: &mut Row) -> Result<Option<usize>, AllocError> {
+    let is_first = rows.next_row(row)?;
+    let (has_shape, has_fields) = (shape(row) == (3, false, false), has_fields(row));
+    let is_second = rows.next_row(row)?;
+    let is_blank = shape(row) == (3, false, true);
+    let is_end = !rows.next_row(row)?;
+    let is_end_again = !rows.next_row(row)?;
+    Ok(first_false(&[
+        is_first,
+        has_shape,
+        has_fields,
+        is_second,
+        is_blank,
+        is_end,
+        is_end_again,
+    ]))
+}
+
+// The same for a deck of two records, and 7 if a new row is not empty and blank.
+fn first_wrong_of_two(alloc: Global) -> Result<Option<usize>, AllocError> {
     let mut rows = RowReader::new(alloc, b"ab,,c\n,,\n");
     let mut row = Row::new(alloc);
-    let is_empty = row.is_empty() && row.is_blank();
-    let is_first = rows.next_row(&mut row)?;
-    let (has_shape, has_fields) = (shape(&row) == (3, false, false), has_fields(&row));
-    let is_second = rows.next_row(&mut row)?;
-    let is_blank = row.is_blank() && row.len() == 3;
-    let is_end = !rows.next_row(&mut row)? && !rows.next_row(&mut row)?;
-    Ok([
-        is_empty, is_first, has_shape, has_fields, is_second, is_blank, is_end,
-    ])
+    if shape(&row) != (0, true, true) {
+        return Ok(Some(7));
+    }
+    first_wrong_read(&mut rows, &mut row)
 }
 
 #[test]
 fn tells_fields(rt: HostRuntime) {
-    assert!(rt; gives_two_records(rt.alloc()).ok() == Some([true; 7]));
+    expect_ok_none(&rt, first_wrong_of_two(rt.alloc()));
 }
 
-// Quotes where a field has a comma, a quote or a line's end, or where a record has nothing but one empty field.
-fn are_written(alloc: Global) -> Result<bool, AllocError> {
+// Records whose fields have a comma, a quote or a line's end, and records of nothing but empty fields.
+const RECORDS: &[&[&[u8]]] = &[
+    &[b"ACT", b"", b" a b "],
+    &[b"x,y", b"say \"so\"", b"l\nm", b"n\ro"],
+    &[b""],
+    &[b"", b""],
+];
+
+// They have quotes where a field needs them, and where a record has nothing but one empty field.
+const WRITTEN: &[u8] = b"ACT,, a b \n\"x,y\",\"say \"\"so\"\"\",\"l\nm\",\"n\ro\"\n\"\"\n,\n";
+
+// Writes each of these records.
+fn put_all(writer: &mut RowWriter, records: &[&[&[u8]]]) -> Result<(), AllocError> {
+    for record in records {
+        writer.put(record)?;
+    }
+    Ok(())
+}
+
+// The text of these records.
+fn written(alloc: Global, records: &[&[&[u8]]]) -> Result<Vec<u8>, AllocError> {
     let mut writer = RowWriter::with_capacity(Vec::new(alloc), 16)?;
-    writer.put(&[b"ACT", b"", b" a b "])?;
-    writer.put(&[b"x,y", b"say \"so\"", b"l\nm", b"n\ro"])?;
-    writer.put(&[b""])?;
-    writer.put(&[b"", b""])?;
-    let text = writer.finish()?;
-    Ok(
-        text.as_slice()
-            == b"ACT,, a b \n\"x,y\",\"say \"\"so\"\"\",\"l\nm\",\"n\ro\"\n\"\"\n,\n".as_slice(),
-    )
+    put_all(&mut writer, records)?;
+    writer.finish()
+}
+
+// Whether the records are written so.
+fn are_written(alloc: Global, records: &[&[&[u8]]], want: &[u8]) -> bool {
+    match written(alloc, records) {
+        Ok(text) => text.as_slice() == want,
+        Err(_) => false,
+    }
 }
 
 #[test]
 fn writes_records(rt: HostRuntime) {
-    assert!(rt; matches!(are_written(rt.alloc()), Ok(true)));
+    assert!(rt; are_written(rt.alloc(), RECORDS, WRITTEN));
 }
