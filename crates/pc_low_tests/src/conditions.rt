@@ -12,7 +12,7 @@ use pc_net::Net;
 use pc_text::Code;
 use std::alloc::Global;
 
-const TERMS: [Term; 3] = [
+const TERMS: &[Term] = &[
     Term {
         normal: 4,
         crash: 1,
@@ -33,7 +33,7 @@ const TERMS: [Term; 3] = [
     },
 ];
 
-const PIECES: [PieceRow; 1] = [PieceRow {
+const PIECES: &[PieceRow] = &[PieceRow {
     activity: 0,
     units: 1,
     slope: 8,
@@ -57,7 +57,7 @@ fn priced<'n>(alloc: Global, net: &'n Net) -> Option<CrashNet<'n>>
     requires activities { length net.now.arcs ≡ 3 }
 {
     let (a, b, c) = (Code::read(b"A")?, Code::read(b"B")?, Code::read(b"C")?);
-    CrashNet::build(alloc, net, &TERMS, &PIECES, a, &[a, b, c], &[a, b, c]).ok()
+    CrashNet::build(alloc, net, TERMS, PIECES, a, &[a, b, c], &[a, b, c]).ok()
 }
 
 // The first line of the text that fails and why, or 0 and how many segments are certified.
@@ -82,34 +82,56 @@ const BEGUN: &[u8] =
     b"CERT 2 A 3 3\nNORMAL\nSTEP C\nCRASH\nSTEP C\nSEGMENT 12 9 60 2\nEVENT A 0 0\nEVENT B 4 0\nEVENT C 12 1\n\
 ACT A 4 0 0 0\nACT B 5 0 0\nACT C 12 2 0\nCLOSE\n";
 
-// The second segment up to the line of the first activity, where its gap is 3, 4, 2 and 1 units.
-const GAPS: &[&[u8]] = &[
-    b"SEGMENT 9 8 0 0\nEVENT A 0 0\nEVENT B 3 0\nEVENT C 9 1\nACT A 3 ",
-    b"SEGMENT 9 8 0 0\nEVENT A 0 0\nEVENT B 4 0\nEVENT C 9 1\nACT A 4 ",
-    b"SEGMENT 9 8 0 0\nEVENT A 0 0\nEVENT B 2 0\nEVENT C 9 1\nACT A 2 ",
-    b"SEGMENT 9 8 0 0\nEVENT A 0 0\nEVENT B 1 0\nEVENT C 9 1\nACT A 1 ",
-];
+// The second segment up to the line of the first activity, where its gap is 4, 3, 2 and 1 units.
+const FOUR: &[u8] = b"SEGMENT 9 8 0 0\nEVENT A 0 0\nEVENT B 4 0\nEVENT C 9 1\nACT A 4 ";
 
-// The flows of the first activity, and why its line fails at these gaps; 0 where it doesn't, and the next line is
-// missing.
-const FLOWS: &[(&[u8], [u64; 4])] = &[
-    (b"3 0 0\n", [0, 0, 0, 11]),
-    (b"1 0 0\n", [11, 0, 11, 11]),
-    (b"3 5 0\n", [11, 11, 0, 0]),
-    (b"3 5 9\n", [11, 11, 11, 0]),
-    (b"0 0 0\n", [11, 0, 11, 11]),
+const THREE: &[u8] = b"SEGMENT 9 8 0 0\nEVENT A 0 0\nEVENT B 3 0\nEVENT C 9 1\nACT A 3 ";
+
+const TWO: &[u8] = b"SEGMENT 9 8 0 0\nEVENT A 0 0\nEVENT B 2 0\nEVENT C 9 1\nACT A 2 ";
+
+const ONE_UNIT: &[u8] = b"SEGMENT 9 8 0 0\nEVENT A 0 0\nEVENT B 1 0\nEVENT C 9 1\nACT A 1 ";
+
+// The second segment up to the gap of the first activity, the flows of this activity, and why its line fails; 0 where
+// it doesn't, and the next line is missing.
+const FLOWS: &[(&[u8], &[u8], u64)] = &[
+    (THREE, b"3 0 0\n", 0),
+    (FOUR, b"3 0 0\n", 0),
+    (TWO, b"3 0 0\n", 0),
+    (ONE_UNIT, b"3 0 0\n", 11),
+    (THREE, b"1 0 0\n", 11),
+    (FOUR, b"1 0 0\n", 0),
+    (TWO, b"1 0 0\n", 11),
+    (ONE_UNIT, b"1 0 0\n", 11),
+    (THREE, b"3 5 0\n", 11),
+    (FOUR, b"3 5 0\n", 11),
+    (TWO, b"3 5 0\n", 0),
+    (ONE_UNIT, b"3 5 0\n", 0),
+    (THREE, b"3 5 9\n", 11),
+    (FOUR, b"3 5 9\n", 11),
+    (TWO, b"3 5 9\n", 11),
+    (ONE_UNIT, b"3 5 9\n", 0),
+    (THREE, b"0 0 0\n", 11),
+    (FOUR, b"0 0 0\n", 0),
+    (TWO, b"0 0 0\n", 11),
+    (ONE_UNIT, b"0 0 0\n", 11),
     // above its rise
-    (b"4 0 0\n", [8, 8, 8, 8]),
+    (THREE, b"4 0 0\n", 8),
+    (FOUR, b"4 0 0\n", 8),
+    (TWO, b"4 0 0\n", 8),
+    (ONE_UNIT, b"4 0 0\n", 8),
 ];
 
-// The first of these flows, with the first gap, of which something else is found, or none.
-fn first_wrong_flows(alloc: Global) -> Option<(usize, usize)> {
-    for (f, &(flows, reasons)) in FLOWS.iter().enumerate() {
-        for (g, (&gap, reason)) in GAPS.iter().zip(reasons).enumerate() {
-            let at = if reason == 0 { 19 } else { 18 };
-            if found(alloc, &[BEGUN, gap, flows]) != Some((at, reason)) {
-                return Some((f, g));
-            }
+// Whether this is why the line of these flows fails behind this text, or why it does not.
+fn is_found(alloc: Global, before: &[u8], flows: &[u8], reason: u64) -> bool {
+    let at = if reason == 0 { 19 } else { 18 };
+    found(alloc, &[BEGUN, before, flows]) == Some((at, reason))
+}
+
+// The first of these flows of which something else is found, or none.
+fn first_wrong_flows(alloc: Global) -> Option<usize> {
+    for (i, &(before, flows, reason)) in FLOWS.iter().enumerate() {
+        if !is_found(alloc, before, flows, reason) {
+            return Some(i);
         }
     }
     None
@@ -117,7 +139,7 @@ fn first_wrong_flows(alloc: Global) -> Option<(usize, usize)> {
 
 #[test]
 fn flows_of_an_activity(rt: HostRuntime) {
-    assert!(rt; first_wrong_flows(rt.alloc()).is_none());
+    expect_none(&rt, first_wrong_flows(rt.alloc()));
 }
 
 // The lines up to the first segment, and that of an only length.
