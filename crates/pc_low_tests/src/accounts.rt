@@ -8,7 +8,7 @@ use pc_model::MAX_COST;
 use pc_wbs::{ItemRow, Tree};
 use std::alloc::{AllocError, Global};
 
-const ACCOUNTS: [AcctRow; 2] = [
+const ACCOUNTS: &[AcctRow] = &[
     AcctRow {
         item: 1,
         budget: 25,
@@ -51,29 +51,51 @@ fn book_of(
 {
     let charges = rows(alloc, charges)?;
     let togos = rows(alloc, togos)?;
-    Book::build(alloc, &ACCOUNTS, &charges, &togos, as_of)
+    Book::build(alloc, ACCOUNTS, &charges, &togos, as_of)
 }
 
-/// What an account has spent, what is to go, its latest estimate, and its value before and after it is finished.
-fn figures(book: &Book, account: u32) -> [u64; 5]
+/// What is booked on an account: what it has spent, what is to go, its latest estimate, and its value before and after
+/// it is finished.
+struct Figures {
+    actual: u64,
+    to_go: u64,
+    latest: u64,
+    begun: u64,
+    finished: u64,
+}
+
+/// Whether these are the figures of an account.
+fn has_figures(book: &Book, account: u32, figures: &Figures) -> bool
     requires { account < length book.now }
 {
-    [
-        book.actual(account),
-        book.to_go(account),
-        book.latest(account),
-        book.value(account, false),
-        book.value(account, true),
-    ]
+    (book.actual(account) == figures.actual)
+        & (book.to_go(account) == figures.to_go)
+        & (book.latest(account) == figures.latest)
+        & (book.value(account, false) == figures.begun)
+        & (book.value(account, true) == figures.finished)
 }
 
-// The value of the first account before it is finished is 250 / 40, rounded down.
+// The value before it is finished is 250 / 40, rounded down.
+const FIRST: Figures = Figures {
+    actual: 10,
+    to_go: 30,
+    latest: 40,
+    begun: 6,
+    finished: 25,
+};
+
+const SECOND: Figures = Figures {
+    actual: 0,
+    to_go: 20,
+    latest: 20,
+    begun: 0,
+    finished: 20,
+};
+
 fn is_booked(book: &Book) -> bool
     requires { length book.now ≡ 2 }
 {
-    (book.entries().len() == 2)
-        & (figures(book, 0) == [10, 30, 40, 6, 25])
-        & (figures(book, 1) == [0, 20, 20, 0, 20])
+    (book.entries().len() == 2) & has_figures(book, 0, &FIRST) & has_figures(book, 1, &SECOND)
 }
 
 fn books_what_is_due(alloc: Global) -> Option<bool> {
@@ -142,9 +164,9 @@ fn packages(alloc: Global) -> Result<Option<Tree>, AllocError>
     Ok(Tree::build(alloc, &rows).ok())
 }
 
-const EVEN: [WorkRow; 2] = [WorkRow { item: 1, cost: 10 }, WorkRow { item: 1, cost: 15 }];
+const EVEN: &[WorkRow] = &[WorkRow { item: 1, cost: 10 }, WorkRow { item: 1, cost: 15 }];
 
-const UNEVEN: [WorkRow; 2] = [WorkRow { item: 2, cost: 19 }, WorkRow { item: 1, cost: 25 }];
+const UNEVEN: &[WorkRow] = &[WorkRow { item: 2, cost: 19 }, WorkRow { item: 1, cost: 25 }];
 
 /// Whether even work is accepted, and the item of uneven work is named with its sums.
 fn is_reconciled(alloc: Global, tree: &Tree) -> bool
@@ -155,8 +177,8 @@ fn is_reconciled(alloc: Global, tree: &Tree) -> bool
         budgets: 20,
         costs: 19,
     };
-    (reconcile(alloc, tree, &ACCOUNTS, &EVEN) == Ok(()))
-        & (reconcile(alloc, tree, &ACCOUNTS, &UNEVEN) == Err(second))
+    (reconcile(alloc, tree, ACCOUNTS, EVEN) == Ok(()))
+        & (reconcile(alloc, tree, ACCOUNTS, UNEVEN) == Err(second))
 }
 
 fn reconciles(alloc: Global) -> Option<bool> {
