@@ -7,19 +7,20 @@ use pc_edges::{
     SureSource, WriteSink, load, push_all,
 };
 use std::alloc::{AllocError, Global};
+use std::fs::File;
 use std::io::{ErrorKind, Read, Write};
-use std::test::Fail;
+use std::rt::{Env, Files};
 use std::{env, fs, io};
 
 const TEXT: &[u8] = b"breadboard";
 
 /// Which pulls fail, the most that a pull gives, and what four pulls of up to four bytes answer.
-const PULLS: &[(&[u64], usize, [Result<usize, Failed>; 4])] = &[
-    (&[], 9, [Ok(4), Ok(4), Ok(2), Ok(0)]),
-    (&[], 3, [Ok(3), Ok(3), Ok(3), Ok(1)]),
-    (&[1], 9, [Err(Failed), Ok(4), Ok(4), Ok(2)]),
-    (&[2, 3], 9, [Ok(4), Err(Failed), Err(Failed), Ok(4)]),
-    (&[4], 4, [Ok(4), Ok(4), Ok(2), Err(Failed)]),
+const PULLS: &[(&[u64], usize, &[Result<usize, Failed>])] = &[
+    (&[], 9, &[Ok(4), Ok(4), Ok(2), Ok(0)]),
+    (&[], 3, &[Ok(3), Ok(3), Ok(3), Ok(1)]),
+    (&[1], 9, &[Err(Failed), Ok(4), Ok(4), Ok(2)]),
+    (&[2, 3], 9, &[Ok(4), Err(Failed), Err(Failed), Ok(4)]),
+    (&[4], 4, &[Ok(4), Ok(4), Ok(2), Err(Failed)]),
 ];
 
 /// What of a text is left behind a pull that gives this answer; none where the pull answers or gives something else, or
@@ -56,7 +57,7 @@ fn gives(source: &mut MemSource, answers: &[Result<usize, Failed>]) -> bool {
 fn first_wrong_pulls(alloc: Global) -> Result<Option<usize>, AllocError> {
     for (i, &(failing, piece, answers)) in PULLS.iter().enumerate() {
         let mut source = MemSource::new(alloc, TEXT, piece.max(1), failing)?;
-        if !gives(&mut source, &answers) {
+        if !gives(&mut source, answers) {
             return Ok(Some(i));
         }
     }
@@ -68,21 +69,69 @@ fn mem_source_pulls(rt: HostRuntime) {
     expect_ok_none(&rt, first_wrong_pulls(rt.alloc()));
 }
 
-/// Which calls fail, the most that a push takes, what the pushes of what is left and a flush after the second
-/// answer, and the bytes taken in the end. There is room for five bytes.
-const PUSHES: &[(
-    &[u64],
-    usize,
-    [Result<usize, Failed>; 3],
-    Result<(), Failed>,
-    &[u8],
-)] = &[
-    (&[], 9, [Ok(5), Err(Failed), Err(Failed)], Ok(()), b"bread"),
-    (&[], 3, [Ok(3), Ok(2), Err(Failed)], Ok(()), b"bread"),
-    (&[1], 3, [Err(Failed), Ok(3), Ok(2)], Ok(()), b"bread"),
-    (&[2], 3, [Ok(3), Err(Failed), Ok(2)], Ok(()), b"bread"),
-    (&[3], 2, [Ok(2), Ok(2), Ok(1)], Err(Failed), b"bread"),
-    (&[2, 4], 2, [Ok(2), Err(Failed), Err(Failed)], Ok(()), b"br"),
+/// Pushes to a sink with room for five bytes.
+struct Pushes {
+    /// Which calls fail.
+    failing: &'static [u64],
+    /// The most that a push takes.
+    piece: usize,
+    /// What two pushes of what is left answer, then a flush, and then a third push.
+    answers: &'static [Result<usize, Failed>],
+    flushed: Result<(), Failed>,
+    last: Result<usize, Failed>,
+    /// The bytes taken in the end.
+    bytes: &'static [u8],
+}
+
+const PUSHES: &[Pushes] = &[
+    Pushes {
+        failing: &[],
+        piece: 9,
+        answers: &[Ok(5), Err(Failed)],
+        flushed: Ok(()),
+        last: Err(Failed),
+        bytes: b"bread",
+    },
+    Pushes {
+        failing: &[],
+        piece: 3,
+        answers: &[Ok(3), Ok(2)],
+        flushed: Ok(()),
+        last: Err(Failed),
+        bytes: b"bread",
+    },
+    Pushes {
+        failing: &[1],
+        piece: 3,
+        answers: &[Err(Failed), Ok(3)],
+        flushed: Ok(()),
+        last: Ok(2),
+        bytes: b"bread",
+    },
+    Pushes {
+        failing: &[2],
+        piece: 3,
+        answers: &[Ok(3), Err(Failed)],
+        flushed: Ok(()),
+        last: Ok(2),
+        bytes: b"bread",
+    },
+    Pushes {
+        failing: &[3],
+        piece: 2,
+        answers: &[Ok(2), Ok(2)],
+        flushed: Err(Failed),
+        last: Ok(1),
+        bytes: b"bread",
+    },
+    Pushes {
+        failing: &[2, 4],
+        piece: 2,
+        answers: &[Ok(2), Err(Failed)],
+        flushed: Ok(()),
+        last: Err(Failed),
+        bytes: b"br",
+    },
 ];
 
 /// Whether a push of what a sink has not taken of the text gives this answer, and a push of nothing 0.
@@ -91,16 +140,34 @@ fn takes(sink: &mut MemSink, answer: Result<usize, Failed>) -> bool {
     at <= TEXT.len() && sink.push(&[]) == Ok(0) && sink.push(&TEXT[at..]) == answer
 }
 
+/// The same for each of several answers.
+fn takes_each(sink: &mut MemSink, answers: &[Result<usize, Failed>]) -> bool {
+    for &answer in answers {
+        if !takes(sink, answer) {
+            return false;
+        }
+    }
+    true
+}
+
+/// Whether a sink has taken these bytes.
+fn has_bytes(sink: &MemSink, bytes: &[u8]) -> bool {
+    sink.bytes() == bytes
+}
+
+/// Whether the pushes and the flush give these answers, and these bytes are taken.
+fn are_pushed(sink: &mut MemSink, pushes: &Pushes) -> bool {
+    let is_begun = takes_each(sink, pushes.answers);
+    let is_flushed = sink.flush() == pushes.flushed;
+    let is_ended = takes(sink, pushes.last);
+    is_begun & is_flushed & is_ended & has_bytes(sink, pushes.bytes)
+}
+
 /// The first of these cases in which a push or the flush answers something else, or other bytes are taken, or none.
 fn first_wrong_pushes(alloc: Global) -> Result<Option<usize>, AllocError> {
-    for (i, &(failing, piece, [first, second, third], flushed, bytes)) in PUSHES
-        .iter()
-        .enumerate()
-    {
-        let mut sink = MemSink::new(alloc, 5, piece.max(1), failing)?;
-        let is_begun = takes(&mut sink, first) && takes(&mut sink, second);
-        let is_ended = sink.flush() == flushed && takes(&mut sink, third);
-        if !is_begun || !is_ended || sink.bytes() != bytes {
+    for (i, pushes) in PUSHES.iter().enumerate() {
+        let mut sink = MemSink::new(alloc, 5, pushes.piece.max(1), pushes.failing)?;
+        if !are_pushed(&mut sink, pushes) {
             return Ok(Some(i));
         }
     }
@@ -284,24 +351,31 @@ fn write_sink_writes(rt: HostRuntime) {
     assert!(rt; is_faulty_written(TEXT));
 }
 
-/// A file in the folder for temporary files, and one that is not there: each pull from it fails.
-#[test]
-fn file_source_reads(rt: HostRuntime) -> Result<(), Fail> {
-    let mut path = env::temp_dir(&rt)?;
+/// Whether a text that is written to this file is loaded from it. The file is removed then.
+fn is_loaded_at<R: Files<File = File> + AllocGlobal>(rt: &R, path: &str) -> io::Result<bool> {
+    fs::write(rt, path, TEXT)?;
+    let is_loaded = loaded(rt.alloc(), &mut FileSource::at(rt, path), 10, TEXT) == Ok(true);
+    fs::remove_file(rt, path)?;
+    Ok(is_loaded)
+}
+
+/// The same for a file in the folder for temporary files.
+fn is_file_loaded<R: Files<File = File> + Env + AllocGlobal>(rt: &R) -> io::Result<bool> {
+    let mut path = env::temp_dir(rt)?;
     path.push("pc_edges_file_source")?;
-    let path = path.into_string();
-    fs::write(&rt, path.as_str(), TEXT)?;
-    let found = loaded(
-        rt.alloc(),
-        &mut FileSource::at(&rt, path.as_str()),
-        10,
-        TEXT,
-    );
-    fs::remove_file(&rt, path.as_str())?;
-    let missing = four_pulls(&mut FileSource::at(&rt, ""));
-    assert!(rt; found == Ok(true));
-    assert!(rt; missing == [Ok(0), Err(Failed), Err(Failed), Err(Failed)]);
-    Ok(())
+    is_loaded_at(rt, path.as_str())
+}
+
+/// Whether each pull from a file that is not there fails.
+fn is_missing<F: Files<File = File>>(files: &F) -> bool {
+    let answers = four_pulls(&mut FileSource::at(files, ""));
+    answers == [Ok(0), Err(Failed), Err(Failed), Err(Failed)]
+}
+
+#[test]
+fn file_source_reads(rt: HostRuntime) {
+    assert!(rt; matches!(is_file_loaded(&rt), Ok(true)));
+    assert!(rt; is_missing(&rt));
 }
 
 /// What two pulls of the text answer, whether they and a load of up to six bytes give all of it, and what a pull
