@@ -83,7 +83,7 @@ fn first_wrong(alloc: Global, net: &CrashNet<'_>) -> Option<usize> {
     None
 }
 
-const TERMS: [Term; 1] = [Term {
+const TERMS: &[Term] = &[Term {
     normal: 3,
     crash: 3,
     cost: 7,
@@ -93,7 +93,7 @@ const TERMS: [Term; 1] = [Term {
 fn is_audited(alloc: Global) -> Option<bool> {
     let (a, b) = (Code::read(b"A")?, Code::read(b"B")?);
     let net = Net::build(alloc, 2, 0, 1, &[Arc { from: 0, to: 1 }]).ok()?;
-    let priced = CrashNet::build(alloc, &net, &TERMS, &[], a, &[a, b], &[a]).ok()?;
+    let priced = CrashNet::build(alloc, &net, TERMS, &[], a, &[a, b], &[a]).ok()?;
     Some(first_wrong(alloc, &priced).is_none())
 }
 

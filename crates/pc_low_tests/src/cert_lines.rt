@@ -43,25 +43,25 @@ fn code(line: &CertLine) -> Option<&[u8]> {
 }
 
 // Lines, with the code and the numbers of each.
-const LINES_READ: &[(&[u8], Option<&[u8]>, [u64; 6])] = &[
-    (b"CERT 2 E1 3 4", Some(b"E1"), [2, 3, 4, 0, 0, 0]),
-    (b"NORMAL", None, [0; 6]),
-    (b"STEP A.9_z-", Some(b"A.9_z-"), [0; 6]),
-    (b"SEGMENT 9 7 45 3", None, [9, 7, 45, 3, 0, 0]),
-    (b"EVENT M 4 1", Some(b"M"), [4, 1, 0, 0, 0, 0]),
-    (b"ACT A 2 3 0", Some(b"A"), [2, 3, 0, 0, 0, 0]),
+const LINES_READ: &[(&[u8], Option<&[u8]>, &[u64])] = &[
+    (b"CERT 2 E1 3 4", Some(b"E1"), &[2, 3, 4, 0, 0, 0]),
+    (b"NORMAL", None, &[0; 6]),
+    (b"STEP A.9_z-", Some(b"A.9_z-"), &[0; 6]),
+    (b"SEGMENT 9 7 45 3", None, &[9, 7, 45, 3, 0, 0]),
+    (b"EVENT M 4 1", Some(b"M"), &[4, 1, 0, 0, 0, 0]),
+    (b"ACT A 2 3 0", Some(b"A"), &[2, 3, 0, 0, 0, 0]),
     (
         b"ACT B 5 5 10 999999999999999999",
         Some(b"B"),
-        [5, 5, 10, 999_999_999_999_999_999, 0, 0],
+        &[5, 5, 10, 999_999_999_999_999_999, 0, 0],
     ),
-    (b"END", None, [0; 6]),
+    (b"END", None, &[0; 6]),
 ];
 
 // Whether these bytes are a line with this code and these numbers.
-fn is_read(bytes: &[u8], word: Option<&[u8]>, says: [u64; 6]) -> bool {
+fn is_read(bytes: &[u8], word: Option<&[u8]>, says: &[u64]) -> bool {
     match CertLine::read(bytes) {
-        Some(line) => code(&line) == word && numbers(&line) == says,
+        Some(line) => code(&line) == word && numbers(&line).as_slice() == says,
         None => false,
     }
 }

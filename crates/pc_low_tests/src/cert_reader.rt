@@ -24,7 +24,7 @@ pub(crate) fn joined(alloc: Global, parts: &[&[u8]]) -> Result<Vec<u8>, AllocErr
 
 // How many lines a text gives that comes in pulls of so many bytes, and which one is malformed or missing; 0 for none.
 // The lines are read through what is known of those one round before.
-fn read(text: &[u8], pull: usize, known: &mut KnownLines) -> [u64; 2]
+fn read(text: &[u8], pull: usize, known: &mut KnownLines) -> (u64, u64)
     requires { pull ≤ 4096 }
 {
     let mut reader = CertReader::begin();
@@ -37,7 +37,7 @@ fn read(text: &[u8], pull: usize, known: &mut KnownLines) -> [u64; 2]
         }
         let size = left.min(text.len() - at);
         match reader.feed_known(&text[at..at + size], known.here()) {
-            Err(malformed) => return [lines, malformed.line],
+            Err(malformed) => return (lines, malformed.line),
             Ok(used) => {
                 at += used;
                 left -= used;
@@ -52,8 +52,8 @@ fn read(text: &[u8], pull: usize, known: &mut KnownLines) -> [u64; 2]
         }
     }
     match reader.finish() {
-        Ok(()) => [lines, 0],
-        Err(malformed) => [lines, malformed.line],
+        Ok(()) => (lines, 0),
+        Err(malformed) => (lines, malformed.line),
     }
 }
 
@@ -63,27 +63,39 @@ const PADDED: &[u8] = b"SEGMENT 7 5 51 7\nEVENT S 0 0\nEVENT M 02 0\nEVENT T 7 1
 const OPEN: &[u8] = b"SEGMENT 7 5 51 7\nEVENT S 0 0\nEVENT M 2 00\nEVENT T 7 1\n";
 
 // The parts of a text, how many lines it gives, and which one is malformed or missing.
-const TEXTS: &[(&[&[u8]], [u64; 2])] = &[
-    (&[HEAD, FIRST, SECOND, b"END\n"], [24, 0]),
-    (&[HEAD, FIRST, b"END\n"], [16, 0]),
-    (&[HEAD, FIRST, SECOND], [23, 24]),
-    (&[HEAD, FIRST, SECOND, b"EN"], [23, 24]),
-    (&[HEAD, FIRST, SECOND, b"END\nx"], [24, 25]),
-    (&[HEAD, FIRST, SECOND, b"\nEND\n"], [23, 24]),
-    (&[HEAD, FIRST, PADDED], [17, 18]),
-    (&[HEAD, FIRST, OPEN], [17, 18]),
-    (&[HEAD, b"EVENT S 0 0\n"], [7, 8]),
-    (&[b"CERT 1 E1 03 3\n"], [0, 1]),
+const TEXTS: &[(&[&[u8]], (u64, u64))] = &[
+    (&[HEAD, FIRST, SECOND, b"END\n"], (24, 0)),
+    (&[HEAD, FIRST, b"END\n"], (16, 0)),
+    (&[HEAD, FIRST, SECOND], (23, 24)),
+    (&[HEAD, FIRST, SECOND, b"EN"], (23, 24)),
+    (&[HEAD, FIRST, SECOND, b"END\nx"], (24, 25)),
+    (&[HEAD, FIRST, SECOND, b"\nEND\n"], (23, 24)),
+    (&[HEAD, FIRST, PADDED], (17, 18)),
+    (&[HEAD, FIRST, OPEN], (17, 18)),
+    (&[HEAD, b"EVENT S 0 0\n"], (7, 8)),
+    (&[b"CERT 1 E1 03 3\n"], (0, 1)),
 ];
+
+// Whether the text of these parts is read so in pulls of so many bytes.
+fn is_read(
+    alloc: Global,
+    parts: &[&[u8]],
+    pull: usize,
+    found: (u64, u64),
+) -> Result<bool, AllocError>
+    requires { pull ≤ 4096 }
+{
+    let text = joined(alloc, parts)?;
+    let mut known = KnownLines::build(alloc, 8)?;
+    Ok(read(&text, pull, &mut known) == found)
+}
 
 // The first of these texts that is read otherwise in pulls of so many bytes, or none.
 fn first_misread(alloc: Global, pull: usize) -> Result<Option<usize>, AllocError>
     requires { pull ≤ 4096 }
 {
     for (i, &(parts, found)) in TEXTS.iter().enumerate() {
-        let text = joined(alloc, parts)?;
-        let mut known = KnownLines::build(alloc, 8)?;
-        if read(&text, pull, &mut known) != found {
+        if !is_read(alloc, parts, pull, found)? {
             return Ok(Some(i));
         }
     }
