@@ -46,13 +46,17 @@ fn is_finished(page: &mut Page, sink: &mut MemSink) -> bool {
     page.finish(sink).is_ok()
 }
 
+/// Whether the page is finished so, and the sink takes these bytes.
+fn is_taken(page: &mut Page, sink: &mut MemSink, is_whole: bool, taken: &[u8]) -> bool {
+    (is_finished(page, sink) == is_whole) & (sink.bytes() == taken)
+}
+
 /// The first of these cases that ends otherwise, or none. The page is used again for each, and forgets the failure
 /// before.
 fn first_wrong(alloc: Global, page: &mut Page) -> Result<Option<usize>, AllocError> {
     for (i, &(failing, taken)) in FAILING.iter().enumerate() {
         let mut sink = MemSink::new(alloc, 64, 64, &[failing])?;
-        let is_finished = is_finished(page, &mut sink);
-        if (is_finished != (failing == 4)) | (sink.bytes() != taken) {
+        if !is_taken(page, &mut sink, failing == 4, taken) {
             return Ok(Some(i));
         }
     }

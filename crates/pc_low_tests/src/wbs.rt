@@ -77,16 +77,21 @@ enum TreeFound {
     Other,
 }
 
+/// The same of what building a tree returned.
+fn found_in(built: &Result<Tree, TreeError>) -> TreeFound {
+    match built {
+        Ok(tree) => TreeFound::Depth(tree.depth()),
+        Err(TreeError::NoTop) => TreeFound::NoTop,
+        Err(TreeError::SecondTop { item }) => TreeFound::SecondTop(*item),
+        Err(TreeError::TooDeep { item, level }) => TreeFound::TooDeep(*item, *level),
+        Err(_) => TreeFound::Other,
+    }
+}
+
 fn found_of(alloc: Global, parents: &[Option<u32>]) -> TreeFound
     requires { length parents.now ≤ 100 }
 {
-    match built(alloc, parents) {
-        Ok(tree) => TreeFound::Depth(tree.depth()),
-        Err(TreeError::NoTop) => TreeFound::NoTop,
-        Err(TreeError::SecondTop { item }) => TreeFound::SecondTop(item),
-        Err(TreeError::TooDeep { item, level }) => TreeFound::TooDeep(item, level),
-        Err(_) => TreeFound::Other,
-    }
+    found_in(&built(alloc, parents))
 }
 
 /// Whether the rows are refused for a loop of these.
