@@ -1,5 +1,5 @@
 //! The benchmark's deck of four activities and what is said of its curve, both worked by hand.
-ghost use Rattle.std.specs.Prelude.{◌≡◌, [], length, IfSome};
+ghost use Rattle.std.specs.Prelude.{◌≡◌, ◌≤◌, [], length, IfSome};
 ghost use Rattle.pc_crash.specs.inside.Steps.{IsBlankOf};
 
 use crate::curves::solver;
@@ -26,15 +26,20 @@ ACCT,X,1,211,
 END
 ";
 
-/// Whether this is the deck of four activities.
-fn is_deck(alloc: Global, text: &[u8]) -> Option<bool> {
-    let deck = bench_deck(alloc, 4).ok()?;
-    Some(deck.as_slice() == text)
+/// Whether this is the deck of `n` activities.
+fn is_deck(alloc: Global, n: u64, text: &[u8]) -> bool
+    requires least { 1 ≤ n }
+    requires most { n ≤ 4000 }
+{
+    match bench_deck(alloc, n) {
+        Ok(deck) => deck.as_slice() == text,
+        Err(_) => false,
+    }
 }
 
 #[test]
 fn deck_of_four(rt: HostRuntime) {
-    assert!(rt; is_deck(rt.alloc(), FOUR) == Some(true));
+    assert!(rt; is_deck(rt.alloc(), 4, FOUR));
 }
 
 fn net_of_four(alloc: Global) -> Option<Net>
