@@ -1,7 +1,9 @@
 //! The breakpoints of the small network's curve, its least costs, and a cheapest schedule.
 ghost use Rattle.std.specs.Prelude.{◌≡◌, ◌≤◌, false, length};
 ghost use Rattle.pc_crash.specs.inside.Steps.{IsBlankOf};
+ghost use Rattle.pc_curve.specs.inside.Breaks.{StandsBy};
 
+use crate::cases::expect_none;
 use crate::curves::solver;
 use crate::small::{small_net, small_priced};
 use pc_crash::{CrashNet, SegmentView, Steps};
@@ -13,41 +15,61 @@ use std::alloc::{AllocError, Global};
 use std::marker::Brand;
 use std::sync::ledger::{Blank, Ledger};
 
-/// The first two breakpoints, and at which length they stand then.
-fn first_breaks<L: Ledger>(
+/// The first two breakpoints of the small network.
+const BREAKS: &[Break] = &[
+    Break {
+        length: 9,
+        cost: 45,
+        slope: Some(3),
+    },
+    Break {
+        length: 8,
+        cost: 48,
+        slope: Some(5),
+    },
+];
+
+/// The first of these breakpoints that does not come next, or none.
+fn first_wrong_break<L: Ledger>(
+    breaks: &mut Breaks,
     solver: &mut Solver<'_>,
-    blank: Blank,
-) -> ([Option<Break>; 2], Option<u64>)
+    steps: &mut Steps<L>,
+) -> Option<usize>
+    requires { StandsBy breaks.old solver.old }
+{
+    for (i, &want) in BREAKS.iter().enumerate() {
+        if breaks.next(solver, steps) != Some(want) {
+            return Some(i);
+        }
+    }
+    None
+}
+
+/// The same, or 2 if the last one is then at another length.
+fn first_wrong<L: Ledger>(solver: &mut Solver<'_>, blank: Blank) -> Option<usize>
     requires blank { IsBlankOf L.name L.parts blank.name blank.parts }
     requires before { solver.old.given ≡ false }
 {
     let mut steps = Steps::<L>::new(blank);
     let mut breaks = Breaks::new();
-    let first = breaks.next(solver, &mut steps);
-    let second = breaks.next(solver, &mut steps);
-    ([first, second], breaks.last())
+    let wrong = first_wrong_break(&mut breaks, solver, &mut steps);
+    if breaks.last() == Some(8) {
+        wrong
+    } else {
+        Some(BREAKS.len())
+    }
 }
 
-fn small_breaks(alloc: Global) -> Option<([Option<Break>; 2], Option<u64>)> {
+fn small_breaks(alloc: Global) -> Option<Option<usize>> {
     let net = small_net(alloc)?;
     let priced = small_priced(alloc, &net)?;
     let mut solver = solver(alloc, &priced).ok()?;
-    Some(first_breaks::<Brand>(&mut solver, Blank::new(1)))
+    Some(first_wrong::<Brand>(&mut solver, Blank::new(1)))
 }
 
 #[test]
 fn breakpoints_of_pieces(rt: HostRuntime) {
-    let first = Break {
-        length: 9,
-        cost: 45,
-        slope: Some(3),
-    };
-    let second = Break {
-        length: 8,
-        cost: 48,
-        slope: Some(5),
-    };
-    assert!(rt; small_breaks(rt.alloc()) == Some(([Some(first), Some(second)], Some(8))));
+    expect_none(&rt, small_breaks(rt.alloc()).unwrap_or(Some(BREAKS.len())));
 }
 
 /// The least costs of 7 and 6 units; for 6 that of a schedule, and when it ends.
