@@ -4,7 +4,7 @@ ghost use Rattle.pc_crash.specs.inside.Steps.{IsBlankOf};
 
 use crate::cases::expect_all;
 use crate::small::{small_net, small_priced};
-use pc_crash::{CrashNet, Knee, Link, Steps, Term};
+use pc_crash::{CrashNet, Knee, Link, Look, Steps, Term};
 use pc_text::Code;
 use std::alloc::Global;
 use std::marker::Brand;
@@ -99,32 +99,34 @@ fn prices_of_a_network(rt: HostRuntime) {
     expect_all(&rt, &are_told(rt.alloc()).unwrap_or([false; 10]));
 }
 
-/// What a look at activity 1 tells.
-fn look<L: Ledger>(net: &CrashNet<'_>, blank: Blank) -> [u64; 6]
+/// Whether a look tells the ends and the terms of activity 1, and one knee.
+fn is_told(look: &Look<'_>) -> bool {
+    (look.from == 1)
+        & (look.to == 2)
+        & (look.normal == 5)
+        & (look.crash == 3)
+        & (look.slope == 5)
+        & (look.knees.len() == 1)
+}
+
+/// Whether this is what a look at activity 1 tells.
+fn is_looked_at<L: Ledger>(net: &CrashNet<'_>, blank: Blank) -> bool
     requires blank { IsBlankOf L.name L.parts blank.name blank.parts }
     requires activity { 1 < length net.now.network.arcs }
 {
     let mut steps = Steps::<L>::new(blank);
-    let look = net.look(1, &mut steps);
-    [
-        look.from as u64,
-        look.to as u64,
-        look.normal,
-        look.crash,
-        look.slope,
-        look.knees.len() as u64,
-    ]
+    is_told(&net.look(1, &mut steps))
 }
 
-fn small_look(alloc: Global) -> Option<[u64; 6]> {
+fn small_look(alloc: Global) -> Option<bool> {
     let net = small_net(alloc)?;
     let priced = small_priced(alloc, &net)?;
-    Some(look::<Brand>(&priced, Blank::new(1)))
+    Some(is_looked_at::<Brand>(&priced, Blank::new(1)))
 }
 
 #[test]
 fn looks(rt: HostRuntime) {
-    assert!(rt; small_look(rt.alloc()) == Some([1, 2, 5, 3, 5, 1]));
+    assert!(rt; small_look(rt.alloc()) == Some(true));
 }
 
 /// The activities of two links, each with the event at its other end.
