@@ -1,5 +1,7 @@
 //! The staircases of three activities.
-use pc_flow::stair::{Knee, Lengths, Piece, beside, flow_at, lengths_of, piece_of, room_against, room_along};
+use pc_flow::stair::{
+    Knee, Lengths, Piece, beside, flow_at, lengths_of, piece_of, room_against, room_along,
+};
 
 // Normal at 4 units, three more for each unit of flow below it, three more below 3 units, and crash at 2.
 const TWO: [Knee; 2] = [Knee { at: 4, rise: 3 }, Knee { at: 3, rise: 3 }];
