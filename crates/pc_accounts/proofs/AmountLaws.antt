@@ -8,8 +8,8 @@ use Rattle.std.proofs.Math.Seq.{take-length}
 use Rattle.std.proofs.lemmas.List.{get_or_default}
 use Rattle.std.proofs.lemmas.List.Sums.{sum_by-set, get_or-le-sum_by}
 use Rattle.pc_model.specs.declared.limits.TheConstants.{MAX_COST, MAX_CHARGES}
-use Rattle.pc_accounts.specs.declared.rows.AcctRow.{AcctRow}
-use Rattle.pc_accounts.specs.declared.rows.MoneyRow.{MoneyRow}
+use Rattle.pc_accounts.specs.declared.book.AcctRow.{AcctRow}
+use Rattle.pc_accounts.specs.declared.book.MoneyRow.{MoneyRow}
 use Rattle.pc_accounts.specs.declared.entry.Entry.{Entry}
 use Rattle.pc_accounts.specs.Amounts.{money_at, budget_of, actual_of, IsDue, IsToGo, AreEntriesOf, AreMoney}
 use Rattle.pc_accounts.specs.inside.Parts.{AreActuals, LatestBelow, AreLatest, AreMade, option_at, later_row, entry_from}

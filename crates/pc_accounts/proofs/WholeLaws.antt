@@ -4,8 +4,8 @@ use Rattle.std.specs.Prelude.{int_le, pos, sum_by}
 use Rattle.std.proofs.Math.Seq.{take-length}
 use Rattle.pc_model.specs.Sums.{sum_to}
 use Rattle.pc_model.proofs.Sums.{sum_to-add, sum_to-same, sum_to-zero, sum_to-pick}
-use Rattle.pc_accounts.specs.declared.rows.AcctRow.{AcctRow}
-use Rattle.pc_accounts.specs.declared.rows.MoneyRow.{MoneyRow}
+use Rattle.pc_accounts.specs.declared.book.AcctRow.{AcctRow}
+use Rattle.pc_accounts.specs.declared.book.MoneyRow.{MoneyRow}
 use Rattle.pc_accounts.specs.declared.entry.Entry.{Entry}
 use Rattle.pc_accounts.specs.Entries.{entry_at}
 use Rattle.pc_accounts.specs.inside.Entries.{entry_of_all}

@@ -1,6 +1,6 @@
 -- Amounts to go of one account and one day.
 use Rattle.std.specs.Prelude.{◌≡◌, ℕ, ◌<◌, List, length}
-use Rattle.pc_accounts.specs.declared.rows.MoneyRow.{MoneyRow}
+use Rattle.pc_accounts.specs.declared.book.MoneyRow.{MoneyRow}
 use Rattle.pc_accounts.specs.Amounts.{money_at}
 
 -- row k comes after row j and has its account and its day

@@ -1,19 +1,20 @@
-//! The book of all accounts.
+//! The book of all accounts: the rows that it is made from, and the amounts to go that count.
+//!
+//! Accounts and items are numbered in card order from 0.
 ghost use Rattle.std.specs.Prelude.{◌≡◌, ℕ, ◌+◌, ◌*◌, ◌<◌, ◌≤◌, length, IsTrue, IsFalse, IfOk, IfErr, IfSome, OnOk};
 ghost use Rattle.pc_model.specs.declared.limits.TheConstants.{MAX_ACCOUNTS, MAX_CHARGES, MAX_TOGOS, MAX_COST};
 ghost use Rattle.pc_accounts.specs.Entries.{entry_at, latest_of, value_of, AreEntriesWithinLimits};
 ghost use Rattle.pc_accounts.specs.inside.Entries.{entry_of_all, IsShare};
 ghost use Rattle.pc_accounts.specs.Amounts.{AreBudgets, AreMoney, AreEntriesOf, entry_of_project};
-ghost use Rattle.pc_accounts.specs.inside.Parts.{AreActuals, AreKnown, AreMade, entry_from};
+ghost use Rattle.pc_accounts.specs.inside.Parts.{AreActuals, AreKnown, AreMade, entry_from, AreLatest, later_row};
 ghost use Rattle.pc_accounts.specs.Second.{IsRepeated};
 ghost use Rattle.pc_accounts.specs.inside.Second.{IsRefusal};
 
 use crate::entry::Entry;
 use crate::error::BookError;
-use crate::rows::{AcctRow, MoneyRow};
-use crate::togos::{latest_togos, refuse_second};
 use pc_days::Day;
 use std::alloc::{AllocError, Global};
+use std::collections::BTreeMap;
 use std::marker::Model;
 
 /// What each account has spent up to the as-of date and what is to go, in card order.
@@ -171,5 +172,77 @@ fn entry(budget: u64, actual: u64, latest: Option<u32>, togos: &[MoneyRow]) -> E
         budget,
         actual,
         to_go,
+    }
+}
+
+/// A cost account: its item and its budget.
+#[derive(Clone, Copy)]
+pub struct AcctRow {
+    pub item: u32,
+    pub budget: u64,
+}
+
+/// A dated amount of an account: a charge, or what was to go on that day.
+#[derive(Clone, Copy)]
+pub struct MoneyRow {
+    pub account: u32,
+    pub day: Day,
+    pub amount: u64,
+}
+
+/// The item of an activity, and its cost at its normal duration.
+#[derive(Clone, Copy)]
+pub struct WorkRow {
+    pub item: u32,
+    pub cost: u64,
+}
+
+/// Refuses two amounts to go of one account and one day. In an ordered map, so that no deck can make a look-up long.
+pub(crate) fn refuse_second(alloc: Global, togos: &[MoneyRow]) -> Result<(), BookError>
+    requires { length togos.now ≤ MAX_TOGOS }
+    ensures once { OnOk result ((k : ℕ) → IsRepeated togos.now k → ⊥) }
+    ensures refused { IfErr result (IsRefusal togos.now) }
+{
+    let mut seen: BTreeMap<(u32, Day), u32> = BTreeMap::new(alloc);
+    for second in 0..togos.len() as u32 {
+        let row = togos[second as usize];
+        if let Some(first) = seen.insert((row.account, row.day), second)? {
+            return Err(BookError::SecondToGo { first, second });
+        }
+    }
+    Ok(())
+}
+
+/// The row of each account's latest amount to go up to as-of, if there is one.
+pub(crate) fn latest_togos(
+    alloc: Global,
+    accounts: usize,
+    togos: &[MoneyRow],
+    as_of: Day,
+) -> Result<Vec<Option<u32>>, AllocError>
+    requires few { length togos.now ≤ MAX_TOGOS }
+    requires togos { AreMoney accounts togos.now }
+    ensures { IfOk result (λ latest. AreLatest accounts togos.now as_of (length togos.now) latest.items) }
+{
+    let mut latest = vec![in alloc; None; accounts]?;
+    for row in 0..togos.len() as u32 {
+        let togo = togos[row as usize];
+        if togo.day <= as_of {
+            let account = togo.account as usize;
+            latest[account] = Some(later(togos, latest[account], row));
+        }
+    }
+    Ok(latest)
+}
+
+/// The one of two rows that has the later day.
+fn later(togos: &[MoneyRow], so_far: Option<u32>, row: u32) -> u32
+    requires row { row < length togos.now }
+    requires so_far { IfSome so_far (λ best. best < length togos.now) }
+    ensures { result ≡ later_row togos.now so_far row }
+{
+    match so_far {
+        Some(best) if togos[row as usize].day < togos[best as usize].day => best,
+        _ => row,
     }
 }

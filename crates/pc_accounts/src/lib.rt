@@ -6,12 +6,9 @@ mod book;
 mod entry;
 mod error;
 mod packages;
-mod rows;
 pub mod status;
-mod togos;
 
-pub use book::Book;
+pub use book::{AcctRow, Book, MoneyRow, WorkRow};
 pub use entry::Entry;
 pub use error::{BookError, Uneven};
 pub use packages::reconcile;
-pub use rows::{AcctRow, MoneyRow, WorkRow};

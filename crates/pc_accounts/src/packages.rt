@@ -6,8 +6,8 @@ ghost use Rattle.pc_accounts.specs.Packages.{IsUneven};
 ghost use Rattle.pc_accounts.specs.inside.Packages.{AreWork, IsFirstUneven};
 ghost use Rattle.pc_accounts.specs.inside.Parts.{AreBudgetSums, AreCostSums};
 
+use crate::book::{AcctRow, WorkRow};
 use crate::error::Uneven;
-use crate::rows::{AcctRow, WorkRow};
 use pc_wbs::Tree;
 use std::alloc::{AllocError, Global};
 

@@ -3,9 +3,9 @@ use Rattle.std.proofs.Common.{◌≡◌, ℕ, ◌+◌, List, Option, Some, None,
 use Rattle.std.specs.Prelude.{IfSome, String}
 use Rattle.std.specs.declared.alloc.Global.{Global}
 use Rattle.pc_edges.specs.Pulls.{TakesPulls}
-use Rattle.pc_check.specs.declared.fail.Fail.{Fail}
-use Rattle.pc_check.specs.declared.fail.Verdict.{Verdict}
-use Rattle.pc_check.specs.declared.fail.Verdict.TheVariants.{Yes, No}
+use Rattle.pc_check.specs.declared.checker.Fail.{Fail}
+use Rattle.pc_check.specs.declared.checker.Verdict.{Verdict}
+use Rattle.pc_check.specs.declared.checker.Verdict.TheVariants.{Yes, No}
 use Rattle.pc_check.specs.Texts.{IsCertified, IsFailing, Finds}
 use Rattle.pc_check.specs.Auditing.{most_bytes}
 use Rattle.pc_check.specs.OwnLines.{KeepsToOwnLines}

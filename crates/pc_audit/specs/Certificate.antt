@@ -1,8 +1,8 @@
 -- Certificates of a deck's project, and what is said of them.
 use Rattle.std.specs.Prelude.{◌≡◌, ℕ, List, [], ◌∷◌, ◌++◌, codes, decimal, Option}
 use Rattle.pc_crash.specs.Priced.{PricedNetwork}
-use Rattle.pc_check.specs.declared.fail.Verdict.{Verdict}
-use Rattle.pc_check.specs.declared.fail.Verdict.TheVariants.{Yes, No}
+use Rattle.pc_check.specs.declared.checker.Verdict.{Verdict}
+use Rattle.pc_check.specs.declared.checker.Verdict.TheVariants.{Yes, No}
 use Rattle.pc_edges.specs.declared.loading.TheConstants.{STREAM_ROOM}
 use Rattle.pc_check.specs.Texts.{Finds}
 use Rattle.pc_cert.specs.declared.line.CertLine.{CertLine}

@@ -1,7 +1,7 @@
 -- What a check of a certificate means and leaves behind, by its status.
 use Rattle.std.specs.Prelude.{ℕ, List, String}
 use Rattle.std.specs.declared.alloc.Global.{Global}
-use Rattle.pc_check.specs.declared.fail.Verdict.{Verdict}
+use Rattle.pc_check.specs.declared.checker.Verdict.{Verdict}
 use Rattle.pc_deck.specs.Limits.{longest_deck}
 use Rattle.pc_audit.specs.Certificate.{check_usage_text, verdict_text, HasVerdict, IsSettledFor, IsUnsettledFor}
 use Rattle.pc_shell.specs.Sides.{Side, HadFault, IsReadToEnd, IsUntouched, OfBytes, Took, TookAtMost, TookFront}

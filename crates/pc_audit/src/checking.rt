@@ -1,7 +1,7 @@
 //! The top call of `pert_check`.
 ghost use Rattle.std.specs.Prelude.{◌≡◌, ◌≢◌, ℕ, List, ◌+◌, ◌≤◌, ◌⊎◌, length, IfSome};
-ghost use Rattle.pc_check.specs.declared.fail.Verdict.{Verdict as TheVerdict};
-ghost use Rattle.pc_check.specs.declared.fail.Verdict.TheVariants.{Yes, No};
+ghost use Rattle.pc_check.specs.declared.checker.Verdict.{Verdict as TheVerdict};
+ghost use Rattle.pc_check.specs.declared.checker.Verdict.TheVariants.{Yes, No};
 ghost use Rattle.pc_deck.specs.Limits.{longest_deck};
 ghost use Rattle.pc_edges.specs.Pulls.{IsReadWithin, TakesPulls};
 ghost use Rattle.pc_edges.specs.declared.loading.TheConstants.{STREAM_ROOM};
@@ -133,8 +133,9 @@ pub fn check_run<D: Source, C: Source, O: Sink, E: Sink>(
         → HadNoFault (pulled_side C.left C.faults C.pulls cert.old cert.new)
         → HadNoFault (side O.taken O.faults out.old out.new) → (result ≡ 6) ⊎ (result ≡ 3)) }
 
-    // However long the deck is, nothing of it is pulled after the pull that passes the longest deck, ends it or fails.
-    ensures deck_stops { IsReadWithin longest_deck STREAM_ROOM D.left D.pulls deck.old deck.new }
+    // However long the deck is, nothing of it is pulled after the pull that passes the longest deck, ends it or fails,
+    // and each pull before that one gave at least one byte.
+    ensures deck_stops { IsReadWithin longest_deck STREAM_ROOM D.left D.faults D.pulls deck.old deck.new }
 
     // However long the certificate is, the pulls from it are bounded by the deck's project, and by the certificate's
     // own first upper end: by the lines of the header and the walks, of as many segments as that is long, or of one if
@@ -167,7 +168,7 @@ fn check_outcome<D: Source, C: Source, O: Sink, E: Sink>(
     ensures own_turns { OfBoth (side D.left D.faults deck.old deck.new)
         (pulled_side C.left C.faults C.pulls cert.old cert.new)
         (KeepsToOwnLinesFor (C.pulls cert.old) (C.pulls cert.new)) }
-    ensures deck_stops { IsReadWithin longest_deck STREAM_ROOM D.left D.pulls deck.old deck.new }
+    ensures deck_stops { IsReadWithin longest_deck STREAM_ROOM D.left D.faults D.pulls deck.old deck.new }
 {
     match project_named(alloc, words, USAGE, deck, err) {
         Ok(project) => check(alloc, &project, cert, out),

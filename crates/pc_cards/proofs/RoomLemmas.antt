@@ -11,8 +11,8 @@ use Rattle.pc_records.proofs.LengthFacts.{IsPlain, written_field-plain, length-w
 use Rattle.pc_text.specs.Code.{is_code, is_code_byte}
 use Rattle.pc_text.specs.Number.{is_number, number_of, value_after}
 use Rattle.pc_days.specs.Dates.{NamesDay, day_of}
-use Rattle.pc_days.specs.declared.error.DayError.{DayError}
-use Rattle.pc_days.specs.declared.error.DayError.TheVariants.{Shape, Years}
+use Rattle.pc_days.specs.declared.day.DayError.{DayError}
+use Rattle.pc_days.specs.declared.day.DayError.TheVariants.{Shape, Years}
 use Rattle.pc_days.proofs.Reading.{NamesDay-read}
 use Rattle.pc_cards.specs.Forms.{AllFit, Fits, Slot, field_numbered, is_misshapen, is_of_other_years, is_reserved}
 use Rattle.pc_cards.specs.declared.form.FieldForm.{FieldForm}

@@ -9,8 +9,8 @@ use Rattle.pc_text.specs.Number.{number_of, is_number, value_after}
 use Rattle.pc_text.proofs.NumberLemmas.{spelled_by}
 use Rattle.pc_days.specs.Dates.{day_of}
 use Rattle.pc_days.specs.Calendar.{text_of_day}
-use Rattle.pc_days.specs.declared.error.DayError.{DayError}
-use Rattle.pc_days.specs.declared.error.DayError.TheVariants.{Shape, Years}
+use Rattle.pc_days.specs.declared.day.DayError.{DayError}
+use Rattle.pc_days.specs.declared.day.DayError.TheVariants.{Shape, Years}
 use Rattle.pc_days.proofs.CalendarLaws.{text_of-read}
 use Rattle.pc_records.specs.Deck.{is_empty}
 use Rattle.pc_cards.specs.Forms.{AllFit, Fits, Slot, code_text, day_in, field_numbered, is_misshapen, is_of_other_years, letter_text, number_in, number_text}

@@ -9,8 +9,8 @@ use Rattle.pc_text.specs.Code.{is_code}
 use Rattle.pc_text.specs.Title.{is_title_shape}
 use Rattle.pc_text.specs.Number.{number_of}
 use Rattle.pc_days.specs.Dates.{day_of}
-use Rattle.pc_days.specs.declared.error.DayError.{DayError}
-use Rattle.pc_days.specs.declared.error.DayError.TheVariants.{Shape, Years}
+use Rattle.pc_days.specs.declared.day.DayError.{DayError}
+use Rattle.pc_days.specs.declared.day.DayError.TheVariants.{Shape, Years}
 use Rattle.pc_model.specs.declared.limits.TheConstants.{MAX_COST, MAX_DURATION}
 use Rattle.pc_cards.specs.declared.form.FieldForm.{FieldForm}
 use Rattle.pc_cards.specs.declared.form.FieldForm.TheVariants as form

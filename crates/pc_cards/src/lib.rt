@@ -7,7 +7,6 @@
 #![tactic(auto)]
 
 pub mod card;
-pub mod entry;
 pub mod field;
 pub mod form;
 pub mod lists;

@@ -200,7 +200,7 @@ pub struct Named<C: Coded> {
 }
 
 impl<C: Coded> Drop for Named<C> {
-    // Written out, so that who lets a list go cites this proof.
+    // Written by hand so that the proof of dropping a list is done once, here.
     fn drop(self) {
         let Named {
             cards: _cards,

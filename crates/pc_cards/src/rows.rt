@@ -17,7 +17,7 @@ pub struct CardRows<'a> {
 }
 
 impl<'a> Drop for CardRows<'a> {
-    // Written out, so that who lets them go cites this proof.
+    // Written by hand so that the proof of dropping them is done once, here.
     fn drop(self) {
         let CardRows {
             rows: _rows,

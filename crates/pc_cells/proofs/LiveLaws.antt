@@ -5,7 +5,7 @@ use Rattle.std.proofs.lemmas.List.{length-set, length-append, length-take, get_o
 use Rattle.std.proofs.lemmas.List.Sums.{sum_by-cons}
 use Rattle.std.proofs.lemmas.Bool.{cases_eq}
 use Rattle.std.proofs.Common.{inl, inr}
-use Rattle.pc_cells.specs.declared.span.Span.{Span}
+use Rattle.pc_cells.specs.declared.region.Span.{Span}
 use Rattle.pc_cells.specs.inside.Spans.{span_at, cells_before, IsSpan}
 
 -- what is written into a span moves no other

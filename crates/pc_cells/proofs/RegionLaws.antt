@@ -4,8 +4,8 @@ use Rattle.std.specs.Prelude.{slice_index, slice_range, sum_by}
 use Rattle.std.specs.Vec.{with_items}
 use Rattle.std.proofs.lemmas.Bool.{cases_lt}
 use Rattle.std.proofs.lemmas.List.{with_items_is, length_push, get_or_read, take_at, get_or_push, length-set, get_or-set_same, get_or-set_other, length-replicate}
-use Rattle.pc_cells.specs.declared.span.Span.{Span}
-use Rattle.pc_cells.specs.declared.span.Mark.{Mark}
+use Rattle.pc_cells.specs.declared.region.Span.{Span}
+use Rattle.pc_cells.specs.declared.region.Mark.{Mark}
 use Rattle.pc_cells.specs.declared.region.Region.TheInside.{Inside}
 use Rattle.pc_cells.specs.Spans.{Cells}
 use Rattle.pc_cells.specs.inside.Spans.{span_at, cells_before, with_span, free_of, IsSpan, IsLive, IsMark}

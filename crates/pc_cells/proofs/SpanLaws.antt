@@ -9,7 +9,7 @@ use Rattle.std.proofs.lemmas.Slice.{take-put_mid_below, drop-put_mid, between-pu
 use Rattle.std.proofs.Math.Seq.{take-set-lt}
 use Rattle.std.proofs.lemmas.Bool.{cases_eq, cases_lt}
 use borrow.Rule.Slice.PartMut.{put_mid}
-use Rattle.pc_cells.specs.declared.span.Span.{Span}
+use Rattle.pc_cells.specs.declared.region.Span.{Span}
 use Rattle.pc_cells.specs.inside.Spans.{span_at, cells_before, IsSpan}
 use Rattle.pc_cells.specs.inside.Layout.{between_starts, spans_of, AreStarts, IsRangeFilled, IsRangeWritten}
 

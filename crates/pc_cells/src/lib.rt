@@ -3,7 +3,5 @@
 #![tactic(auto)]
 
 mod region;
-mod span;
 
-pub use region::Region;
-pub use span::{Mark, RegionFull, Span};
+pub use region::{Mark, Region, RegionFull, Span};

@@ -1,4 +1,4 @@
-//! A region and the spans that are live in it.
+//! A region, the spans that are live in it, and the names for parts of it.
 ghost use Rattle.std.specs.Prelude.{
   ◌≡◌,
   ◌+◌,
@@ -25,7 +25,6 @@ ghost use Rattle.std.specs.Prelude.{
 ghost use Rattle.pc_cells.specs.inside.Spans.{free_of, span_at, with_span, IsSpan, IsLive, IsTaken, IsMark};
 ghost use Rattle.pc_cells.specs.inside.Layout.{IsRangeFilled, IsRangeWritten};
 
-use crate::span::{Mark, RegionFull, Span};
 use std::alloc::{AllocError, Global};
 use std::marker::Model;
 
@@ -41,7 +40,7 @@ pub struct Region {
 }
 
 impl Drop for Region {
-    // Written out, so that who lets one go cites this proof.
+    // Written by hand so that the proof of dropping a region is done once, here.
     fn drop(self) {
         let Region {
             cells: _cells,
@@ -219,4 +218,25 @@ fn fill_range(cells: &mut [u64], from: usize, to: usize, v: u64)
     ensures { IsRangeFilled cells.old cells.new from to v }
 {
     cells[from..to].fill(v);
+}
+
+/// Consecutive cells of a region: the place of the first one, and their number.
+#[derive(Clone, Copy, Debug, PartialEq, Eq)]
+pub struct Span {
+    pub place: usize,
+    pub len: usize,
+}
+
+/// How much of a region was in use at some time: the number of spans, and the number of cells that they had together.
+#[derive(Clone, Copy, Debug, PartialEq, Eq)]
+pub struct Mark {
+    pub spans: usize,
+    pub cells: usize,
+}
+
+/// The error of [`Region::take`](crate::Region::take): a span of `need` cells was asked for, and `free` cells are left.
+#[derive(Clone, Copy, Debug, PartialEq, Eq)]
+pub struct RegionFull {
+    pub need: usize,
+    pub free: usize,
 }

@@ -15,7 +15,7 @@ use Rattle.pc_cert.specs.Text.{AreWritable}
 use Rattle.pc_cert.proofs.TextLaws.{AllFit-append}
 use Rattle.pc_cert.specs.Listed.{listed}
 use Rattle.pc_cert.specs.Document.{event_line, act_line, segment_lines}
-use Rattle.pc_cert.specs.inside.Document.{HasSmallNumbers}
+use Rattle.pc_cert.specs.Document.{HasSmallNumbers}
 use Rattle.pc_cert.proofs.ListedLaws.{length-listed}
 
 pub AllFit-listed : (n : ℕ) (line : ℕ → CertLine) → ((i : ℕ) → i < n → IsWritable (line i)) → AreWritable (listed n line)

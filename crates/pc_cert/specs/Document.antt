@@ -1,11 +1,12 @@
 -- The lines of a certificate: what its writer says of a network, of two walks along it, and of the segments of its curve.
-use Rattle.std.specs.Prelude.{ℕ, ◌==◌, List, [], ◌∷◌, ◌++◌, length, map, if◌then◌else◌}
+use Rattle.std.specs.Prelude.{ℕ, ◌<◌, ◌==◌, List, [], ◌∷◌, ◌++◌, length, map, if◌then◌else◌}
 use Rattle.std.specs.List.{flat_map}
 use Rattle.pc_model.specs.Codes.{text_at}
 use Rattle.pc_laws.specs.Segment.{Segment as Stretch}
 use Rattle.pc_crash.specs.Priced.{PricedNetwork, knees_in}
 use Rattle.pc_cert.specs.declared.line.CertLine.{CertLine}
 use Rattle.pc_cert.specs.declared.line.CertLine.TheVariants.{Head, Normal, Step, Crash, Segment, Event, Act, Close, End}
+use Rattle.pc_cert.specs.Lines.{IsSmall}
 use Rattle.pc_cert.specs.Listed.{listed}
 
 -- ---- the lines before the segments
@@ -48,6 +49,17 @@ act_line net seg a = Act (text_at net.activities a) (seg.duration a) (flows_alon
 abbrev pub segment_lines : PricedNetwork → Stretch → List CertLine
 segment_lines net seg =
     ends_line seg ∷ (listed net.network.events (event_line net seg) ++ (listed (length net.network.arcs) (act_line net seg) ++ Close ∷ []))
+
+-- the numbers of a segment have at most 18 digits
+pub record HasSmallNumbers (net : PricedNetwork) (seg : Stretch) : Type 0 where
+  pub upper : IsSmall seg.upper
+  pub lower : IsSmall seg.lower
+  pub cost : IsSmall seg.cost
+  pub slope : IsSmall seg.slope
+  pub times : (e : ℕ) → e < net.network.events → IsSmall (seg.time e)
+  pub durations : (a : ℕ) → a < length net.network.arcs → IsSmall (seg.duration a)
+  pub flows : (a k : ℕ) → a < length net.network.arcs → k < (knees_in net).count a → IsSmall (seg.flow a k)
+  pub beside : (a : ℕ) → a < length net.network.arcs → IsSmall (seg.beside a)
 
 -- ---- the whole certificate
 

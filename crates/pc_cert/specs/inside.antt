@@ -7,4 +7,3 @@ pub mod Grammar
 pub mod Reader
 pub mod Fed
 pub mod Known
-pub mod Document

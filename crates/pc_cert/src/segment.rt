@@ -7,7 +7,7 @@ ghost use Rattle.pc_cert.specs.Lines.{numbers};
 ghost use Rattle.pc_cert.specs.Text.{text_of, AreWritable};
 ghost use Rattle.pc_cert.specs.Listed.{listed};
 ghost use Rattle.pc_cert.specs.Document.{ends_line, event_line, act_line, flows_along, segment_lines};
-ghost use Rattle.pc_cert.specs.inside.Document.{HasSmallNumbers};
+ghost use Rattle.pc_cert.specs.Document.{HasSmallNumbers};
 ghost use Rattle.pc_cert.specs.inside.Fields.{bit_text};
 
 use crate::words::{put_code, put_number};

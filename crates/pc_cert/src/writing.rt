@@ -3,7 +3,7 @@ ghost use Rattle.std.specs.Prelude.{◌≡◌, ◌<◌, All, length};
 ghost use Rattle.pc_edges.specs.inside.Writes.{Writes};
 ghost use Rattle.pc_cert.specs.Text.{text_of, AreWritable};
 ghost use Rattle.pc_cert.specs.Document.{head_lines, segment_lines, end_lines};
-ghost use Rattle.pc_cert.specs.inside.Document.{HasSmallNumbers};
+ghost use Rattle.pc_cert.specs.Document.{HasSmallNumbers};
 
 use crate::end::put_end;
 use crate::head::put_head;

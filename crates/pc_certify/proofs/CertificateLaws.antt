@@ -7,7 +7,7 @@ use Rattle.pc_crash.specs.Priced.{PricedNetwork}
 use Rattle.pc_edges.specs.inside.page.Puts.{Desk}
 use Rattle.pc_times.specs.inside.Picked.{LongestWalk}
 use Rattle.pc_cert.specs.Document.{document_lines}
-use Rattle.pc_certify.specs.inside.Complete.{IsComplete, IsThrough}
+use Rattle.pc_certify.specs.Complete.{IsComplete, IsThrough}
 use Rattle.pc_check.specs.Texts.{IsCertified}
 use Rattle.pc_certify.specs.inside.Walks.{IsPicked, ArePicked}
 use Rattle.pc_certify.specs.inside.Descent.{IsPutDown}

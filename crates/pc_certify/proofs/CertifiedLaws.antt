@@ -15,15 +15,15 @@ use Rattle.pc_crash.specs.Priced.{PricedNetwork}
 use Rattle.pc_crash.specs.inside.Priced.{AreNames}
 use Rattle.pc_check.specs.Segments.{segment_in}
 use Rattle.pc_check.specs.Certified.{segments_of}
-use Rattle.pc_check.specs.inside.Certified.{AreCertified, AreCurve}
+use Rattle.pc_check.specs.Certified.{AreCertified, AreCurve}
 use Rattle.pc_check.proofs.GoodLines.{curve_of}
 use Rattle.pc_check.specs.Texts.{IsCertified}
 use Rattle.pc_cert.specs.Document.{head_lines, segment_lines, end_lines, document_lines}
-use Rattle.pc_cert.specs.inside.Document.{HasSmallNumbers}
+use Rattle.pc_cert.specs.Document.{HasSmallNumbers}
 use Rattle.pc_certify.specs.Complete.{begun_lines}
-use Rattle.pc_certify.specs.inside.Complete.{IsComplete}
+use Rattle.pc_certify.specs.Complete.{IsComplete}
 use Rattle.pc_certify.proofs.RowLaws.{part_of}
-use Rattle.pc_certify.specs.inside.Rows.{SaySame, AllSaySame}
+use Rattle.pc_certify.specs.Rows.{SaySame, AllSaySame}
 use Rattle.pc_certify.proofs.CloseLaws.{says_same}
 use Rattle.pc_certify.proofs.DocumentPass.{document_passes}
 use Rattle.pc_certify.proofs.OrderLaws.{document_order}

@@ -18,7 +18,7 @@ use Rattle.pc_check.proofs.BelowLaws.{some_below-finds}
 use Rattle.pc_cert.specs.Document.{flows_along}
 use Rattle.pc_cert.proofs.ListedLaws.{length-listed}
 use Rattle.pc_certify.proofs.RowLaws.{act_row, part_of, event_is, act_is, flow_is, beside_is}
-use Rattle.pc_certify.specs.inside.Rows.{SaySame}
+use Rattle.pc_certify.specs.Rows.{SaySame}
 use Rattle.pc_certify.proofs.HoldLaws.{both, left, right, Ends}
 use Rattle.pc_certify.proofs.SameLaws.{MoveSame, forward_by-same, backward_by-same, stops_in-same}
 

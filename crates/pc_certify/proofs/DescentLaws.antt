@@ -9,7 +9,7 @@ use Rattle.pc_laws.proofs.Segments.Covering.{front_begins, front_grows}
 use Rattle.pc_crash.specs.Priced.{PricedNetwork, knees_in}
 use Rattle.pc_flow.specs.Courses.{Course, upper_of, lower_of, IsSameCurve}
 use Rattle.pc_flow.specs.inside.Courses.{present, HasEnded, IsNext, HasSmallNumbers as IsSmallBelow}
-use Rattle.pc_cert.specs.inside.Document.{HasSmallNumbers}
+use Rattle.pc_cert.specs.Document.{HasSmallNumbers}
 use Rattle.pc_certify.specs.inside.Descent.{IsAlong, IsAtTop, CanBeSpelled}
 use Rattle.pc_cert.specs.Text.{text_of}
 use Rattle.pc_edges.specs.inside.page.Puts.{Desk, Adds}

@@ -22,7 +22,7 @@ use Rattle.pc_check.specs.Said.{said}
 use Rattle.pc_check.specs.Walks.{length_in, walked, at_start, is_through}
 use Rattle.pc_check.proofs.Drafts.{begun_part}
 use Rattle.pc_cert.specs.Document.{first_line, steps, head_lines, segment_lines, end_lines, document_lines, version_of}
-use Rattle.pc_certify.specs.inside.Complete.{IsThrough, IsComplete}
+use Rattle.pc_certify.specs.Complete.{IsThrough, IsComplete}
 use Rattle.pc_certify.proofs.RowLaws.{part_of}
 use Rattle.pc_certify.proofs.PassLaws.{Pass, Pass-nil, Pass-cons, Pass-then, PassTo, PassTo-then, holds_on}
 use Rattle.pc_certify.proofs.HoldLaws.{both, left, right, same_code}

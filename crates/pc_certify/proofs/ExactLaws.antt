@@ -12,9 +12,9 @@ use Rattle.pc_cert.proofs.LineLengths.{spelling_lacks_end, length-spelling}
 use Rattle.pc_cert.proofs.TextLaws.{spelling_once, split_once, ran-append, text_once}
 use Rattle.pc_cert.specs.Reader.{IsBadLine, IsTooLong}
 use Rattle.pc_crash.specs.Priced.{PricedNetwork}
-use Rattle.pc_check.specs.declared.fail.Fail.{Fail}
-use Rattle.pc_check.specs.declared.fail.Verdict.{Verdict}
-use Rattle.pc_check.specs.declared.fail.Verdict.TheVariants.{Yes, No}
+use Rattle.pc_check.specs.declared.checker.Fail.{Fail}
+use Rattle.pc_check.specs.declared.checker.Verdict.{Verdict}
+use Rattle.pc_check.specs.declared.checker.Verdict.TheVariants.{Yes, No}
 use Rattle.pc_check.specs.Failures.{failure_of}
 use Rattle.pc_check.specs.Certified.{segments_of}
 use Rattle.pc_check.proofs.FailureLaws.{failure_of-more}

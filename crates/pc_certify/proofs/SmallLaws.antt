@@ -21,8 +21,8 @@ use Rattle.pc_laws.proofs.Flows.Bounds.{flow_at_most, last_slope-small, last_slo
 use Rattle.pc_laws.proofs.Segments.Readings.{cut_rises, tight_upper}
 use Rattle.pc_crash.specs.Priced.{PricedNetwork, knees_in, ArePiecesWithinLimits}
 use Rattle.pc_crash.specs.Terms.{AreWithinLimits}
-use Rattle.pc_cert.specs.inside.Document.{HasSmallNumbers}
-use Rattle.pc_certify.specs.inside.Complete.{IsThrough, IsComplete}
+use Rattle.pc_cert.specs.Document.{HasSmallNumbers}
+use Rattle.pc_certify.specs.Complete.{IsThrough, IsComplete}
 
 -- what is known of a priced network and its size
 pub record IsSized (net : PricedNetwork) : Type 0 where

@@ -14,7 +14,7 @@ use Rattle.pc_check.specs.Walks.{place_of, further, stepped, walked, at_start, i
 use Rattle.pc_check.proofs.NamedLaws.{named_is_place}
 use Rattle.pc_check.proofs.Drafts.{begun_part}
 use Rattle.pc_cert.specs.Document.{steps}
-use Rattle.pc_certify.specs.inside.Complete.{IsThrough}
+use Rattle.pc_certify.specs.Complete.{IsThrough}
 use Rattle.pc_certify.proofs.PassLaws.{Pass, Pass-nil, Pass-cons, Pass-as}
 
 -- the codes of a walk's activities

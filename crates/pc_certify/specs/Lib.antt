@@ -1,3 +1,5 @@
 pub mod Complete
 pub mod Certificate
+pub mod Rows
+pub mod Worked
 pub mod inside

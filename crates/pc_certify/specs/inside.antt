@@ -1,9 +1,6 @@
 -- What contracts within and between crates speak of besides what the clauses of the top calls and the laws reach.
 pub mod Spelled
 pub mod Gathers
-pub mod Rows
-pub mod Complete
-pub mod Worked
 pub mod Certificate
 pub mod Walks
 pub mod Descent

@@ -4,14 +4,14 @@ ghost use Rattle.pc_laws.specs.Segment.{Segment};
 ghost use Rattle.pc_cert.specs.Text.{text_of, AreWritable};
 ghost use Rattle.pc_crash.specs.Priced.{PricedNetwork};
 ghost use Rattle.pc_check.specs.Certified.{segments_of};
-ghost use Rattle.pc_check.specs.inside.Certified.{AreCertified, AreCurve};
-ghost use Rattle.pc_check.specs.declared.fail.Verdict.{Verdict};
-ghost use Rattle.pc_check.specs.declared.fail.Verdict.TheVariants.{Yes};
+ghost use Rattle.pc_check.specs.Certified.{AreCertified, AreCurve};
+ghost use Rattle.pc_check.specs.declared.checker.Verdict.{Verdict};
+ghost use Rattle.pc_check.specs.declared.checker.Verdict.TheVariants.{Yes};
 ghost use Rattle.pc_check.specs.Texts.{IsCertified, Finds};
 ghost use Rattle.pc_cert.specs.Document.{document_lines};
-ghost use Rattle.pc_cert.specs.inside.Document.{HasSmallNumbers};
-ghost use Rattle.pc_certify.specs.inside.Complete.{IsComplete};
-ghost use Rattle.pc_certify.specs.inside.Rows.{AllSaySame};
+ghost use Rattle.pc_cert.specs.Document.{HasSmallNumbers};
+ghost use Rattle.pc_certify.specs.Complete.{IsComplete};
+ghost use Rattle.pc_certify.specs.Rows.{AllSaySame};
 
 use pc_crash::CrashNet;
 

@@ -6,7 +6,7 @@ ghost use Rattle.pc_cert.specs.Text.{text_of, AreWritable};
 ghost use Rattle.pc_model.specs.Codes.{text_at};
 ghost use Rattle.pc_cert.specs.Listed.{listed};
 ghost use Rattle.pc_cert.specs.Document.{event_line, act_line, flows_along, segment_lines};
-ghost use Rattle.pc_cert.specs.inside.Document.{HasSmallNumbers};
+ghost use Rattle.pc_cert.specs.Document.{HasSmallNumbers};
 ghost use Rattle.pc_certify.specs.inside.Gathers.{Gathers};
 ghost use Rattle.pc_certify.specs.inside.Spelled.{AreEventsSpelled, AreActsSpelled, SpellsAct, filled_along};
 

@@ -4,8 +4,8 @@ ghost use Rattle.pc_laws.specs.Worked.{small_1, small_segments};
 ghost use Rattle.pc_cert.specs.Text.{text_of};
 ghost use Rattle.pc_cert.specs.Document.{document_lines};
 ghost use Rattle.pc_certify.specs.Complete.{begun_lines};
-ghost use Rattle.pc_certify.specs.inside.Complete.{IsComplete};
-ghost use Rattle.pc_certify.specs.inside.Worked.{
+ghost use Rattle.pc_certify.specs.Complete.{IsComplete};
+ghost use Rattle.pc_certify.specs.Worked.{
   small_deck,
   small_deck_in_pieces,
   along_a_and_b,

@@ -13,7 +13,7 @@ use Rattle.pc_cert.proofs.TextLaws.{ran-append}
 use Rattle.pc_cert.specs.Reader.{IsStopped, IsGoing as IsReading}
 use Rattle.pc_cert.specs.inside.Reader.{Reading, Stands as ReadStands, StandsFor as ReadsAs}
 use Rattle.pc_cert.specs.declared.reader.Malformed.{Malformed}
-use Rattle.pc_check.specs.declared.fail.Fail.{Fail}
+use Rattle.pc_check.specs.declared.checker.Fail.{Fail}
 use Rattle.pc_check.specs.inside.Bounds.{lines_left}
 use Rattle.pc_check.specs.Failures.{failure_of}
 use Rattle.pc_check.specs.inside.Checking.{Checking, Stands as CheckStands, StandsFor as ChecksAs, IsGoing as IsChecking}

@@ -6,9 +6,10 @@ use Rattle.pc_cert.specs.declared.line.CertLine.{CertLine}
 use Rattle.pc_cert.specs.declared.place.Place.TheVariants.{Ended}
 use Rattle.pc_crash.specs.Priced.{knees_in}
 use Rattle.pc_check.specs.Certified.{segments_of}
-use Rattle.pc_check.specs.declared.fail.Fail.{Fail}
-use Rattle.pc_check.specs.declared.fail.Verdict.TheVariants.{No}
-use Rattle.pc_check.specs.inside.Certified.{AreCurve, Finds}
+use Rattle.pc_check.specs.declared.checker.Fail.{Fail}
+use Rattle.pc_check.specs.declared.checker.Verdict.TheVariants.{No}
+use Rattle.pc_check.specs.inside.Certified.{Finds}
+use Rattle.pc_check.specs.Certified.{AreCurve}
 use Rattle.pc_check.specs.inside.Checking.{Checking, Stands, StandsFor}
 use Rattle.pc_check.proofs.TakeLaws.{is_going, when_none}
 use Rattle.pc_check.proofs.GoodLines.{curve_of}

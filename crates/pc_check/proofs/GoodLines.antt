@@ -21,12 +21,12 @@ use Rattle.pc_cert.specs.declared.line.CertLine.TheVariants.{Head, Normal, Step,
 use Rattle.pc_cert.specs.declared.place.Shape.{Shape}
 use Rattle.pc_cert.specs.declared.place.Place.{Place}
 use Rattle.pc_cert.specs.declared.place.Place.TheVariants.{Start, AfterHead, NormalWalk, CrashWalk, InSegment, Between, Ended}
-use Rattle.pc_check.specs.declared.fail.Fail.{Fail}
+use Rattle.pc_check.specs.declared.checker.Fail.{Fail}
 use Rattle.pc_check.specs.inside.Bounds.{IsShaped}
 use Rattle.pc_check.specs.Draft.{Part, Draft, EventRow, ActRow, empty_draft, event_at, act_at, with_line, draft_of}
 use Rattle.pc_check.specs.Failures.{reason_at, or_later, failure_after}
 use Rattle.pc_check.specs.Certified.{segments_of}
-use Rattle.pc_check.specs.inside.Certified.{AreCertified, AreCurve}
+use Rattle.pc_check.specs.Certified.{AreCertified, AreCurve}
 use Rattle.pc_check.specs.Said.{said}
 use Rattle.pc_check.proofs.BelowLaws.{and_parts}
 use Rattle.pc_check.proofs.ReasonLaws.{holds_first}

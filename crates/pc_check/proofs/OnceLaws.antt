@@ -9,7 +9,7 @@ use Rattle.pc_cert.proofs.LineLengths.{spelling_lacks_end}
 use Rattle.pc_cert.proofs.TextLaws.{spelling_once, split_once, lacks_no_stop}
 use Rattle.pc_cert.specs.Reader.{IsStopped, IsMissing}
 use Rattle.pc_crash.specs.Priced.{PricedNetwork}
-use Rattle.pc_check.specs.declared.fail.Fail.{Fail}
+use Rattle.pc_check.specs.declared.checker.Fail.{Fail}
 use Rattle.pc_check.specs.Failures.{failure_of}
 use Rattle.pc_check.proofs.FailureLaws.{failure_of-more}
 use Rattle.pc_check.specs.Texts.{IsFailing, fails, malformed, missing}

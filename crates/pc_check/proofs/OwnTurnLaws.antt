@@ -10,8 +10,8 @@ use Rattle.pc_cert.specs.Lines.{spelling}
 use Rattle.pc_cert.specs.Text.{text_of, AreWritable}
 use Rattle.pc_cert.proofs.LineLengths.{length-spelling}
 use Rattle.pc_crash.specs.Priced.{PricedNetwork}
-use Rattle.pc_check.specs.declared.fail.Verdict.{Verdict}
-use Rattle.pc_check.specs.declared.source.AuditError.{AuditError}
+use Rattle.pc_check.specs.declared.checker.Verdict.{Verdict}
+use Rattle.pc_check.specs.declared.audit.AuditError.{AuditError}
 use Rattle.pc_check.specs.Stops.{HasNoFailure, IsSettled, IsUnsettled}
 use Rattle.pc_check.specs.OwnLines.{first_upper_in_lines, bytes_below, KeepsToOwnLines}
 use Rattle.pc_check.proofs.OwnLineLaws.{are_few}

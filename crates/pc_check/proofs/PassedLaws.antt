@@ -21,7 +21,7 @@ use Rattle.pc_check.specs.inside.KneeTests.{is_slack_over}
 use Rattle.pc_check.specs.inside.Passed.{IsWithin, FitsWithin, HasPassed, IsPassed, passed_at, flow_of, cost_of, ArePassed, IsNothing, ComesAgain, PassesAcross}
 use Rattle.pc_check.specs.inside.Kept.{stretch_of}
 use Rattle.pc_check.specs.inside.Safe.{IsRenewed, IsSafe, AddsAct, IsCutOf}
-use Rattle.pc_check.specs.declared.adding.Cut.{Cut}
+use Rattle.pc_check.specs.declared.advancing.Cut.{Cut}
 use Rattle.pc_check.specs.declared.kept.Tally.{Tally}
 use Rattle.pc_check.specs.declared.passed.Passed.{Passed}
 use Rattle.pc_check.proofs.BelowLaws.{and_parts, passes_behind}

@@ -6,10 +6,10 @@ use Rattle.std.proofs.KnownBytes.{Consumes-kept, Consumes-nil, Consumes-trans, C
 use Rattle.std.proofs.lemmas.List.{nil_from_length}
 use Rattle.pc_edges.specs.Pulls.{TakesPulls}
 use Rattle.pc_edges.proofs.PullLaws.{TakesPulls-then, TakesPulls-none, TakesPulls-more}
-use Rattle.pc_check.specs.declared.fail.Fail.{Fail}
-use Rattle.pc_check.specs.declared.fail.Verdict.{Verdict}
+use Rattle.pc_check.specs.declared.checker.Fail.{Fail}
+use Rattle.pc_check.specs.declared.checker.Verdict.{Verdict}
 use Rattle.pc_check.specs.Texts.{IsFailing, Finds}
-use Rattle.pc_check.specs.declared.fail.Verdict.TheVariants.{Yes, No}
+use Rattle.pc_check.specs.declared.checker.Verdict.TheVariants.{Yes, No}
 use Rattle.pc_check.specs.inside.Certified.{OnYes}
 use Rattle.pc_check.specs.inside.Auditing.{Auditing, HasRead, IsGoing, bytes_left}
 use Rattle.pc_check.specs.Stops.{HasNoFailure, IsSettled, IsUnsettled}

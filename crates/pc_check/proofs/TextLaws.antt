@@ -12,7 +12,7 @@ use Rattle.pc_cert.proofs.LineLengths.{spelling_lacks_end, length-spelling}
 use Rattle.pc_cert.proofs.TextLaws.{spelling_once, split_once, lacks_no_stop, ran-append, text_once}
 use Rattle.pc_cert.specs.Reader.{IsBadLine, IsTooLong}
 use Rattle.pc_crash.specs.Priced.{PricedNetwork}
-use Rattle.pc_check.specs.declared.fail.Fail.{Fail}
+use Rattle.pc_check.specs.declared.checker.Fail.{Fail}
 use Rattle.pc_check.specs.Failures.{failure_of}
 use Rattle.pc_check.specs.Certified.{segments_of}
 use Rattle.pc_check.proofs.FailureLaws.{failure_of-more}

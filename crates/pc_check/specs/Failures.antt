@@ -5,7 +5,7 @@ use Rattle.pc_crash.specs.Priced.{PricedNetwork}
 use Rattle.pc_check.specs.Draft.{Draft, empty_draft, with_line}
 use Rattle.pc_check.specs.Conditions.{Condition, conditions}
 use Rattle.pc_check.specs.Said.{said}
-use Rattle.pc_check.specs.declared.fail.Fail.{Fail}
+use Rattle.pc_check.specs.declared.checker.Fail.{Fail}
 
 -- the number of the first condition that does not hold
 abbrev pub first_failing : List Condition → Option ℕ

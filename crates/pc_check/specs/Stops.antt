@@ -8,7 +8,7 @@ use Rattle.pc_cert.specs.declared.place.Place.{Place}
 use Rattle.pc_text.specs.Fields.{Lacks}
 use Rattle.pc_cert.specs.Text.{text_of, LeadTo}
 use Rattle.pc_crash.specs.Priced.{PricedNetwork}
-use Rattle.pc_check.specs.declared.fail.Verdict.{Verdict}
+use Rattle.pc_check.specs.declared.checker.Verdict.{Verdict}
 use Rattle.pc_check.specs.Failures.{failure_of}
 use Rattle.pc_check.specs.Texts.{Finds}
 

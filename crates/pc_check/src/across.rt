@@ -8,7 +8,7 @@ ghost use Rattle.pc_check.specs.inside.Kept.{known_by, stretch_of};
 ghost use Rattle.pc_check.specs.inside.Passed.{PassesAcross};
 ghost use Rattle.pc_check.specs.inside.Safe.{IsCutOf, IsSafe, cut_in};
 
-use crate::adding::{Cut, cut_of};
+use crate::advancing::{Cut, cut_of};
 use crate::again::pass_same;
 use crate::gaps::crossing_of;
 use crate::kept::Kept;

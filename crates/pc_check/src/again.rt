@@ -7,7 +7,7 @@ ghost use Rattle.pc_check.specs.inside.Fronts.{AreFronts};
 ghost use Rattle.pc_check.specs.inside.Passed.{ArePassed};
 ghost use Rattle.pc_check.specs.inside.Safe.{IsSafe};
 
-use crate::adding::{Cut, add_event};
+use crate::advancing::{Cut, add_event};
 use crate::kept::Kept;
 use crate::passed::passes_again;
 use pc_cert::{CertReader, EventFront, Place, WIDTH};

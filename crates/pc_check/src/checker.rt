@@ -1,21 +1,20 @@
-//! The checker of a certificate.
+//! The checker of a certificate, and what it returns.
 ghost use Rattle.std.specs.Prelude.{◌≡◌, ◌^◌, ◌<◌, ◌∷◌, ◌++◌, [], List, IsSome, IfNone, IfOk, None, Some};
 ghost use Rattle.pc_cert.specs.Grammar.{next};
 ghost use Rattle.pc_cert.specs.declared.line.CertLine.{CertLine};
 ghost use Rattle.pc_cert.specs.declared.place.Place.TheVariants.{Ended};
 ghost use Rattle.pc_check.specs.inside.Bounds.{lines_left};
 ghost use Rattle.pc_check.specs.Certified.{segments_of};
-ghost use Rattle.pc_check.specs.inside.Certified.{AreCurve, Finds, OnYes};
+ghost use Rattle.pc_check.specs.inside.Certified.{Finds, OnYes};
+ghost use Rattle.pc_check.specs.Certified.{AreCurve};
 ghost use Rattle.pc_check.specs.inside.Checking.{StandsFor};
 ghost use Rattle.pc_check.specs.inside.Along.{TakesAlong};
-ghost use Rattle.pc_check.specs.declared.fail.Fail.{Fail};
+ghost use Rattle.pc_check.specs.declared.checker.Fail.{Fail};
 
 use crate::across::advance_acts;
 use crate::advancing::advance;
 use crate::again::advance_events;
-use crate::fail::{Fail, Verdict};
-use crate::fronts::fronts_of;
-use crate::kept::{Kept, kept_of};
+use crate::kept::{Kept, fronts_of, kept_of};
 use pc_cert::{CertLine, CertReader, EventFront, KnownLine, Place};
 use pc_crash::CrashNet;
 use std::alloc::{AllocError, Global};
@@ -186,4 +185,20 @@ impl<'n> Checker<'n> {
             },
         }
     }
+}
+
+/// The first condition that fails: the line where it is reported, counted from 1, and its number, from 1 to 15.
+///
+/// The audit of a text also uses the number 0, for a line that is malformed.
+#[derive(Clone, Copy)]
+pub struct Fail {
+    pub line: u64,
+    pub reason: u8,
+}
+
+/// The result of a check: the lines are certified and have this many segments, or a condition fails first at this line.
+#[derive(Clone, Copy, Debug, PartialEq, Eq)]
+pub enum Verdict {
+    Yes { segments: u64 },
+    No { line: u64, reason: u8 },
 }

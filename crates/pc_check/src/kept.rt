@@ -1,14 +1,15 @@
-//! What a checker keeps of the lines that have come.
+//! What a checker keeps of the lines that have come, and how the lines of each event begin.
 ghost use Rattle.std.specs.Prelude.{◌≡◌, ◌<◌, slice_index, slice_index_or, length, false, IfOk};
 ghost use Rattle.pc_cert.specs.declared.place.Place.TheVariants.{Start};
 ghost use Rattle.pc_check.specs.inside.Bounds.{IsBounded};
 ghost use Rattle.pc_check.specs.inside.Checking.{IsKept};
 ghost use Rattle.pc_check.specs.Draft.{empty_draft};
 ghost use Rattle.pc_check.specs.inside.Safe.{IsBegun, IsSafe};
+ghost use Rattle.pc_check.specs.inside.Fronts.{AreFronts};
 
 use crate::passed::{Passed, none_passed};
 use crate::walk::Reached;
-use pc_cert::Place;
+use pc_cert::{EventFront, Place};
 use pc_crash::CrashNet;
 use std::alloc::{AllocError, Global};
 
@@ -155,4 +156,15 @@ pub(crate) fn known_bit(bits: &[bool], i: u32) -> bool
     ensures { result ≡ slice_index_or bits.now i false }
 {
     bits[i as usize]
+}
+
+/// How the lines of each event of the network begin.
+pub(crate) fn fronts_of(alloc: Global, net: &CrashNet<'_>) -> Result<Vec<EventFront>, AllocError>
+    ensures { IfOk result (λ fronts. AreFronts net.now fronts.items) }
+{
+    let mut fronts = Vec::with_capacity(alloc, net.net().events() as usize)?;
+    for e in 0..net.net().events() {
+        fronts.push(EventFront::of(net.event_code(e)))?;
+    }
+    Ok(fronts)
 }

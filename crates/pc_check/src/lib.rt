@@ -5,27 +5,19 @@
 
 mod across;
 mod acts;
-mod adding;
 mod advancing;
 mod again;
 mod audit;
 mod checker;
 mod closing;
-mod fail;
-mod fronts;
 mod gaps;
 mod kept;
 mod meaning;
 mod passed;
 mod reasons;
-mod source;
-mod verdict_laws;
 mod walk;
 
-pub use audit::Audit;
-pub use checker::Checker;
-pub use fail::{Fail, Verdict};
-pub use meaning::certificates_print_the_curve;
+pub use audit::{Audit, AuditError, audit_source};
+pub use checker::{Checker, Fail, Verdict};
+pub use meaning::{certificates_print_the_curve, lines_are_few, one_verdict};
 pub use pc_cert::{CertLine, Flows};
-pub use source::{AuditError, audit_source};
-pub use verdict_laws::{lines_are_few, one_verdict};

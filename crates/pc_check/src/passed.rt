@@ -16,7 +16,7 @@ ghost use Rattle.pc_check.specs.inside.Passed.{
 };
 
 use crate::acts::flow_sum;
-use crate::adding::Cut;
+use crate::advancing::Cut;
 use crate::gaps::Gap;
 use crate::kept::{Kept, known_bit, known_number};
 use pc_cert::{Flows, KnownLine, LineText};

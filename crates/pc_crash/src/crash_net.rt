@@ -1,26 +1,50 @@
-//! A network whose activities can be shortened at a price.
-ghost use Rattle.std.specs.Prelude.{◌≡◌, ◌≢◌, ℕ, ◌+◌, ◌<◌, length, IsTrue, ◌↔◌, IfOk, IfSome, IfNone};
+//! A network whose activities can be shortened at a price: what one look at an activity tells, what durations cost,
+//! what makes durations and times a schedule, and another term for one activity.
+ghost use Rattle.std.specs.Prelude.{
+  ◌≡◌,
+  ◌≢◌,
+  ℕ,
+  ◌+◌,
+  ◌<◌,
+  length,
+  IsTrue,
+  ◌↔◌,
+  IfOk,
+  IfSome,
+  IfNone,
+  ◌*◌,
+  ◌-◌,
+  ◌≤◌,
+  slice_index,
+  ◌^◌,
+  length as length_of,
+  pos,
+  ◌-ℤ◌,
+  slice_set,
+};
 ghost use Rattle.pc_model.specs.Codes.{text_at};
-ghost use Rattle.pc_model.specs.Cost.{IsPriced};
+ghost use Rattle.pc_model.specs.Cost.{IsPriced, activity_cost, cost_of};
 ghost use Rattle.pc_model.specs.Greatest.{places};
 ghost use Rattle.pc_model.specs.inside.Greatest.{IsListed};
 ghost use Rattle.pc_model.specs.Pieces.{ArePieces};
-ghost use Rattle.pc_model.specs.Schedule.{AreTerms, term_at};
+ghost use Rattle.pc_model.specs.Schedule.{AreTerms, term_at, IsSchedule};
 ghost use Rattle.pc_model.specs.Walk.{from_of, to_of};
 ghost use Rattle.pc_net.specs.Networks.{events_from, events_to};
-ghost use Rattle.pc_crash.specs.inside.KneeLists.{AreKneesOf};
+ghost use Rattle.pc_crash.specs.inside.KneeLists.{AreKneesOf, AreSmallKnees};
 ghost use Rattle.pc_crash.specs.inside.Links.{activities_of, link_at};
 ghost use Rattle.pc_crash.specs.inside.Looks.{IsLookAt};
 ghost use Rattle.pc_crash.specs.Priced.{knees_in, ArePiecesWithinLimits};
-ghost use Rattle.pc_crash.specs.inside.Priced.{AreNames};
+ghost use Rattle.pc_crash.specs.inside.Priced.{AreNames, AreDurations, Fits};
 ghost use Rattle.pc_crash.specs.Terms.{AreWithinLimits};
+ghost use Rattle.pc_model.specs.inside.Pieces.{knee_at};
+ghost use Rattle.pc_model.specs.Sums.{sum_to};
+ghost use Rattle.pc_crash.specs.inside.Moved.{AreMoved, IsMovable, moved_knee};
 
 use crate::counting::Steps;
 use crate::knee_list::KneeList;
 use crate::laying::{PriceTable, laid_out};
 use crate::linking::{Link, LinkTable, linked};
-use crate::looking::Look;
-use pc_model::{PieceRow, Term};
+use pc_model::{Knee, PieceRow, Term};
 use pc_names::Names;
 use pc_net::Net;
 use pc_text::Code;
@@ -219,4 +243,147 @@ impl<'n> CrashNet<'n> {
             knees: self.layout.knees_of(a),
         }
     }
+
+    /// Returns what the activities cost at these durations, given in units and in card order. Linear in activities and
+    /// pieces.
+    pub fn cost_of(&self, durations: &[u64]) -> u64
+        requires { AreDurations self.now.terms durations.now }
+        ensures cost { result ≡ cost_of self.now.terms (knees_in self.now) (slice_index durations.now) }
+        ensures limit { result ≤ MAX_PROJECT_COST }
+    {
+        let mut cost = 0;
+        for a in 0..self.net.activities() {
+            cost += self.activity_cost(a, durations[a as usize]);
+        }
+        cost
+    }
+
+    /// Returns what one activity costs at a duration, in units.
+    pub fn activity_cost(&self, a: u32, duration: u64) -> u64
+        requires { a < length self.now.network.arcs }
+        ensures cost { result ≡ activity_cost self.now.terms (knees_in self.now) a duration }
+        ensures limit { result ≤ MAX_ACTIVITY_COST }
+    {
+        let row = &self.layout.rows[a as usize];
+        row.term.cost + price_of(self.layout.part(row), duration)
+    }
+
+    /// Returns the time between the two events of an activity, negative if it ends before it begins.
+    pub fn gap(&self, times: &[u64], a: u32) -> i64
+        requires activity { a < length self.now.network.arcs }
+        requires one_each { length times.now ≡ self.now.network.events }
+        requires small { (e : ℕ) → e < length times.now → slice_index times.now e < 10 ^ 18 }
+        ensures { result ≡ pos (slice_index times.now (to_of self.now.network.arcs a)) -ℤ pos
+            (slice_index times.now (from_of self.now.network.arcs a)) }
+    {
+        let arc = self.layout.rows[a as usize].arc;
+        times[arc.to as usize] as i64 - times[arc.from as usize] as i64
+    }
+
+    /// Returns whether `durations` and `times` are a schedule for the length `length`: each duration is from crash to
+    /// normal and fits between the times of the activity's events, the start is at 0, and the end is at `length` or
+    /// earlier.
+    pub fn is_schedule(&self, durations: &[u64], times: &[u64], length: u64) -> bool
+        requires durations { length_of durations.now ≡ length_of self.now.network.arcs }
+        requires times { length_of times.now ≡ self.now.network.events }
+        ensures { IsTrue result ↔ IsSchedule self.now.network self.now.terms length (slice_index durations.now)
+            (slice_index times.now) }
+    {
+        if times[self.net.start() as usize] != 0 || times[self.net.end() as usize] > length {
+            return false;
+        }
+        for a in 0..self.net.activities() {
+            if !self.fits(a, durations[a as usize], times) {
+                return false;
+            }
+        }
+        true
+    }
+
+    /// Whether an activity may last so long and has that time between its events.
+    fn fits(&self, a: u32, duration: u64, times: &[u64]) -> bool
+        requires activity { a < length self.now.network.arcs }
+        requires times { length times.now ≡ self.now.network.events }
+        ensures { IsTrue result ↔ Fits self.now a duration (slice_index times.now) }
+    {
+        let row = self.layout.rows[a as usize];
+        let begins = times[row.arc.from as usize];
+        let ends = times[row.arc.to as usize];
+        let lasts = row.term.crash <= duration && duration <= row.term.normal;
+        lasts && begins <= ends && duration <= ends - begins
+    }
+
+    /// Replaces the term of an activity, and leaves its pieces as they are. Linear in the pieces of the activity.
+    pub fn set_term(&mut self, a: u32, term: Term)
+        requires activity { a < length self.old.network.arcs }
+        requires terms { AreTerms self.old.network (slice_set self.old.terms a term) }
+        requires limits { AreWithinLimits (slice_set self.old.terms a term) }
+        requires pieces { ArePieces (slice_set self.old.terms a term) self.old.pieces }
+        ensures { self.new ≡ record self.old { terms = slice_set self.old.terms a term } }
+    {
+        let row = self.layout.rows[a as usize];
+        let first = row.first as usize;
+        let knees = &mut self.layout.knees[first..first + row.count as usize];
+        move_knees(knees, &row.term, &term);
+        self.layout.rows[a as usize].term = term;
+    }
+}
+
+/// The events of an activity, its durations in units, the cost of the first unit by which it is shortened, and its
+/// knees.
+#[derive(Drop)]
+pub struct Look<'n> {
+    pub from: u32,
+    pub to: u32,
+    pub normal: u64,
+    pub crash: u64,
+    pub slope: u64,
+    pub knees: KneeList<'n>,
+}
+
+/// The greatest cost of an activity: its cost at its normal duration, and all of that duration at the greatest slope.
+pub const MAX_ACTIVITY_COST: u64 = 11_000_000_000_000;
+
+/// The greatest cost of a project: that of the greatest number of activities.
+pub const MAX_PROJECT_COST: u64 = 220_000_000_000_000_000;
+
+/// What it costs to shorten an activity with these knees to a duration.
+fn price_of(knees: &[Knee], duration: u64) -> u64
+    requires { AreSmallKnees knees.now }
+    ensures { result ≡ sum_to (length knees.now)
+        (λ k. (knee_at knees.now k).rise * ((knee_at knees.now k).at - duration)) }
+{
+    let mut price = 0;
+    for knee in knees {
+        price += knee.rise * knee.at.saturating_sub(duration);
+    }
+    price
+}
+
+/// Moves the knees of an activity from where its old term had them to where its new term has them.
+fn move_knees(knees: &mut [Knee], old: &Term, new: &Term)
+    requires { (k : ℕ) → k < length knees.old → IsMovable old.now new.now k (knee_at knees.old k) }
+    ensures { AreMoved old.now new.now knees.old knees.new }
+{
+    for k in 0..knees.len() {
+        knees[k] = moved_knee(old, new, k, &knees[k]);
+    }
+}
+
+/// The knee with this number, from 0, where the new term has it.
+fn moved_knee(old: &Term, new: &Term, k: usize, knee: &Knee) -> Knee
+    requires { IsMovable old.now new.now k knee.now }
+    ensures { result ≡ moved_knee old.now new.now k knee.now }
+{
+    let at = if k == 0 {
+        new.normal
+    } else {
+        knee.at - old.crash + new.crash
+    };
+    let rise = match k {
+        0 => new.slope,
+        1 => knee.rise + old.slope - new.slope,
+        _ => knee.rise,
+    };
+    Knee { at, rise }
 }

@@ -1,14 +1,15 @@
-//! What is known of each activity, laid out for one look.
-ghost use Rattle.std.specs.Prelude.{◌≡◌, ◌+◌, ◌^◌, ◌<◌, ◌≤◌, ◌++◌, length, vec_len, IfOk, OnOk};
+//! What is known of each activity, laid out for one look, with its pieces.
+ghost use Rattle.std.specs.Prelude.{◌≡◌, ◌+◌, ◌^◌, ◌<◌, ◌≤◌, ◌++◌, length, vec_len, IfOk, OnOk, []};
 ghost use Rattle.pc_model.specs.Network.{IsInRange, IsSound};
 ghost use Rattle.pc_model.specs.Schedule.{AreTerms};
 ghost use Rattle.pc_model.specs.Pieces.{ArePieces, units_of};
 ghost use Rattle.pc_crash.specs.inside.KneeLists.{knee_list};
 ghost use Rattle.pc_crash.specs.inside.Laid.{AreLaid, IsRising, part_of, row_at};
 ghost use Rattle.pc_crash.specs.Terms.{AreWithinLimits};
+ghost use Rattle.pc_crash.specs.inside.Groups.{AreGroups};
 
-use crate::grouping::grouped;
 use crate::knee_list::KneeList;
+use arrayvec::ArrayVec;
 use pc_model::{Arc, Knee, MAX_PIECES_EACH, PieceRow, Term};
 use pc_net::Net;
 use std::alloc::{AllocError, Global};
@@ -125,4 +126,34 @@ impl PriceTable {
     {
         KneeList::new(self.part(&self.rows[a as usize]))
     }
+}
+
+/// The pieces of one activity, in their order.
+pub(crate) type Group = ArrayVec<PieceRow, MAX_PIECES_EACH>;
+
+/// The pieces of each activity, in their order. One pass.
+pub(crate) fn grouped(
+    alloc: Global,
+    terms: &[Term],
+    pieces: &[PieceRow],
+) -> Result<Vec<Group>, AllocError>
+    requires { ArePieces terms.now pieces.now }
+    ensures { IfOk result (λ groups. AreGroups pieces.now (length terms.now) groups.items) }
+{
+    let mut groups = empty_groups(alloc, terms.len())?;
+    for piece in pieces {
+        groups[piece.activity as usize].push(*piece);
+    }
+    Ok(groups)
+}
+
+/// So many groups without a piece.
+fn empty_groups(alloc: Global, count: usize) -> Result<Vec<Group>, AllocError>
+    ensures { IfOk result (λ groups. AreGroups [] count groups.items) }
+{
+    let mut groups = Vec::with_capacity(alloc, count)?;
+    for _ in 0..count {
+        groups.push(Group::new())?;
+    }
+    Ok(groups)
 }

@@ -6,9 +6,8 @@ ghost use Rattle.pc_model.specs.Schedule.{term_at};
 ghost use Rattle.pc_model.specs.Sums.{sum_to};
 ghost use Rattle.pc_crash.specs.inside.OwnPieces.{AreOwnPieces};
 
-use crate::costing::MAX_ACTIVITY_COST;
-use crate::grouping::Group;
-use crate::laying::units;
+use crate::crash_net::MAX_ACTIVITY_COST;
+use crate::laying::{Group, units};
 use pc_model::{MAX_PIECES_EACH, PieceRow, Term};
 
 /// Returns what an activity costs at a duration in units, from the terms of all activities and all further pieces.

@@ -1,13 +1,36 @@
-//! The breakpoints of the curve, one after another.
-ghost use Rattle.std.specs.Prelude.{◌≡◌, ◌+◌, ◌<◌, ◌≤◌, ◌≢◌, ◌↔◌, Some, None, true, IsNone, IfSome, IfNone};
+//! The breakpoints of the curve, one after another, and why they are the complete list.
+ghost use Rattle.std.specs.Prelude.{
+  ◌≡◌,
+  ◌+◌,
+  ◌<◌,
+  ◌≤◌,
+  ◌≢◌,
+  ◌↔◌,
+  Some,
+  None,
+  true,
+  IsNone,
+  IfSome,
+  IfNone,
+  ℕ,
+  List,
+  [],
+  ◌∷◌,
+  ◌++◌,
+  Option,
+};
 ghost use Rattle.pc_laws.specs.Segment.{cost_for};
 ghost use Rattle.pc_flow.specs.Courses.{lower_of, IsSameCurve, IsFurther, most_looks};
 ghost use Rattle.pc_flow.specs.inside.Courses.{present};
 ghost use Rattle.pc_flow.specs.search.Labelling.{slopes_in};
 ghost use Rattle.pc_curve.specs.inside.Points.{IsThere};
 ghost use Rattle.pc_curve.specs.inside.Breaks.{IsNextBreak, StandsAt, StandsBy};
+ghost use Rattle.pc_laws.specs.Curve.{Breakpoint, AreBreakpoints};
+ghost use Rattle.pc_crash.specs.Priced.{PricedNetwork};
+ghost use Rattle.pc_curve.specs.Points.{curve_in};
+ghost use Rattle.pc_curve.specs.Breaks.{IsNextBreakpoint, AreBreakpointsTo};
 
-use crate::reading::least_cost_for;
+use crate::points::least_cost_for;
 use pc_crash::{SegmentView, Steps};
 use pc_flow::Solver;
 use std::marker::Model;
@@ -187,3 +210,20 @@ fn break_at_lower(solver: &Solver<'_>) -> Break
         slope: None,
     }
 }
+
+/// States that the breakpoints which were given are the list of breakpoints down to the last one.
+///
+/// Before the first one the list is empty, each next one extends it, and down to the all-crash length it has all
+/// breakpoints of the curve.
+pub fn breaks_make_the_list()
+    ensures begins { (net : PricedNetwork) (shortest longest : ℕ) →
+        AreBreakpointsTo (curve_in net) shortest longest None [] }
+    ensures grows { (net : PricedNetwork) (shortest longest : ℕ) (last : Option ℕ) (points : List Breakpoint)
+        (point : Breakpoint) →
+        AreBreakpointsTo (curve_in net) shortest longest last points →
+        IsNextBreakpoint (curve_in net) shortest longest last point →
+        AreBreakpointsTo (curve_in net) shortest longest (Some point.limit) (points ++ point ∷ []) }
+    ensures whole { (net : PricedNetwork) (shortest longest : ℕ) (points : List Breakpoint) →
+        shortest ≤ longest → AreBreakpointsTo (curve_in net) shortest longest (Some shortest) points →
+        AreBreakpoints (curve_in net) shortest longest points }
+{}

@@ -5,12 +5,8 @@
 pub mod bench;
 mod breaks;
 mod curve_text;
-mod list_laws;
 mod points;
-mod reading;
 
-pub use breaks::{Break, Breaks};
+pub use breaks::{Break, Breaks, breaks_make_the_list};
 pub use curve_text::write_curve;
-pub use list_laws::breaks_make_the_list;
-pub use points::point_at;
-pub use reading::cost_at;
+pub use points::{cost_at, point_at};

@@ -5,8 +5,8 @@ use Rattle.std.proofs.lemmas.Bool.{and_parts, and_from, and_cases, and_left, and
 use Rattle.jiff_core.proofs.DateLemmas.{epoch_day_injective}
 use Rattle.jiff_core.proofs.SignedLemmas.{signed_arith}
 use Rattle.jiff_core.specs.Calendar.{IsCivilDate, days_from_civil}
-use Rattle.pc_days.specs.declared.error.DayError.{DayError}
-use Rattle.pc_days.specs.declared.error.DayError.TheVariants.{Shape, Years}
+use Rattle.pc_days.specs.declared.day.DayError.{DayError}
+use Rattle.pc_days.specs.declared.day.DayError.TheVariants.{Shape, Years}
 use Rattle.pc_days.specs.Dates.{NamesDay, number_at, year_of, has_form, has_day, is_deck_year, day_of, date_text}
 use Rattle.pc_days.specs.inside.Dates.{NamesDate, NamesDeckDay, NamesOtherYear}
 use Rattle.pc_days.proofs.Form.{shown, named, passes}

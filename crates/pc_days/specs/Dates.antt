@@ -3,8 +3,8 @@ use Rattle.std.specs.Prelude.{◌≡◌, ℕ, ◌+◌, ◌-◌, ◌*◌, ◌/◌
 use Rattle.std.specs.Prelude.{length, slice_index, Result, Ok, Err, ℤ, pos, neg_ℤ, ◌+ℤ◌, ◌-ℤ◌, ◌*ℤ◌, ◌≤ℤ◌, ◌<ℤ◌}
 use Rattle.std.specs.Char.{is_ascii_digit}
 use Rattle.jiff_core.specs.Calendar.{IsCivilDate, IsBetween, days_from_civil, days_in_month}
-use Rattle.pc_days.specs.declared.error.DayError.{DayError}
-use Rattle.pc_days.specs.declared.error.DayError.TheVariants.{Shape, Years}
+use Rattle.pc_days.specs.declared.day.DayError.{DayError}
+use Rattle.pc_days.specs.declared.day.DayError.TheVariants.{Shape, Years}
 
 -- the days that a deck can name and a report can print: 1900-01-01 to 9999-12-31, counted from 1970-01-01
 abbrev pub IsPrintedDay : ℤ → Type 0

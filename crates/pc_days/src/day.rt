@@ -1,4 +1,4 @@
-//! A day of the calendar as a number, read from a date and written as one.
+//! A day of the calendar as a number, read from a date and written as one, and why a field names no day.
 ghost use Rattle.std.specs.Prelude.{
   ◌≡◌,
   ◌↔◌,
@@ -38,10 +38,10 @@ ghost use Rattle.pc_days.specs.Dates.{
 };
 ghost use Rattle.pc_days.specs.inside.Dates.{NamesDate, NamesDeckDay, NamesOtherYear};
 
-use crate::error::DayError;
 use jiff::civil::Date;
 use jiff_core::civil;
 use std::marker::Model;
+use thiserror::Error;
 
 /// The bytes of `YYYY-MM-DD`.
 const LENGTH: usize = 10;
@@ -236,4 +236,15 @@ fn ones(number: u8) -> u8
     ensures { result ≡ 48 + number % 10 }
 {
     b'0' + number % 10
+}
+
+/// Why a field is no day of a deck.
+#[derive(Clone, Copy, Debug, PartialEq, Eq, Error)]
+pub enum DayError {
+    /// The field is not of the form `YYYY-MM-DD`, or the calendar has no such date.
+    #[error("no date of the form YYYY-MM-DD")]
+    Shape,
+    /// The field is a date before 1900 or after 2199.
+    #[error("a date outside 1900 to 2199")]
+    Years,
 }

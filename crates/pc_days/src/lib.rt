@@ -2,7 +2,5 @@
 #![tactic(auto)]
 
 mod day;
-mod error;
 
-pub use day::{Day, date_of_sixths, day_text, days_between, read_day};
-pub use error::DayError;
+pub use day::{Day, DayError, date_of_sixths, day_text, days_between, read_day};

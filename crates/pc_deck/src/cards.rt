@@ -14,10 +14,9 @@ ghost use Rattle.pc_deck.specs.Deck.{
 };
 ghost use Rattle.pc_deck.specs.Within.{IsWithin};
 
-use crate::deck_cards::DeckCards;
 use crate::kinds::{
-    AcctCard, ActCard, AfterCard, AsOfCard, ItemCard, LoadCard, MoneyCard, PieceCard, ProjectCard,
-    StatusCard, TaskCard, TermsCard, TitledCard,
+    AcctCard, ActCard, AfterCard, AsOfCard, CardLists, ItemCard, LoadCard, MoneyCard, PieceCard,
+    ProjectCard, StatusCard, TaskCard, TermsCard, TitledCard,
 };
 use pc_text::Code;
 use std::marker::{Model, PhantomData};
@@ -257,4 +256,20 @@ impl TaskCards {
         let number = self.deck.lists.tasks.place_of(code)?;
         Some(number as u32)
     }
+}
+
+/// The cards of a deck, each kind in card order. What sort of deck it is, the types of the cards of a plan and of those
+/// of a deck of tasks say.
+#[derive(Drop)]
+pub struct DeckCards {
+    pub project: ProjectCard,
+    pub lists: CardLists,
+}
+
+impl Model for DeckCards {
+    ghost use Rattle.pc_deck.specs.Deck.{Deck};
+
+    ghost Value = { Deck };
+
+    ghost view = { λ s. record { project = s.project; lists = s.lists } };
 }

@@ -5,7 +5,7 @@ ghost use Rattle.pc_deck.specs.inside.Judged.{no_kind};
 ghost use Rattle.pc_faults.specs.declared.kind.Kind.TheVariants as kind;
 ghost use Rattle.pc_faults.specs.inside.First.{Refuses};
 
-use crate::deck_cards::DeckCards;
+use crate::cards::DeckCards;
 use crate::kinds::{CardLists, ProjectCard, kind_of, limit_of};
 use pc_cards::lists::Once;
 use pc_cards::place::CardPlace;

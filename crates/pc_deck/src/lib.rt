@@ -10,7 +10,6 @@
 #![tactic(auto)]
 
 mod cards;
-mod deck_cards;
 mod draft;
 mod kinds;
 pub mod laws;

@@ -4,8 +4,7 @@ ghost use Rattle.pc_deck.specs.Made.{drawn_with};
 ghost use Rattle.pc_deck.specs.inside.Made.{plan_of};
 ghost use Rattle.pc_deck.specs.Within.{IsWithinLimits};
 
-use crate::cards::{Cards, TaskCards};
-use crate::deck_cards::DeckCards;
+use crate::cards::{Cards, DeckCards, TaskCards};
 use crate::kinds::{
     AcctCard, ActCard, AsOfCard, CardLists, ItemCard, LoadCard, MoneyCard, PieceCard, ProjectCard,
     StatusCard, TermsCard, TitledCard,

@@ -13,8 +13,7 @@ ghost use Rattle.pc_deck.specs.inside.Titles.{AreTitlesText};
 ghost use Rattle.pc_deck.specs.Within.{IsWithin, IsWithinLimits};
 ghost use Rattle.pc_deck.specs.inside.Within.{IsDraftWithin};
 
-use crate::cards::{Cards, TaskCards};
-use crate::deck_cards::DeckCards;
+use crate::cards::{Cards, DeckCards, TaskCards};
 use crate::draft::Draft;
 use crate::limits::DECK_LIMIT;
 use pc_cards::rows::{CardRows, NextCard};

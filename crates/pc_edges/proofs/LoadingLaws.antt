@@ -4,17 +4,18 @@ use Rattle.std.specs.Io.KnownBytes.{Consumes}
 use Rattle.std.proofs.KnownBytes.{Consumes-trans}
 use Rattle.pc_edges.specs.Pulls.{IsReadWithin}
 use Rattle.pc_edges.specs.inside.Loading.{LoadsWithin}
+use Rattle.pc_edges.proofs.PullLaws.{CameIn-consumes}
 
-module _ {X TooLong : Type 0} {limit room : ℕ} {left : X → Option (List ℕ)} {pulls : X → Option ℕ} {old new : X}
-    (is : LoadsWithin TooLong limit room left pulls old new) where
-  pub stops_within : IsReadWithin limit room left pulls old new
+module _ {X TooLong : Type 0} {limit room : ℕ} {left : X → Option (List ℕ)} {faults : X → ℕ} {pulls : X → Option ℕ} {old new : X}
+    (is : LoadsWithin TooLong limit room left faults pulls old new) where
+  pub stops_within : IsReadWithin limit room left faults pulls old new
   stops_within = record {
     before = is.before;
+    pieces = is.pieces;
     front = is.front;
     last = is.last;
     came = is.came;
     within = is.within;
-    turns = is.turns;
     pulled = is.pulled;
     short = is.short;
     once = is.once;
@@ -24,4 +25,5 @@ module _ {X TooLong : Type 0} {limit room : ℕ} {left : X → Option (List ℕ)
   pub long_only : (bytes : List ℕ) × Consumes (left old) (left new) bytes × (TooLong ↔ (limit < length bytes))
   long_only =
       let all = length-append is.front is.last in
-      (is.front ++ is.last, Consumes-trans _ _ _ _ _ is.came is.pulled, (λ long. omega (arith, is.long long, all), λ more. is.only (omega (arith, more, all))))
+      let came = CameIn-consumes left faults pulls is.pieces is.front old is.before is.came in
+      (is.front ++ is.last, Consumes-trans _ _ _ _ _ came is.pulled, (λ long. omega (arith, is.long long, all), λ more. is.only (omega (arith, more, all))))

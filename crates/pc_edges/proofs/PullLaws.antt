@@ -1,8 +1,8 @@
 -- How pulls from a source are counted, and what follows from where reading stops.
-use Rattle.std.proofs.Common.{ℕ, ◌+◌, ◌≤◌, List, [], ◌++◌, length, length-append, Option, Some, None, arith}
+use Rattle.std.proofs.Common.{◌≡◌, ℕ, ◌+◌, ◌<◌, ◌≤◌, List, [], ◌∷◌, ◌++◌, length, length-append, append_assoc, append-nil, Option, Some, None, refl, sym, ap, ◌∙◌, subst, arith}
 use Rattle.std.specs.Io.KnownBytes.{Consumes}
 use Rattle.std.proofs.KnownBytes.{Consumes-nil, Consumes-trans}
-use Rattle.pc_edges.specs.Pulls.{TakesPulls, IsReadWithin}
+use Rattle.pc_edges.specs.Pulls.{TakesPulls, CameIn, IsReadWithin}
 
 -- some pulls, and then some more
 pub TakesPulls-then : (j k : ℕ) (a b c : Option ℕ) → TakesPulls j a b → TakesPulls k b c → TakesPulls (j + k) a c
@@ -26,31 +26,75 @@ TakesPulls-more j k (Some a) (Some b) more p = omega (arith, p, more)
 pub TakesPulls-one_more : (j k : ℕ) (a b : Option ℕ) → j ≤ k → TakesPulls (j + 1) a b → TakesPulls (k + 1) a b
 TakesPulls-one_more j k a b more p = TakesPulls-more (j + 1) (k + 1) a b (omega (arith, more)) p
 
+-- ---- pieces
+
+module _ {X : Type 0} (left : X → Option (List ℕ)) (faults : X → ℕ) (pulls : X → Option ℕ) where
+  -- some pieces, and then some more
+  pub CameIn-then : (first second : List (List ℕ)) (xs ys : List ℕ) (a b c : X) → CameIn left faults pulls first xs a b → CameIn left faults pulls second ys b c
+      → CameIn left faults pulls (first ++ second) (xs ++ ys) a c
+  CameIn-then [] second xs ys a b c p q =
+      subst (λ l. CameIn left faults pulls second (l ++ ys) a c) (sym (p.0)) (subst (λ s. CameIn left faults pulls second ys s c) (p.1) q)
+  CameIn-then (piece ∷ pieces) second xs ys a b c p q =
+      (p.0 ++ ys, p.1, ap (λ l. l ++ ys) (p.2) ∙ append_assoc piece (p.0) ys, p.3, p.4, p.5, p.6, CameIn-then pieces second (p.0) ys (p.1) b c (p.7) q)
+
+  -- one pull more
+  pub CameIn-more : (pieces : List (List ℕ)) (bytes piece : List ℕ) (a b c : X) → CameIn left faults pulls pieces bytes a b → 0 < length piece
+      → Consumes (left b) (left c) piece → faults c ≡ faults b → TakesPulls 1 (pulls b) (pulls c)
+      → CameIn left faults pulls (pieces ++ piece ∷ []) (bytes ++ piece) a c
+  CameIn-more pieces bytes piece a b c p some taken no_fault once =
+      CameIn-then pieces (piece ∷ []) bytes piece a b c p ([], c, sym (append-nil piece), some, taken, no_fault, once, (refl, refl))
+
+  -- the pieces together are taken of what was left
+  pub CameIn-consumes : (pieces : List (List ℕ)) (bytes : List ℕ) (a b : X) → CameIn left faults pulls pieces bytes a b → Consumes (left a) (left b) bytes
+  CameIn-consumes [] bytes a b p =
+      subst (λ l. Consumes (left a) (left b) l) (sym (p.0)) (subst (λ s. Consumes (left a) (left s) []) (sym (p.1)) (Consumes-nil (left a)))
+  CameIn-consumes (piece ∷ pieces) bytes a b p =
+      subst (λ l. Consumes (left a) (left b) l) (sym (p.2)) (Consumes-trans _ _ _ piece (p.0) (p.4) (CameIn-consumes pieces (p.0) (p.1) b (p.7)))
+
+  -- there is at most one pull for each byte
+  pub CameIn-turns : (pieces : List (List ℕ)) (bytes : List ℕ) (a b : X) → CameIn left faults pulls pieces bytes a b → TakesPulls (length bytes) (pulls a) (pulls b)
+  CameIn-turns [] bytes a b p = subst (λ s. TakesPulls (length bytes) (pulls a) (pulls s)) (sym (p.1)) (TakesPulls-none (length bytes) (pulls a))
+  CameIn-turns (piece ∷ pieces) bytes a b p =
+      TakesPulls-more (1 + length (p.0)) (length bytes) (pulls a) (pulls b) (omega (arith, ap length (p.2), length-append piece (p.0), p.3))
+      (TakesPulls-then 1 (length (p.0)) (pulls a) (pulls (p.1)) (pulls b) (p.6) (CameIn-turns pieces (p.0) (p.1) b (p.7)))
+
+  -- no fault came with them
+  pub CameIn-no_fault : (pieces : List (List ℕ)) (bytes : List ℕ) (a b : X) → CameIn left faults pulls pieces bytes a b → faults b ≡ faults a
+  CameIn-no_fault [] bytes a b p = ap faults (p.1)
+  CameIn-no_fault (piece ∷ pieces) bytes a b p = CameIn-no_fault pieces (p.0) (p.1) b (p.7) ∙ p.5
+
 -- ---- where reading stops
 
-module _ {X : Type 0} (limit room : ℕ) (left : X → Option (List ℕ)) (pulls : X → Option ℕ) where
+module _ {X : Type 0} (limit room : ℕ) (left : X → Option (List ℕ)) (faults : X → ℕ) (pulls : X → Option ℕ) where
   -- nothing is read
-  pub IsReadWithin_none : (a : X) → IsReadWithin limit room left pulls a a
+  pub IsReadWithin_none : (a : X) → IsReadWithin limit room left faults pulls a a
   IsReadWithin_none a = record {
     before = a;
+    pieces = [];
     front = [];
     last = [];
-    came = Consumes-nil (left a);
+    came = (refl, refl);
     within = omega arith;
-    turns = TakesPulls-none 0 (pulls a);
     pulled = Consumes-nil (left a);
     short = omega arith;
     once = TakesPulls-none 1 (pulls a);
   }
 
-  module _ (old new : X) (is : IsReadWithin limit room left pulls old new) where
+  module _ (old new : X) (is : IsReadWithin limit room left faults pulls old new) where
     -- there is at most one pull for each byte within the limit, and one more
     pub IsReadWithin_turns : TakesPulls (limit + 1) (pulls old) (pulls new)
     IsReadWithin_turns =
         TakesPulls-more (length is.front + 1) (limit + 1) (pulls old) (pulls new) (omega (arith, is.within))
-        (TakesPulls-then (length is.front) 1 (pulls old) (pulls is.before) (pulls new) is.turns is.once)
+        (TakesPulls-then (length is.front) 1 (pulls old) (pulls is.before) (pulls new) (CameIn-turns left faults pulls is.pieces is.front old is.before is.came) is.once)
 
     -- at most the bytes of one pull are taken past the limit
     pub IsReadWithin_near : (bytes : List ℕ) × Consumes (left old) (left new) bytes × (length bytes ≤ limit + room)
-    IsReadWithin_near =
-        (is.front ++ is.last, Consumes-trans _ _ _ _ _ is.came is.pulled, omega (arith, length-append is.front is.last, is.within, is.short))
+    IsReadWithin_near = (
+      is.front ++ is.last,
+      Consumes-trans _ _ _ _ _ (CameIn-consumes left faults pulls is.pieces is.front old is.before is.came) is.pulled,
+      omega (arith, length-append is.front is.last, is.within, is.short),
+    )
+
+    -- no fault came before the last pull
+    pub IsReadWithin_no_fault : faults is.before ≡ faults old
+    IsReadWithin_no_fault = CameIn-no_fault left faults pulls is.pieces is.front old is.before is.came

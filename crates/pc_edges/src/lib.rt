@@ -6,13 +6,11 @@
 #![tactic(auto)]
 
 mod file_source;
-mod key;
 pub mod lines;
 mod loading;
 mod mem_sink;
 mod mem_source;
 pub mod page;
-mod pushing;
 mod read_source;
 mod sink;
 mod source;
@@ -21,14 +19,12 @@ mod sure_source;
 mod write_sink;
 
 pub use file_source::FileSource;
-pub use key::{FIXED_KEY, draw_key};
 pub use loading::{LoadError, STREAM_ROOM, load};
 pub use mem_sink::MemSink;
 pub use mem_source::MemSource;
-pub use pushing::push_all;
 pub use read_source::ReadSource;
-pub use sink::Sink;
-pub use source::{Failed, Source};
+pub use sink::{Sink, push_all};
+pub use source::{FIXED_KEY, Failed, Source, draw_key};
 pub use sure_sink::SureSink;
 pub use sure_source::SureSource;
 pub use write_sink::WriteSink;

@@ -39,7 +39,7 @@ pub fn load<S: Source>(alloc: Global, source: &mut S, limit: usize) -> Result<Ve
         × (IsErrOf result LoadError.TooLong ↔ (limit < length bytes)) }
 
     // nothing is pulled after the pull that passes the limit, ends the input or fails
-    ensures stops { IsReadWithin limit STREAM_ROOM S.left S.pulls source.old source.new }
+    ensures stops { IsReadWithin limit STREAM_ROOM S.left S.faults S.pulls source.old source.new }
 {
     let Ok(mut buffer) = vec![in alloc; 0u8; STREAM_ROOM] else {
         return Err(LoadError::OutOfMemory);
@@ -56,8 +56,8 @@ fn load_by<S: Source>(
 ) -> Result<Vec<u8>, LoadError>
     requires { length buffer.old ≡ STREAM_ROOM }
     ensures loaded { HasLoaded result limit S.left S.faults source.old source.new }
-    ensures loads { LoadsWithin (IsErrOf result LoadError.TooLong) limit STREAM_ROOM S.left S.pulls source.old
-        source.new }
+    ensures loads { LoadsWithin (IsErrOf result LoadError.TooLong) limit STREAM_ROOM S.left S.faults S.pulls
+        source.old source.new }
 {
     let mut bytes = Vec::new(alloc);
     loop {

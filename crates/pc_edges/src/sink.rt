@@ -1,7 +1,8 @@
-//! The trait of sinks.
+//! The trait of sinks, and pushing a complete piece to one.
 ghost use Rattle.std.specs.Prelude.{◌≡◌, ℕ, ◌<◌, ◌≤◌, List, Option, None, Ok, length, take, IfOk, OnOk, OnErr};
 ghost use Rattle.std.specs.Io.KnownBytes.{Appends, Keeps};
 ghost use Rattle.pc_edges.specs.Faults.{Rose};
+ghost use Rattle.pc_edges.specs.inside.Writes.{Writes};
 
 use crate::Failed;
 
@@ -39,4 +40,19 @@ pub trait Sink {
         ensures no_fault { OnOk result (faults self.new ≡ faults self.old) }
         ensures failed { OnErr result (Rose (faults self.old) (faults self.new)) }
         ensures count { faults self.old ≤ faults self.new };
+}
+
+/// Pushes all of `piece`, however little the sink takes at a time.
+///
+/// # Errors
+///
+/// `Failed` if a push failed. The sink has taken the first bytes of `piece` then, or none.
+pub fn push_all<O: Sink>(sink: &mut O, piece: &[u8]) -> Result<(), Failed>
+    ensures { Writes result (O.taken sink.old) (O.taken sink.new) (O.faults sink.old) (O.faults sink.new) piece.now }
+{
+    let mut at = 0;
+    while at < piece.len() {
+        at += sink.push(&piece[at..])?;
+    }
+    Ok(())
 }

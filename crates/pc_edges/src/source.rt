@@ -1,10 +1,10 @@
-//! The trait of sources, and the error of sources and sinks.
+//! The trait of sources, the error of sources and sinks, and the key that a source brings for looking up codes.
 ghost use Rattle.std.specs.Prelude.{◌≡◌, ℕ, ◌<◌, ◌≤◌, List, Option, None, Ok, length, take, IfOk, OnOk, OnErr};
 ghost use Rattle.std.specs.Io.KnownBytes.{Consumes, Keeps, IsAtEnd};
 ghost use Rattle.pc_edges.specs.Faults.{Rose};
 ghost use Rattle.pc_edges.specs.Pulls.{TakesPulls};
 
-use crate::key::FIXED_KEY;
+use std::random::RandomSource;
 
 /// The error of a pull, a push or a flush: the source or the sink had a fault, and its count of faults rose.
 #[derive(Clone, Copy, Debug, PartialEq, Eq)]
@@ -46,5 +46,17 @@ pub trait Source {
     /// that was drawn by chance, so that no choice of names makes look-ups slow.
     fn key(&self) -> u128 {
         FIXED_KEY
+    }
+}
+
+/// The key for bytes that nobody could choose in order to make look-ups slow, such as those of a test.
+pub const FIXED_KEY: u128 = 0x243f_6a88_85a3_08d3_1319_8a2e_0370_7344;
+
+/// Returns a random key, or `None` if the system gives no random bytes.
+pub fn draw_key<R: RandomSource>(random: &R) -> Option<u128> {
+    let mut bytes = [0; 16];
+    match random.fill_bytes(&mut bytes) {
+        Ok(()) => Some(u128::from_le_bytes(bytes)),
+        Err(_) => None,
     }
 }

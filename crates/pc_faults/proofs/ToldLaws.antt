@@ -3,7 +3,7 @@ use Rattle.std.proofs.Common.{ℕ, ℤ, Bool, List, refl}
 use Rattle.pc_faults.specs.inside.FaultText.{IsTold}
 use Rattle.pc_faults.specs.Faults as fault
 use Rattle.pc_faults.specs.declared.kind.Kind.{Kind}
-use Rattle.pc_faults.specs.declared.status.StatusFault.{StatusFault}
+use Rattle.pc_faults.specs.declared.fault.StatusFault.{StatusFault}
 
 pub told-too_long : IsTold fault.too_long
 told-too_long = refl

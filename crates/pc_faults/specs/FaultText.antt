@@ -2,8 +2,8 @@
 use Rattle.std.specs.Prelude.{ℕ, Bool, true, false, ◌==◌, List, [], ◌∷◌, ◌++◌, codes, decimal, if◌then◌else◌}
 use Rattle.pc_days.specs.Calendar.{text_of_day}
 use Rattle.pc_faults.specs.Kinds.{word_of}
-use Rattle.pc_faults.specs.declared.status.StatusFault.{StatusFault}
-use Rattle.pc_faults.specs.declared.status.StatusFault.TheVariants as reason
+use Rattle.pc_faults.specs.declared.fault.StatusFault.{StatusFault}
+use Rattle.pc_faults.specs.declared.fault.StatusFault.TheVariants as reason
 use Rattle.pc_faults.specs.declared.fault.Detail.{Detail}
 use Rattle.pc_faults.specs.declared.fault.Detail.TheVariants.{Plain, Kind, Fields, Field, Name, TooMany, Names, Level, Side, Sums, Status, ToGo, Length, Periods}
 use Rattle.pc_faults.specs.declared.fault.Fault.{Fault}

@@ -1,7 +1,7 @@
 -- The faults by their numbers: the record at which each comes, and what it names.
 use Rattle.std.specs.Prelude.{ℕ, ℤ, Bool, List}
 use Rattle.pc_faults.specs.declared.kind.Kind.{Kind as ACardKind}
-use Rattle.pc_faults.specs.declared.status.StatusFault.{StatusFault as AReason}
+use Rattle.pc_faults.specs.declared.fault.StatusFault.{StatusFault as AReason}
 use Rattle.pc_faults.specs.declared.fault.Detail.TheVariants.{Plain, Kind, Fields, Field, Name, TooMany, Names, Level, Side, Sums, Status, ToGo, Length, Periods}
 use Rattle.pc_faults.specs.declared.fault.Fault.{Fault}
 

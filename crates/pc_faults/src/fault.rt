@@ -1,7 +1,9 @@
-//! Why a deck is refused.
+//! Why a deck is refused, and which of several faults comes first.
+ghost use Rattle.std.specs.Prelude.{◌≡◌, ◌≤◌, length, Some};
+ghost use Rattle.pc_faults.specs.FaultText.{status_words};
+ghost use Rattle.pc_faults.specs.inside.First.{earliest, is_no_later};
 
 use crate::kind::Kind;
-use crate::status::StatusFault;
 use pc_days::Day;
 use pc_text::{Code, Codes};
 use std::alloc::AllocError;
@@ -104,4 +106,70 @@ impl From<AllocError> for DeckError {
     fn from(_: AllocError) -> DeckError {
         DeckError::OutOfMemory
     }
+}
+
+/// Why a STATUS card or the ASOF card is in disorder. If several reasons apply, the fault reports the first of these.
+#[derive(Clone, Copy, Debug, PartialEq, Eq)]
+pub enum StatusFault {
+    /// An earlier STATUS card has the same activity and letter.
+    Second,
+    /// The date is before the start of the project.
+    Early,
+    /// The date is after the as-of date.
+    Late,
+    /// An end without a begin of the same activity.
+    NoStart,
+    /// An end that is dated before the activity's begin.
+    FinishFirst,
+}
+
+impl StatusFault {
+    /// What is wrong.
+    pub(crate) fn words(self) -> &'static [u8]
+        ensures words { result.now ≡ status_words self }
+        ensures short { length result.now ≤ 21 }
+    {
+        match self {
+            StatusFault::Second => b"second status",
+            StatusFault::Early => b"date before the start",
+            StatusFault::Late => b"date after as-of",
+            StatusFault::NoStart => b"finish without start",
+            StatusFault::FinishFirst => b"finish before start",
+        }
+    }
+}
+
+/// Returns the earlier of two faults, if there is any: the one at the earlier record, or at the same record the one
+/// with the smaller number.
+pub fn earliest(one: Option<Fault>, other: Option<Fault>) -> Option<Fault>
+    ensures { result ≡ earliest one other }
+{
+    match one {
+        None => other,
+        Some(fault) => Some(earlier_of(fault, other)),
+    }
+}
+
+/// Returns the earlier of a fault and another one, if there is another.
+pub fn earlier_of(fault: Fault, other: Option<Fault>) -> Fault
+    ensures { Some result ≡ earliest (Some fault) other }
+{
+    match other {
+        None => fault,
+        Some(other) => {
+            if is_no_later(&fault, &other) {
+                fault
+            } else {
+                other
+            }
+        }
+    }
+}
+
+/// Returns whether a fault is no later than another: at an earlier record, or at the same record with no greater
+/// number.
+fn is_no_later(fault: &Fault, other: &Fault) -> bool
+    ensures { result ≡ is_no_later fault.now other.now }
+{
+    fault.row < other.row || (fault.row == other.row && fault.number <= other.number)
 }

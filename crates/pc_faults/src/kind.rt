@@ -7,20 +7,20 @@ ghost use Rattle.pc_faults.specs.Kinds.{word_of};
 pub enum Kind {
     Project,
     AsOf,
-    Terms,
     Wbs,
     Event,
     Act,
-    Task,
-    After,
-    Piece,
     Acct,
     Charge,
     ToGo,
     Status,
+    End,
+    Piece,
+    Terms,
+    Task,
+    After,
     Res,
     Load,
-    End,
 }
 
 impl Kind {

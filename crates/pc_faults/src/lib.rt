@@ -7,17 +7,14 @@
 
 mod card_faults;
 mod fault;
-mod first;
-mod joined;
 mod kind;
 mod plan_faults;
 mod project_faults;
-mod status;
 mod tell;
 mod words;
 
-pub use crate::fault::{DeckError, Detail, Fault, NOT_UTF8, TOO_LONG};
-pub use crate::first::{earlier_of, earliest};
+pub use crate::fault::{
+    DeckError, Detail, Fault, NOT_UTF8, StatusFault, TOO_LONG, earlier_of, earliest,
+};
 pub use crate::kind::Kind;
-pub use crate::status::StatusFault;
 pub use crate::tell::fault_line;

@@ -17,8 +17,7 @@ ghost use Rattle.pc_faults.specs.Faults.{
   unknown_resource,
 };
 
-use crate::fault::{Detail, Fault};
-use crate::status::StatusFault;
+use crate::fault::{Detail, Fault, StatusFault};
 use pc_days::Day;
 use pc_text::{Code, Codes};
 

@@ -1,12 +1,11 @@
 //! The line that reports a fault.
 ghost use Rattle.std.specs.Prelude.{◌≡◌, ◌<◌, ◌≤◌, ◌+◌, ◌*◌, ◌^◌, length, IfOk};
-ghost use Rattle.pc_faults.specs.FaultText.{words_of, fault_text};
+ghost use Rattle.pc_faults.specs.FaultText.{words_of, fault_text, spaced_codes, joined};
 ghost use Rattle.pc_faults.specs.inside.FaultText.{IsTold};
 ghost use Rattle.pc_faults.specs.inside.FaultRoom.{HasTold, listed_in, words_limit};
 ghost use Rattle.pc_faults.specs.declared.fault.Detail.TheVariants as detail;
 
 use crate::fault::{Detail, Fault};
-use crate::joined::tell_joined;
 use crate::kind::Kind;
 use crate::words::{Words, side_words};
 use pc_days::{Day, day_text};
@@ -224,4 +223,26 @@ fn tell_periods(line: &mut Line, have: u64)
 {
     line.text(digits(have).bytes());
     line.text(b" periods, more than 400");
+}
+
+/// Appends the codes, with a space between one and the next.
+pub(crate) fn tell_joined(line: &mut Line, codes: &[Code])
+    requires { length line.old.bytes + 17 * length codes.now ≤ line.old.room }
+    ensures { HasTold (17 * length codes.now) line.old line.new (joined codes.now) }
+{
+    if let Some((first, rest)) = codes.split_first() {
+        line.text(first.bytes());
+        tell_spaced(line, rest);
+    }
+}
+
+/// Appends each code after a space.
+fn tell_spaced(line: &mut Line, codes: &[Code])
+    requires { length line.old.bytes + 17 * length codes.now ≤ line.old.room }
+    ensures { HasTold (17 * length codes.now) line.old line.new (spaced_codes codes.now) }
+{
+    for code in codes {
+        line.text(b" ");
+        line.text(code.bytes());
+    }
 }

@@ -1,5 +1,5 @@
 //! Laws of the time-cost curve: where the least cost, as a function of the length, turns, and the list of these places.
-//! That it is one number for a length, falls and is convex, `pc_model::cost_laws` says.
+//! That it is one number for a length, falls and is convex, `pc_model::schedule_laws` says.
 
 ghost use Rattle.std.specs.Prelude.{◌≡◌, ◌≢◌, ◌≤◌, ◌<◌, ◌+◌, ◌-◌, ◌↔◌, ℕ, List};
 ghost use Rattle.pc_model.specs.declared.Term.{Term};

@@ -5,7 +5,7 @@ use Rattle.std.proofs.lemmas.Bool.{cases_eq}
 use Rattle.std.proofs.lemmas.List.{take-append-le, drop-append-le}
 use Rattle.std.proofs.Math.Seq.{drop_at, take_all}
 use Rattle.std.proofs.Math.Nat.{suc-mul, zero-mul}
-use Rattle.pc_wbs.specs.declared.row.ItemRow.{ItemRow}
+use Rattle.pc_wbs.specs.declared.tree.ItemRow.{ItemRow}
 use Rattle.pc_wbs.specs.Climb.{AreInRange, IsBelow, IsLeaf, IsTree}
 use Rattle.pc_rollup.specs.Totals.{amount_at}
 use Rattle.pc_rollup.specs.inside.Totals.{AreRolledUp}

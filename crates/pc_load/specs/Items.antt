@@ -1,6 +1,6 @@
 -- The table of items: what their leaves add up to in each period.
 use Rattle.std.specs.Prelude.{ℕ, ◌<◌, ◌≤◌, List, length}
-use Rattle.pc_wbs.specs.declared.row.ItemRow.{ItemRow}
+use Rattle.pc_wbs.specs.declared.tree.ItemRow.{ItemRow}
 use Rattle.pc_wbs.specs.Climb.{IsTop}
 use Rattle.pc_rollup.specs.Lines.{HasLine}
 use Rattle.pc_rollup.specs.Sums.{IsSumOver}

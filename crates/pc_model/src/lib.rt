@@ -3,10 +3,8 @@
 //! the contracts of the public functions, and the lemmas in `proofs/`.
 #![tactic(auto)]
 
-pub mod cost_laws;
 mod limits;
 pub mod schedule_laws;
-pub mod worked_laws;
 
 pub use limits::{
     MAX_ACCOUNTS, MAX_ACTIVITIES, MAX_CHARGES, MAX_COST, MAX_DIRECTED, MAX_DURATION, MAX_EVENTS,

@@ -1,9 +1,10 @@
-//! A hash of codes that has a key.
+//! A hash of codes that has a key, and keys for callers that draw none by chance.
 ghost use Rattle.std.specs.Prelude.{fold};
 ghost use Rattle.std.specs.Hash as fed;
 ghost use Rattle.std.specs.Hash.FoldHasher as folding;
 
-use std::hash::{BuildHasher, FoldHasher, Hasher};
+use pc_text::Code;
+use std::hash::{BuildHasher, DefaultHasher, FoldHasher, Hash, Hasher};
 
 /// Makes the hashers of one table. All of them have the same key.
 #[derive(Clone, Copy)]
@@ -65,4 +66,28 @@ impl Hasher for CodeHasher {
     fn write(&mut self, bytes: &[u8]) {
         self.inner.write(bytes);
     }
+}
+
+/// Returns a key that depends on each of these bytes. Linear in the bytes.
+///
+/// It is a digest by SipHash-1-3: if you change the bytes to crowd the table of one key, you get another key.
+pub fn key_of_bytes(bytes: &[u8]) -> u128 {
+    let mut hasher = DefaultHasher::new();
+    hasher.write(bytes);
+    key_by(hasher)
+}
+
+/// Returns a key that depends on each of these codes, as [`key_of_bytes`] does. Linear in the codes.
+pub(crate) fn key_of_codes(codes: &[Code]) -> u128 {
+    let mut hasher = DefaultHasher::new();
+    Code::hash_slice(codes, &mut hasher);
+    key_by(hasher)
+}
+
+/// The key that a hasher gives: its hash, and the hash once that was written too.
+fn key_by(mut hasher: DefaultHasher) -> u128 {
+    let first = hasher.finish();
+    hasher.write_u64(first);
+    let second = hasher.finish();
+    (first as u128) << 64 | second as u128
 }

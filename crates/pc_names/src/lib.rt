@@ -5,8 +5,7 @@
 #![tactic(auto)]
 
 mod hash;
-mod key;
 mod names;
 
-pub use key::key_of_bytes;
+pub use hash::key_of_bytes;
 pub use names::Names;

@@ -4,8 +4,7 @@ ghost use Rattle.std.specs.List.{list_any};
 ghost use Rattle.std.specs.Cmp.Lexicographic.{pointwise};
 ghost use Rattle.pc_model.specs.Codes.{IsNamedOnce};
 
-use crate::hash::CodeHash;
-use crate::key::key_of_codes;
+use crate::hash::{CodeHash, key_of_codes};
 use indexmap::IndexSet;
 use pc_text::Code;
 use std::alloc::{AllocError, Global};

@@ -9,7 +9,7 @@ use Rattle.pc_model.specs.Network.{Network, IsInRange, IsOrder}
 use Rattle.pc_model.proofs.Walks.OrderLaws.{stands_in_order}
 use Rattle.pc_net.specs.Networks.{events_from, events_to}
 use Rattle.pc_net.specs.Degrees.{AreDistinct, degrees}
-use Rattle.pc_net.specs.declared.side.Side.TheVariants.{Begins, Ends}
+use Rattle.pc_net.specs.declared.graph.Side.TheVariants.{Begins, Ends}
 use Rattle.pc_net.proofs.SideLaws.{events_of_at, length-events_of}
 
 -- 1 where the event is y

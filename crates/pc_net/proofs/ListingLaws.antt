@@ -10,7 +10,7 @@ use Rattle.pc_model.specs.Walk.{arc_at}
 use Rattle.pc_model.proofs.Walks.ListedLaws.{IsListed-places, IsListed-same}
 use Rattle.pc_net.specs.inside.Chains.{first_or, places_from, AreChains}
 use Rattle.pc_net.specs.declared.listing.Listing.{Listing}
-use Rattle.pc_net.specs.declared.side.Side.{Side}
+use Rattle.pc_net.specs.declared.graph.Side.{Side}
 use Rattle.pc_net.specs.inside.Sides.{event_of, events_of}
 use Rattle.pc_net.specs.inside.Listings.{AreListed, IsListing, HasPart, part_of}
 use Rattle.pc_net.proofs.SideLaws.{events_of_at, length-events_of}

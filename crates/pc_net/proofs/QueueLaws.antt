@@ -7,7 +7,7 @@ use Rattle.pc_model.specs.inside.Greatest.{IsListed}
 use Rattle.pc_model.specs.Walk.{from_of, to_of}
 use Rattle.pc_model.specs.Network.{Network, IsPartOrder}
 use Rattle.pc_model.proofs.Walks.ListedLaws.{StandsBelow-more, StandsBelow-push, StandsBelow-unpush, StandsBelow-last}
-use Rattle.pc_net.specs.declared.side.Side.TheVariants.{Ends}
+use Rattle.pc_net.specs.declared.graph.Side.TheVariants.{Ends}
 use Rattle.pc_net.specs.inside.Sides.{events_of}
 use Rattle.pc_net.specs.inside.Queue.{AreEntering, IsWaiting, IsQueue, IsBlocked}
 use Rattle.pc_net.proofs.SideLaws.{events_of_at, length-events_of}

@@ -3,7 +3,7 @@ use Rattle.std.proofs.Common.{◌≡◌, ℕ, ◌<◌, List, length, slice_index
 use Rattle.std.proofs.lemmas.List.{get_or-map, length-map}
 use Rattle.pc_model.specs.declared.Arc.{Arc}
 use Rattle.pc_model.specs.Walk.{arc_at}
-use Rattle.pc_net.specs.declared.side.Side.{Side}
+use Rattle.pc_net.specs.declared.graph.Side.{Side}
 use Rattle.pc_net.specs.inside.Sides.{event_of, events_of, AreBelow}
 
 -- the k-th of these events is that of the k-th activity

@@ -1,4 +1,4 @@
-//! A network of which it is not known yet whether it is sound.
+//! A network of which it is not known yet whether it is sound, and the two ends of an activity.
 ghost use Rattle.std.specs.Prelude.{◌≡◌, ◌<◌, ◌≤◌, IfOk, length};
 ghost use Rattle.pc_model.specs.Greatest.{places};
 ghost use Rattle.pc_model.specs.inside.Greatest.{IsListed};
@@ -6,9 +6,9 @@ ghost use Rattle.pc_model.specs.Walk.{from_of, to_of};
 ghost use Rattle.pc_model.specs.Network.{IsInRange};
 ghost use Rattle.pc_net.specs.Networks.{events_from, events_to};
 ghost use Rattle.pc_net.specs.inside.Networks.{network};
+ghost use Rattle.pc_net.specs.inside.Sides.{event_of};
 
 use crate::listing::Listing;
-use crate::side::Side;
 use pc_model::{Arc, MAX_ACTIVITIES, MAX_EVENTS};
 use std::alloc::{AllocError, Global};
 use std::marker::Model;
@@ -134,5 +134,24 @@ impl Graph {
         ensures places { result.now ≡ places e 0 (events_to self.now.arcs) }
     {
         self.incoming.at(e)
+    }
+}
+
+/// One of the two ends of an activity.
+#[derive(Clone, Copy)]
+pub(crate) enum Side {
+    Begins,
+    Ends,
+}
+
+impl Side {
+    /// The event at this end of the activity.
+    pub(crate) fn event_of(self, arc: Arc) -> u32
+        ensures { result ≡ event_of self arc }
+    {
+        match self {
+            Side::Begins => arc.from,
+            Side::Ends => arc.to,
+        }
     }
 }

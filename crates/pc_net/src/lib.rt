@@ -2,9 +2,7 @@
 //! and the activities at each event.
 #![tactic(auto)]
 
-mod chains;
 mod cycle;
-pub mod degree_laws;
 mod faults;
 mod finishing;
 mod graph;
@@ -13,8 +11,7 @@ mod listing;
 mod network;
 mod ordering;
 mod refusal;
-mod side;
 
-pub use network::Net;
+pub use network::{Net, each_activity_stands_once};
 pub use pc_model::{Arc, MAX_ACTIVITIES, MAX_EVENTS};
 pub use refusal::{Indices, NetError};

@@ -1,12 +1,13 @@
-//! A sound network.
-ghost use Rattle.std.specs.Prelude.{◌≡◌, ◌<◌, ◌≤◌, IfOk, IfErr, OnOk, length};
+//! A sound network, and how often its activities are among those that begin or end at its events.
+ghost use Rattle.std.specs.Prelude.{◌≡◌, ◌<◌, ◌≤◌, IfOk, IfErr, OnOk, length, ℕ, List};
 ghost use Rattle.pc_model.specs.Greatest.{places};
 ghost use Rattle.pc_model.specs.inside.Greatest.{IsListed};
 ghost use Rattle.pc_model.specs.Walk.{from_of, to_of};
-ghost use Rattle.pc_model.specs.Network.{IsInRange, IsSound, IsOrder};
+ghost use Rattle.pc_model.specs.Network.{IsInRange, IsSound, IsOrder, Network};
 ghost use Rattle.pc_net.specs.Networks.{events_from, events_to};
 ghost use Rattle.pc_net.specs.inside.Networks.{network};
 ghost use Rattle.pc_net.specs.Refusals.{IsNetError};
+ghost use Rattle.pc_net.specs.Degrees.{AreDistinct, degrees};
 
 use crate::cycle::first_cycle;
 use crate::faults::check;
@@ -156,3 +157,18 @@ impl Net {
         self.graph.in_arcs(e)
     }
 }
+
+/// States that, over all events, each activity occurs once among those that begin there and once among those that end
+/// there, and over distinct events at most once.
+///
+/// `degrees` adds up the lengths of [`crate::Net::out_arcs`] or [`crate::Net::in_arcs`].
+pub fn each_activity_stands_once()
+    ensures begin_at_most { (net : Network) (events : List ℕ) → AreDistinct events →
+        degrees (events_from net.arcs) events ≤ length net.arcs }
+    ensures end_at_most { (net : Network) (events : List ℕ) → AreDistinct events →
+        degrees (events_to net.arcs) events ≤ length net.arcs }
+    ensures begin { (net : Network) (order : List ℕ) → IsInRange net → IsOrder net order →
+        degrees (events_from net.arcs) order ≡ length net.arcs }
+    ensures end { (net : Network) (order : List ℕ) → IsInRange net → IsOrder net order →
+        degrees (events_to net.arcs) order ≡ length net.arcs }
+{}

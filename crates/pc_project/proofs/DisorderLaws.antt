@@ -7,10 +7,10 @@ use Rattle.pc_deck.specs.declared.kinds.as_of.AsOfCard.{AsOfCard}
 use Rattle.pc_faults.specs.Faults.{disorder}
 use Rattle.pc_faults.specs.First.{IsFirstFault}
 use Rattle.pc_faults.specs.declared.fault.Fault.{Fault}
-use Rattle.pc_faults.specs.declared.status.StatusFault.{StatusFault}
-use Rattle.pc_faults.specs.declared.status.StatusFault.TheVariants.{Second, Early, Late, NoStart, FinishFirst}
+use Rattle.pc_faults.specs.declared.fault.StatusFault.{StatusFault}
+use Rattle.pc_faults.specs.declared.fault.StatusFault.TheVariants.{Second, Early, Late, NoStart, FinishFirst}
 use Rattle.pc_accounts.specs.status.Statuses.{AreInOrder, HasReason, IsInOrder, IsReason, reason_rank}
-use Rattle.pc_accounts.specs.declared.status.row.StatusRow.{StatusRow}
+use Rattle.pc_accounts.specs.declared.status.StatusRow.{StatusRow}
 use Rattle.pc_project.specs.DisorderFaults.{HasDisorder, HasNoDisorder, HasStatusDisorder, IsEarlyAsOf, as_of_in, of_as_of, of_status}
 use Rattle.pc_faults.specs.inside.First.{IsFirstIn, earliest}
 use Rattle.pc_project.specs.Project.{as_of_day, statuses_in}

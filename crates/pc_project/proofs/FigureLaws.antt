@@ -8,9 +8,9 @@ use Rattle.pc_accounts.specs.Entries.{AreEntriesWithinLimits}
 use Rattle.pc_accounts.specs.Packages.{IsUneven, work_at}
 use Rattle.pc_accounts.specs.inside.Packages.{AreWork}
 use Rattle.pc_accounts.specs.declared.entry.Entry.{Entry}
-use Rattle.pc_accounts.specs.declared.rows.AcctRow.{AcctRow}
-use Rattle.pc_accounts.specs.declared.rows.MoneyRow.{MoneyRow}
-use Rattle.pc_accounts.specs.declared.rows.WorkRow.{WorkRow}
+use Rattle.pc_accounts.specs.declared.book.AcctRow.{AcctRow}
+use Rattle.pc_accounts.specs.declared.book.MoneyRow.{MoneyRow}
+use Rattle.pc_accounts.specs.declared.book.WorkRow.{WorkRow}
 use Rattle.pc_deck.specs.Deck.{Deck}
 use Rattle.pc_deck.specs.Within.{IsWithinLimits}
 use Rattle.pc_deck.specs.declared.kinds.acct.AcctCard.{AcctCard}
@@ -20,8 +20,8 @@ use Rattle.pc_deck.specs.declared.kinds.status.StatusCard.{StatusCard}
 use Rattle.pc_deck.proofs.NumberLemmas.{accounts-within, acts-within, charges-within, togos-within}
 use Rattle.pc_model.specs.declared.limits.TheConstants.{MAX_COST}
 use Rattle.pc_accounts.specs.status.Statuses.{AreKnown, status_at}
-use Rattle.pc_accounts.specs.declared.status.row.StatusRow.{StatusRow}
-use Rattle.pc_times.specs.declared.state.ActState.{ActState}
+use Rattle.pc_accounts.specs.declared.status.StatusRow.{StatusRow}
+use Rattle.pc_times.specs.declared.forecasts.ActState.{ActState}
 use Rattle.pc_wbs.specs.Climb.{IsLeaf}
 use Rattle.pc_project.specs.DisorderFaults.{as_of_in}
 use Rattle.pc_project.specs.Figures.{AreAccounts, AreFigures, AreStatesOf, work_rows}

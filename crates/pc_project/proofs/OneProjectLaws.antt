@@ -4,7 +4,7 @@ use Rattle.std.proofs.Common.{◌≡◌, List, length, sym, ◌∙◌, ap, subst
 use Rattle.pc_accounts.specs.declared.entry.Entry.{Entry}
 use Rattle.pc_accounts.specs.Amounts.{AreEntriesOf}
 use Rattle.pc_accounts.proofs.OneBookLaws.{one_book}
-use Rattle.pc_times.specs.declared.state.ActState.{ActState}
+use Rattle.pc_times.specs.declared.forecasts.ActState.{ActState}
 use Rattle.pc_accounts.proofs.lemmas.status.OneStateLaws.{one_progress}
 use Rattle.pc_deck.specs.Deck.{Deck}
 use Rattle.pc_project.specs.Project.{Project, project_in}

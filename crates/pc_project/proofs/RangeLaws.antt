@@ -5,7 +5,7 @@ use Rattle.std.proofs.lemmas.List.{length-map}
 use Rattle.std.proofs.lemmas.List.Elements.{All-from_get_or}
 use Rattle.pc_model.specs.declared.Arc.{Arc}
 use Rattle.pc_model.specs.Walk.{IsWalk, IsCycle, to_of}
-use Rattle.pc_wbs.specs.declared.row.ItemRow.{ItemRow}
+use Rattle.pc_wbs.specs.declared.tree.ItemRow.{ItemRow}
 use Rattle.pc_wbs.specs.Climb.{AreInRange}
 use Rattle.pc_wbs.specs.Refusal.{IsLoopFrom, IsTreeError}
 use Rattle.pc_wbs.specs.declared.error.TreeError.{TreeError}

@@ -4,10 +4,10 @@ use Rattle.std.specs.Prelude.{ℤ}
 use Rattle.std.proofs.lemmas.Bool.{cases_lt}
 use Rattle.std.proofs.lemmas.List.{get_or_append_left, get_or_push, length_push}
 use Rattle.pc_accounts.specs.status.Statuses.{IsStateOf}
-use Rattle.pc_accounts.specs.declared.status.row.StatusRow.{StatusRow}
+use Rattle.pc_accounts.specs.declared.status.StatusRow.{StatusRow}
 use Rattle.pc_times.specs.Forecast.{IsSmallState, state_at}
-use Rattle.pc_times.specs.declared.state.ActState.{ActState}
-use Rattle.pc_times.specs.declared.state.ActState.TheVariants.{Waiting}
+use Rattle.pc_times.specs.declared.forecasts.ActState.{ActState}
+use Rattle.pc_times.specs.declared.forecasts.ActState.TheVariants.{Waiting}
 use Rattle.pc_project.specs.Figures.{AreStatesOf}
 
 -- what holds of the states so far and of one more

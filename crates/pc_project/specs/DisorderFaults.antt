@@ -4,8 +4,8 @@ use Rattle.pc_deck.specs.Deck.{Deck}
 use Rattle.pc_deck.specs.declared.kinds.as_of.AsOfCard.{AsOfCard}
 use Rattle.pc_faults.specs.Faults.{disorder}
 use Rattle.pc_faults.specs.declared.fault.Fault.{Fault}
-use Rattle.pc_faults.specs.declared.status.StatusFault.{StatusFault}
-use Rattle.pc_faults.specs.declared.status.StatusFault.TheVariants.{Early}
+use Rattle.pc_faults.specs.declared.fault.StatusFault.{StatusFault}
+use Rattle.pc_faults.specs.declared.fault.StatusFault.TheVariants.{Early}
 use Rattle.pc_accounts.specs.status.Statuses.{IsReason}
 use Rattle.pc_project.specs.Project.{as_of_day, statuses_in}
 use Rattle.pc_project.specs.Records.{status_records}

@@ -2,18 +2,18 @@
 use Rattle.std.specs.Prelude.{◌≡◌, ℕ, ◌<◌, ◌≤◌, ℤ, List, [], ◌∷◌, length}
 use Rattle.pc_accounts.specs.Amounts.{AreBudgets, AreEntriesOf, AreMoney, item_of}
 use Rattle.pc_accounts.specs.Second.{IsRepeated}
-use Rattle.pc_accounts.specs.declared.rows.AcctRow.{AcctRow}
-use Rattle.pc_accounts.specs.declared.rows.MoneyRow.{MoneyRow}
-use Rattle.pc_accounts.specs.declared.rows.WorkRow.{WorkRow}
+use Rattle.pc_accounts.specs.declared.book.AcctRow.{AcctRow}
+use Rattle.pc_accounts.specs.declared.book.MoneyRow.{MoneyRow}
+use Rattle.pc_accounts.specs.declared.book.WorkRow.{WorkRow}
 use Rattle.pc_deck.specs.Deck.{Deck}
 use Rattle.pc_model.specs.declared.Term.{Term}
 use Rattle.pc_model.specs.declared.limits.TheConstants.{MAX_ACCOUNTS, MAX_CHARGES, MAX_TOGOS}
 use Rattle.pc_accounts.specs.status.Statuses.{IsStateOf}
-use Rattle.pc_accounts.specs.declared.status.row.StatusRow.{StatusRow}
+use Rattle.pc_accounts.specs.declared.status.StatusRow.{StatusRow}
 use Rattle.pc_times.specs.Forecast.{IsSmallState, state_at}
-use Rattle.pc_times.specs.declared.state.ActState.{ActState}
+use Rattle.pc_times.specs.declared.forecasts.ActState.{ActState}
 use Rattle.pc_wbs.specs.Climb.{IsLeaf}
-use Rattle.pc_wbs.specs.declared.row.ItemRow.{ItemRow}
+use Rattle.pc_wbs.specs.declared.tree.ItemRow.{ItemRow}
 use Rattle.pc_project.specs.Project.{Project, project_in}
 
 -- one state for each of so many activities, by the statuses of a project with this start; no time is beyond the calendar

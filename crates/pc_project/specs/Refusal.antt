@@ -10,7 +10,7 @@ use Rattle.pc_accounts.specs.Second.{IsRepeated}
 use Rattle.pc_model.specs.Network.{IsSound}
 use Rattle.pc_wbs.specs.Climb.{IsTree}
 use Rattle.pc_wbs.specs.Refusal.{IsTreeError as IsTreeRefusal}
-use Rattle.pc_wbs.specs.declared.row.ItemRow.{ItemRow}
+use Rattle.pc_wbs.specs.declared.tree.ItemRow.{ItemRow}
 use Rattle.pc_wbs.specs.declared.error.TreeError.{TreeError}
 use Rattle.pc_wbs.specs.declared.error.TreeError.TheVariants as tree
 use Rattle.pc_net.specs.Refusals.{IsNetError as IsNetRefusal}

@@ -7,14 +7,10 @@
 //! Cards are read from [`Fields`] and put into [`Records`], which say what these two offer without the types of `csv`.
 #![tactic(auto)]
 
-mod fields;
-mod records;
 mod row;
 mod rows;
 mod writer;
 
-pub use crate::fields::Fields;
-pub use crate::records::Records;
-pub use crate::row::Row;
+pub use crate::row::{Fields, Row};
 pub use crate::rows::RowReader;
-pub use crate::writer::RowWriter;
+pub use crate::writer::{Records, RowWriter};

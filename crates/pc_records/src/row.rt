@@ -1,11 +1,9 @@
-// One record of a deck.
-
+//! One record of a deck, and the trait of records whose fields can be read.
 ghost use Rattle.std.specs.Prelude.{◌≡◌, ◌==◌, [], List, ℕ, drop, length, option_map, slice_get, IfOk};
 ghost use Rattle.csv.specs.Records.{fields_of};
 ghost use Rattle.pc_records.specs.Deck.{is_blank};
 ghost use Rattle.pc_model.specs.Codes.{text_at};
 
-use crate::fields::Fields;
 use csv::ByteRecord;
 use std::alloc::{AllocError, Global};
 use std::marker::Model;
@@ -18,7 +16,7 @@ pub struct Row {
 }
 
 impl Drop for Row {
-    // Written out, so that who lets a row go cites this proof.
+    // Written by hand so that the proof of dropping a row is done once, here.
     fn drop(self) {
         let Row { fields: _fields } = self;
     }
@@ -123,4 +121,25 @@ impl Fields for Row {
     fn is_blank_from(&self, start: usize) -> bool {
         Row::is_blank_from(self, start)
     }
+}
+
+/// The fields of a record, each of any bytes.
+///
+/// Code that reads fields through this trait does not depend on how they are kept, so no crate above carries the
+/// interface of `csv`.
+pub trait Fields {
+    // The fields in their order.
+    ghost fields: { Self → List (List ℕ) };
+
+    /// Returns the number of fields, empty ones included.
+    fn len(&self) -> usize
+        ensures { result ≡ length (fields self.now) };
+
+    /// Returns field `i`, counted from 0, or an empty field past the last one.
+    fn field(&self, i: usize) -> &[u8]
+        ensures { result.now ≡ text_at (fields self.now) i };
+
+    /// Returns whether all fields from number `start` on, counted from 0, are empty. Past the last field this is true.
+    fn is_blank_from(&self, start: usize) -> bool
+        ensures { result ≡ is_blank (drop start (fields self.now)) };
 }

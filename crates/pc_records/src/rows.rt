@@ -23,7 +23,7 @@ pub struct RowReader<'a> {
 }
 
 impl<'a> Drop for RowReader<'a> {
-    // Written out, so that who lets them go cites this proof.
+    // Written by hand so that the proof of dropping a reader is done once, here.
     fn drop(self) {
         let RowReader {
             reader: _reader,

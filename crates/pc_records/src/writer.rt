@@ -1,9 +1,7 @@
-// The text of records, written one after the other.
-
-ghost use Rattle.std.specs.Prelude.{◌≡◌, ◌++◌, [], map, IfOk, OnOk, OnErr};
+//! The text of records, written one after the other, and the trait of texts that take records.
+ghost use Rattle.std.specs.Prelude.{◌≡◌, ◌++◌, [], map, IfOk, OnOk, OnErr, List, ℕ};
 ghost use Rattle.pc_records.specs.Text.{record_text};
 
-use crate::records::Records;
 use csv::{Writer, WriterBuilder};
 use std::alloc::AllocError;
 use std::marker::Model;
@@ -87,4 +85,22 @@ impl Records for RowWriter {
     fn put(&mut self, fields: &[&[u8]]) -> Result<(), AllocError> {
         RowWriter::put(self, fields)
     }
+}
+
+/// A text to which records are appended.
+///
+/// Code that writes records through this trait does not depend on how they are written, so no crate above carries the
+/// interface of `csv`.
+pub trait Records {
+    // The text so far.
+    ghost text: { Self → List ℕ };
+
+    /// Appends a record of these fields to the text.
+    ///
+    /// # Errors
+    ///
+    /// Returns `AllocError` if memory runs out. The text is lost.
+    fn put(&mut self, fields: &[&[u8]]) -> Result<(), AllocError>
+        ensures put { OnOk result (text self.new ≡ text self.old ++ record_text (map (λ field. field.now) fields.now)) }
+        ensures stopped { OnErr result (text self.new ≡ []) };
 }

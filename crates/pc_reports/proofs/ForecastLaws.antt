@@ -12,12 +12,12 @@ use Rattle.pc_model.specs.Walk.{from_of, to_of}
 use Rattle.pc_model.proofs.Walks.OrderLaws.{stands_in_order}
 use Rattle.pc_project.specs.Planned.{IsPlanned}
 use Rattle.pc_project.specs.Project.{Project}
-use Rattle.pc_accounts.specs.declared.status.row.StatusRow.{StatusRow}
+use Rattle.pc_accounts.specs.declared.status.StatusRow.{StatusRow}
 use Rattle.pc_accounts.specs.status.Statuses.{status_at, AreInOrder, IsOf, IsSixths, IsStateOf}
-use Rattle.pc_faults.specs.declared.status.StatusFault.TheVariants.{Late}
+use Rattle.pc_faults.specs.declared.fault.StatusFault.TheVariants.{Late}
 use Rattle.pc_times.specs.declared.TheConstants.{MAX_LENGTH, MAX_TIME}
-use Rattle.pc_times.specs.declared.state.ActState.{ActState}
-use Rattle.pc_times.specs.declared.state.ActState.TheVariants.{Waiting, Started, Finished}
+use Rattle.pc_times.specs.declared.forecasts.ActState.{ActState}
+use Rattle.pc_times.specs.declared.forecasts.ActState.TheVariants.{Waiting, Started, Finished}
 use Rattle.pc_times.specs.Times.{AreLengths}
 use Rattle.pc_times.specs.Forecast.{Expected, state_at, finish_of, IsForecast}
 

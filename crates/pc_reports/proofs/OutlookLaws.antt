@@ -9,7 +9,7 @@ use Rattle.pc_model.specs.Pieces.{knees_of}
 use Rattle.pc_model.specs.Sums.{sum_to}
 use Rattle.pc_model.proofs.Sums.{sum_to-most, sum_to-same}
 use Rattle.pc_crash.specs.Priced.{PricedNetwork, knees_in}
-use Rattle.pc_crash.specs.declared.costing.TheConstants.{MAX_ACTIVITY_COST}
+use Rattle.pc_crash.specs.declared.crash_net.TheConstants.{MAX_ACTIVITY_COST}
 use Rattle.pc_project.specs.Project.{Project}
 use Rattle.pc_rollup.specs.figures.Outlook.{Outlook, IsOutlookOf, IsWholeOutlook, amounts_at}
 use Rattle.pc_rollup.specs.inside.figures.Outlook.{HasWholeAtTop}

@@ -5,7 +5,7 @@ use Rattle.std.specs.Prelude.{ℤ, int_lt, slice_index}
 use Rattle.std.proofs.lemmas.Bool.{cases_eq}
 use Rattle.std.proofs.lemmas.Int.{ints}
 use Rattle.std.proofs.lemmas.List.{get_or_default}
-use Rattle.pc_wbs.specs.declared.row.ItemRow.{ItemRow}
+use Rattle.pc_wbs.specs.declared.tree.ItemRow.{ItemRow}
 use Rattle.pc_wbs.specs.Climb.{parent_of, AreInRange, IsBelow}
 use Rattle.pc_wbs.specs.Preorder.{IsPreorder}
 use Rattle.pc_wbs.proofs.OrderLaws.{parent-inside}

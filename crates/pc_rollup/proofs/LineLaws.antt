@@ -3,7 +3,7 @@ use Rattle.std.proofs.Common.{◌≡◌, ◌≢◌, ℕ, zero, suc, ◌+◌, ◌
 use Rattle.std.specs.Prelude.{ℤ, pos, min, slice_index}
 use Rattle.std.proofs.lemmas.List.{length_push, get_or_push, get_or_append_left}
 use Rattle.std.proofs.lemmas.Bool.{cases_lt, cases_eq}
-use Rattle.pc_wbs.specs.declared.row.ItemRow.{ItemRow}
+use Rattle.pc_wbs.specs.declared.tree.ItemRow.{ItemRow}
 use Rattle.pc_wbs.specs.Climb.{parent_of, AreInRange, climb, IsBelow, HasLevel, IsLeaf, IsTree, IsAtLevel}
 use Rattle.pc_wbs.proofs.ClimbLaws.{climb-lower, climb-add, climb-range, climb-more, IsBelow-self, HasLevel-same}
 use Rattle.pc_wbs.proofs.LevelLaws.{climb-level, IsBelow-same_level}

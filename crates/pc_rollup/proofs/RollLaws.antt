@@ -8,7 +8,7 @@ use Rattle.std.proofs.lemmas.List.{get_or_default}
 use Rattle.std.proofs.lemmas.List.Sums.{sum_by_more}
 use Rattle.std.proofs.Math.Seq.{take-length}
 use Rattle.pc_model.specs.Sums.{sum_to}
-use Rattle.pc_wbs.specs.declared.row.ItemRow.{ItemRow}
+use Rattle.pc_wbs.specs.declared.tree.ItemRow.{ItemRow}
 use Rattle.pc_wbs.specs.Climb.{parent_of, AreInRange, IsBelow, IsLeaf, IsTree}
 use Rattle.pc_wbs.specs.Preorder.{IsPreorder}
 use Rattle.pc_wbs.specs.inside.Precedes.{IsUnder}

@@ -1,10 +1,10 @@
 -- The lines of a level together have all that stands on leaves, and so what the top has.
-use Rattle.std.proofs.Common.{◌≡◌, ◌≢◌, ap, Option, Some, None, ℕ, zero, suc, ◌+◌, ◌<◌, ◌≤◌, ◌⊎◌, inl, inr, ⊎_elim, List, length, take, sym, ◌∙◌, subst, arith}
+use Rattle.std.proofs.Common.{◌≡◌, ◌≢◌, Option, Some, None, ℕ, zero, suc, ◌+◌, ◌<◌, ◌≤◌, ◌⊎◌, inl, inr, ⊎_elim, List, [], ◌∷◌, ◌++◌, length, take, refl, sym, ◌∙◌, subst, arith}
 use Rattle.std.specs.Prelude.{ℤ, pos, ◌+ℤ◌, slice_index}
 use Rattle.std.proofs.lemmas.Bool.{cases_eq, cases_lt}
 use Rattle.std.proofs.lemmas.List.Sums.{fold_more}
 use Rattle.std.proofs.Math.Seq.{take-length}
-use Rattle.pc_wbs.specs.declared.row.ItemRow.{ItemRow}
+use Rattle.pc_wbs.specs.declared.tree.ItemRow.{ItemRow}
 use Rattle.pc_wbs.specs.Climb.{parent_of, AreInRange, HasLevel, IsBelow, IsTop, IsOnlyTop, IsLeaf, IsTree}
 use Rattle.pc_wbs.proofs.ClimbLaws.{HasLevel-same}
 use Rattle.pc_wbs.specs.Preorder.{IsPreorder}
@@ -15,7 +15,8 @@ use Rattle.pc_rollup.specs.Totals.{amount_at}
 use Rattle.pc_rollup.specs.inside.Totals.{AreRolledUp}
 use Rattle.pc_rollup.specs.Lines.{HasLine, line_at, StandsBefore, AreLines, sum_of}
 use Rattle.pc_rollup.proofs.SumLaws.{IsSumOver-none, IsSumOver-same, IsSumOver-both, IsSumOver-only, IsSumOver-at, IsSumOver-parts, IsSumOver-some}
-use Rattle.pc_rollup.proofs.LineLaws.{line_of_leaf}
+use Rattle.pc_rollup.proofs.RollLaws.{leaf_or_not}
+use Rattle.pc_rollup.proofs.LineLaws.{line_of_leaf, AreLinesTo, lines_none, lines_skip, lines_more, lines_all}
 
 -- what stands on the leaves of a tree, and the lines of a level: those numbers below n that have P stand on leaves, each
 -- total is the sum of what stands on its item or below it, and the lines are those of the level with these totals
@@ -135,26 +136,7 @@ whole_sum rows order level top amounts totals lines ranged tree preorder some ar
 
 -- ---- the lines of a level as items
 
--- of the first n items one has this parent, or none
-child_or_none : (rows : List ItemRow) (x n : ℕ) → ((y : ℕ) × ((y < n) × (parent_of rows y ≡ Some x))) ⊎ ((y : ℕ) → y < n → parent_of rows y ≢ Some x)
-child_or_none rows x zero = inr (λ y lt. absurd (omega arith))
-child_or_none rows x (suc n) =
-    ⊎_elim (λ (y, (lt, e)). inl (y, (omega arith, e)))
-    (λ none. ⊎_elim (λ e. inl (n, (omega arith, e)))
-    (λ ne. inr (λ y lt. ⊎_elim (λ same. subst (λ (i : ℕ). parent_of rows i ≢ Some x) (sym same) ne) (λ apart. none y (omega arith))
-    (cases_eq y n))) (parent_or_not (parent_of rows n)))
-    (child_or_none rows x n)
-  where
-    parent_or_not : (p : Option ℕ) → (p ≡ Some x) ⊎ (p ≢ Some x)
-    parent_or_not None = inr (λ e. cc)
-    parent_or_not (Some y) = ⊎_elim (λ e. inl (ap Some e)) (λ ne. inr (λ e. ne (cc))) (cases_eq y x)
-
--- it can be told whether an item is a leaf
-leaf_or_not : (rows : List ItemRow) (x : ℕ) → IsLeaf rows x ⊎ (IsLeaf rows x → ⊥)
-leaf_or_not rows x =
-    ⊎_elim (λ (y, (lt, e)). inr (λ leaf. leaf y lt e)) (λ none. inl none) (child_or_none rows x (length rows))
-
--- and whether it has a line
+-- whether an item has a line
 line_or_not : (rows : List ItemRow) (level x : ℕ) → IsTree rows → x < length rows → HasLine rows level x ⊎ (HasLine rows level x → ⊥)
 line_or_not rows level x tree lt =
     let (own, (has, within)) = tree.levels x lt in
@@ -193,3 +175,45 @@ lines_have_all rows level top amounts totals ranged tree some rolled is_top =
         (IsSumOver-parts (HasLine rows level) (λ x k. IsLeaf rows k × IsBelow rows k x) (length rows) (length rows) (amount_at totals)
         (amount_at amounts) sum (λ x h line. rolled.each x h) apart over))
         (leaves_of_top rows top amounts totals ranged tree rolled is_top)
+
+-- ---- the lines of a level, which has some
+
+-- those of the first n items in order
+lines_to : (rows : List ItemRow) (order : List ℕ) (level : ℕ) (totals : List ℤ) → IsTree rows → IsPreorder rows order → (n : ℕ) → n ≤ length order →
+    (lines : List LevelLine) × AreLinesTo rows order n level totals lines
+lines_to rows order level totals tree preorder zero le = ([], lines_none rows order level totals)
+lines_to rows order level totals tree preorder (suc n) le =
+    let (lines, so_far) = lines_to rows order level totals tree preorder n (omega arith) in
+    let more : n + 1 ≡ suc n = omega arith in
+    ⊎_elim
+    (λ has. (
+      lines ++ line n ∷ [],
+      subst (λ (k : ℕ). AreLinesTo rows order k level totals (lines ++ line n ∷ [])) more
+          (lines_more rows order n level totals lines (line n) (omega arith) refl refl has so_far),
+    ))
+    (λ none. (lines, subst (λ (k : ℕ). AreLinesTo rows order k level totals lines) more (lines_skip rows order n level totals lines none so_far)))
+    (line_or_not rows level (slice_index order n) tree (preorder.range n (omega arith)))
+  where
+    line : ℕ → LevelLine
+    line k = record { item = slice_index order k; amount = amount_at totals (slice_index order k) }
+
+pub lines_of_level : (rows : List ItemRow) (order : List ℕ) (level : ℕ) (totals : List ℤ) → IsTree rows → IsPreorder rows order →
+    (lines : List LevelLine) × AreLines rows order level totals lines
+lines_of_level rows order level totals tree preorder =
+    let (lines, so_far) = lines_to rows order level totals tree preorder (length order) (omega arith) in
+    (lines, lines_all rows order (length order) level totals lines preorder refl so_far)
+
+-- the first item in preorder is the top
+pub first_is_top : (rows : List ItemRow) (order : List ℕ) → IsPreorder rows order → 0 < length order → IsTop rows (slice_index order 0)
+first_is_top rows order preorder some = (preorder.range 0 some, none (parent_of rows (slice_index order 0)) refl)
+  where
+    none : (p : Option ℕ) → parent_of rows (slice_index order 0) ≡ p → parent_of rows (slice_index order 0) ≡ None
+    none None e = e
+    none (Some p) e = let (j, less, at) = preorder.before 0 p some e in absurd (omega arith)
+
+-- a tree has some item
+pub some_item : (rows : List ItemRow) (order : List ℕ) → IsTree rows → IsPreorder rows order → 0 < length order
+some_item rows order tree preorder =
+    let (top, only) = tree.top in
+    let (j, less, at) = preorder.every top only.is_top.0 in
+    omega arith

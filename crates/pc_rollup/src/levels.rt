@@ -1,6 +1,6 @@
 //! The lines of a level.
 ghost use Rattle.std.specs.Prelude.{◌≡◌, ℕ, ◌<◌, ◌≤◌, List, ℤ, length, IfOk, IsTrue, ◌↔◌};
-ghost use Rattle.pc_wbs.specs.declared.row.ItemRow.{ItemRow};
+ghost use Rattle.pc_wbs.specs.declared.tree.ItemRow.{ItemRow};
 ghost use Rattle.pc_wbs.specs.Climb.{AreInRange, IsBelow, IsTop, IsLeaf, IsTree, IsAtLevel};
 ghost use Rattle.pc_rollup.specs.Totals.{amount_at};
 ghost use Rattle.pc_rollup.specs.inside.Totals.{AreRolledUp};

@@ -33,7 +33,7 @@ pub fn project_named<D: Source, E: Sink>(
         (side E.taken E.faults err.old err.new)) }
     ensures none { IfErr result (EndsWithout words.now usage.now (side D.left D.faults deck.old deck.new)
         (side E.taken E.faults err.old err.new)) }
-    ensures stops { IsReadWithin longest_deck STREAM_ROOM D.left D.pulls deck.old deck.new }
+    ensures stops { IsReadWithin longest_deck STREAM_ROOM D.left D.faults D.pulls deck.old deck.new }
 {
     if words.len() != 1 {
         return match send(err, usage) {

@@ -41,8 +41,8 @@ pub fn read_deck<S: Source>(alloc: Global, source: &mut S) -> Result<Vec<u8>, No
     ensures none { IfErr result (HasNoDeck (side S.left S.faults source.old source.new)) }
 
     // However long the source is, nothing is pulled after the pull that passes the longest deck, ends the input or
-    // fails.
-    ensures stops { IsReadWithin longest_deck STREAM_ROOM S.left S.pulls source.old source.new }
+    // fails, and each pull before that one gave at least one byte.
+    ensures stops { IsReadWithin longest_deck STREAM_ROOM S.left S.faults S.pulls source.old source.new }
 {
     match load(alloc, source, DECK_LIMIT) {
         Ok(bytes) => Ok(bytes),
@@ -62,7 +62,7 @@ pub fn read_deck<S: Source>(alloc: Global, source: &mut S) -> Result<Vec<u8>, No
 pub(crate) fn read_project<S: Source>(alloc: Global, source: &mut S) -> Result<Project, NoProject>
     ensures project { IfOk result (HasProject (side S.left S.faults source.old source.new)) }
     ensures none { IfErr result (HasNoProject (side S.left S.faults source.old source.new)) }
-    ensures stops { IsReadWithin longest_deck STREAM_ROOM S.left S.pulls source.old source.new }
+    ensures stops { IsReadWithin longest_deck STREAM_ROOM S.left S.faults S.pulls source.old source.new }
 {
     let key = source.key();
     match read_deck(alloc, source) {

@@ -54,7 +54,7 @@ use Rattle.pc_tasks.proofs.PieceLemmas.{task-named}
 use Rattle.pc_tasks.proofs.PlaceLemmas.{found-before, found-there, only_place-is}
 use Rattle.pc_tasks.proofs.TreeLemmas.{below, tree-more}
 use Rattle.pc_wbs.specs.Climb.{IsOnlyTop, IsTree, parent_of}
-use Rattle.pc_wbs.specs.declared.row.ItemRow.{ItemRow}
+use Rattle.pc_wbs.specs.declared.tree.ItemRow.{ItemRow}
 
 -- ---- lists
 

@@ -1,14 +1,28 @@
-//! The first fault of a card, for each kind of card. AFTER cards are looked up elsewhere, since what they name is kept.
-ghost use Rattle.std.specs.Prelude.{◌↔◌, IsTrue};
-ghost use Rattle.pc_faults.specs.inside.First.{IsFirstIn};
-ghost use Rattle.pc_tasks.specs.Misfit.{HasEndsFault, HasNameFault, HasOrderedTaskEstimates};
+//! The first fault of cards by themselves, for each kind of card and for all cards.
+ghost use Rattle.std.specs.Prelude.{◌↔◌, IsTrue, ◌≡◌, IfOk, IfErr, OnOk};
+ghost use Rattle.pc_faults.specs.inside.First.{IsFirstIn, Refuses};
+ghost use Rattle.pc_tasks.specs.Misfit.{
+  HasEndsFault,
+  HasNameFault,
+  HasOrderedTaskEstimates,
+  HasAfterFault,
+  HasTaskMisfit,
+  HasNoTaskMisfit,
+};
+ghost use Rattle.std.specs.List.{Any};
+ghost use Rattle.pc_deck.specs.Deck.{Deck};
+ghost use Rattle.pc_faults.specs.declared.fault.Fault.{Fault};
+ghost use Rattle.pc_faults.specs.First.{IsFirstFault};
+ghost use Rattle.pc_tasks.specs.Lists.{afters_in};
 
-use crate::faulty::Faulty;
+use crate::afters::find_afters;
+use crate::network::AfterRow;
 use pc_deck::{
     AcctCard, ItemCard, LoadCard, MoneyCard, PieceCard, StatusCard, TaskCard, TaskCards,
 };
-use pc_faults::Fault;
+use pc_faults::{DeckError, Fault, earliest};
 use pc_text::Code;
+use std::alloc::Global;
 
 /// Returns the fault of the PROJECT card, if the start is the end.
 pub(crate) fn ends_fault(cards: &TaskCards) -> Option<Fault>
@@ -129,4 +143,65 @@ impl Faulty for LoadCard {
         };
         None
     }
+}
+
+/// A card that may have a fault by what it names or by its numbers.
+pub(crate) trait Faulty: Copy {
+    ghost HasFault: { Deck → Self → Fault → Type 0 };
+
+    /// Returns the card's first fault.
+    fn fault(&self, cards: &TaskCards) -> Option<Fault>
+        ensures { IsFirstIn (HasFault cards.now self.now) result };
+}
+
+/// Returns the first fault of the cards.
+pub(crate) fn first_fault<C: Faulty>(cards: &TaskCards, list: &[C]) -> Option<Fault>
+    ensures { IsFirstIn (λ fault. Any (λ card. C.HasFault cards.now card fault) list.now) result }
+{
+    let mut fault = None;
+    for card in list {
+        fault = earliest(fault, card.fault(cards));
+    }
+    fault
+}
+
+/// Looks up once what each card names, and returns which task comes after which.
+///
+/// # Errors
+/// The first fault of any card (F14 to F19, F41), or out of memory.
+pub(crate) fn look_up(alloc: Global, cards: &TaskCards) -> Result<Vec<AfterRow>, DeckError>
+    ensures sound { OnOk result (HasNoTaskMisfit cards.now) }
+    ensures afters { IfOk result (λ rows. rows.items ≡ afters_in cards.now) }
+    ensures first { IfErr result (Refuses (IsFirstFault (HasTaskMisfit cards.now))) }
+{
+    let afters = find_afters(alloc, cards)?;
+    match first_misfit(cards, afters.fault) {
+        Some(fault) => Err(DeckError::Fault(fault)),
+        None => Ok(afters.rows),
+    }
+}
+
+/// Returns the first fault of any card, from that of the AFTER cards.
+fn first_misfit(cards: &TaskCards, of_afters: Option<Fault>) -> Option<Fault>
+    requires { IsFirstIn (λ fault. Any (λ card. HasAfterFault cards.now card fault) cards.now.afters) of_afters }
+    ensures { IsFirstIn (HasTaskMisfit cards.now) result }
+{
+    let of_ends = ends_fault(cards);
+    let of_items = first_fault(cards, cards.items());
+    let of_tasks = first_fault(cards, cards.tasks());
+    let of_pieces = first_fault(cards, cards.pieces());
+    let of_loads = first_fault(cards, cards.loads());
+    let of_accounts = first_fault(cards, cards.accounts());
+    let of_charges = first_fault(cards, cards.charges());
+    let of_togos = first_fault(cards, cards.togos());
+    let of_statuses = first_fault(cards, cards.statuses());
+    let frame = earliest(of_ends, of_items);
+    let work = earliest(of_tasks, of_afters);
+    let parts = earliest(of_pieces, of_loads);
+    let spent = earliest(of_accounts, of_charges);
+    let rest = earliest(of_togos, of_statuses);
+    let plan = earliest(frame, work);
+    let money = earliest(spent, rest);
+    let figures = earliest(parts, money);
+    earliest(plan, figures)
 }

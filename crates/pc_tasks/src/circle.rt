@@ -6,8 +6,7 @@ ghost use Rattle.pc_tasks.specs.network.Cycles.{HasNoTaskCycle, IsFirstTaskCycle
 ghost use Rattle.pc_tasks.specs.network.Tasks.{AreAmong};
 ghost use Rattle.pc_deck.specs.declared.limits.TheConstants.{MAX_AFTERS, MAX_TASKS};
 
-use crate::network::AfterRow;
-use crate::network::arrow_laws::wide_arrows_have_the_cycles;
+use crate::network::{AfterRow, wide_arrows_have_the_cycles};
 use pc_model::Arc;
 use pc_net::{Net, NetError};
 use std::alloc::{AllocError, Global};

@@ -21,9 +21,7 @@ ghost use Rattle.pc_tasks.specs.Refusal.{HasSoundTasks};
 ghost use Rattle.pc_tasks.specs.Text.{KeepsTasks};
 ghost use Rattle.pc_tasks.specs.Lists.{afters_in, task_pieces, task_terms};
 
-use crate::network::arrow_laws::{
-    arrows_are_sound, arrows_keep_least_costs, arrows_keep_schedules,
-};
+use crate::network::{arrows_are_sound, arrows_keep_least_costs, arrows_keep_schedules};
 
 /// States that the generated deck has the arrows of the tasks: their network, their durations and costs, and the pieces
 /// of their costs.

@@ -7,13 +7,10 @@ mod card_faults;
 mod circle;
 mod codes;
 mod draw;
-mod faulty;
 pub mod laws;
 mod links;
-mod misfits;
 pub mod network;
 mod phases;
-mod rows;
 mod tree;
 
 pub use crate::arrows::{arrows_of, drawn_project};

@@ -17,8 +17,8 @@ ghost use Rattle.pc_tasks.specs.Refusal.{
   task_records,
 };
 
+use crate::card_faults::look_up;
 use crate::circle::first_circle;
-use crate::misfits::look_up;
 use crate::network::AfterRow;
 use crate::tree::tree_of;
 use pc_deck::TaskCards;

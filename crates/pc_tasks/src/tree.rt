@@ -1,17 +1,18 @@
-//! The tree of the items, or the fault of their parents.
-ghost use Rattle.std.specs.Prelude.{IfErr, OnOk};
+//! What items name, by numbers, and the tree of the items, or the fault of their parents.
+ghost use Rattle.std.specs.Prelude.{IfErr, OnOk, ◌≡◌, IfOk};
 ghost use Rattle.pc_faults.specs.inside.First.{Refuses};
-ghost use Rattle.pc_project.specs.Project.{rows_of};
+ghost use Rattle.pc_project.specs.Project.{rows_of, row_of};
 ghost use Rattle.pc_wbs.specs.Climb.{IsTree};
 ghost use Rattle.pc_tasks.specs.Misfit.{HasNoTaskMisfit};
 ghost use Rattle.pc_tasks.specs.Refusal.{IsTasksRefusedWith};
+ghost use Rattle.pc_cards.specs.declared.sort.Sort.TheVariants.{Tasks};
+ghost use Rattle.pc_deck.specs.Within.{IsWithin};
 
-use crate::rows::item_rows;
-use pc_deck::TaskCards;
+use pc_deck::{ItemCard, TaskCards};
 use pc_faults::DeckError;
 use pc_project::tree_between;
-use pc_wbs::Tree;
-use std::alloc::Global;
+use pc_wbs::{ItemRow, Tree};
+use std::alloc::{AllocError, Global};
 
 /// Returns the tree of the items.
 ///
@@ -26,5 +27,32 @@ pub(crate) fn tree_of(alloc: Global, cards: &TaskCards) -> Result<Tree, DeckErro
     match tree_between(alloc, cards.items(), &rows) {
         Ok(tree) => Ok(tree),
         Err(error) => Err(error),
+    }
+}
+
+/// Returns the items by the numbers of their parents, in card order.
+pub(crate) fn item_rows(alloc: Global, cards: &TaskCards) -> Result<Vec<ItemRow>, AllocError>
+    ensures rows { IfOk result (λ rows. rows.items ≡ rows_of cards.now) }
+    ensures within { IsWithin Tasks cards.now }
+{
+    let mut rows = Vec::with_capacity(alloc, cards.items().len())?;
+    for item in cards.items() {
+        rows.push(item_row(cards, item))?;
+    }
+    Ok(rows)
+}
+
+fn item_row(cards: &TaskCards, item: &ItemCard) -> ItemRow
+    ensures { result ≡ row_of cards.now item.now }
+{
+    let Some(code) = item.parent else {
+        return ItemRow { parent: None };
+    };
+    let parent = match cards.item_named(&code) {
+        Some(number) => number,
+        None => cards.items().len() as u32,
+    };
+    ItemRow {
+        parent: Some(parent),
     }
 }

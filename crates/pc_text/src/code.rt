@@ -1,5 +1,5 @@
-//! Codes: the short names of projects, events, items, activities and accounts.
-ghost use Rattle.std.specs.Prelude.{◌≡◌, ◌≤◌, [], ◌∷◌, IsTrue, Some, if◌then◌else◌, refl, not, nat_eq, length};
+//! Codes: the short names of projects, events, items, activities and accounts, and lists of them.
+ghost use Rattle.std.specs.Prelude.{◌≡◌, ◌≤◌, [], ◌∷◌, IsTrue, Some, if◌then◌else◌, refl, not, nat_eq, length, IfOk};
 ghost use Rattle.std.specs.Ordering.{nat_cmp};
 ghost use Rattle.std.specs.Cmp.{partial_equiv_from_equiv};
 ghost use Rattle.std.specs.Cmp.Lexicographic.{
@@ -17,6 +17,7 @@ ghost use Rattle.pc_text.specs.inside.CodeCells.{cells_of, same_cells};
 ghost use Rattle.pc_text.specs.inside.CodeNumber.{number_of, code_in};
 ghost use Rattle.pc_text.specs.inside.Words.{padded};
 
+use std::alloc::{AllocError, Global};
 use std::cmp::Ordering;
 use std::hash::{Hash, Hasher};
 use std::marker::Model;
@@ -204,5 +205,41 @@ impl Hash for Code {
     // All cells at once, the zeros among them: two codes are equal exactly where all their cells are.
     fn hash<H: Hasher>(&self, state: &mut H) {
         state.write(&self.cells);
+    }
+}
+
+/// A list of codes, in the order in which they were given.
+#[derive(Debug, Drop)]
+pub struct Codes {
+    items: Vec<Code>,
+}
+
+impl Model for Codes {
+    ghost use Rattle.std.specs.Prelude.{ℕ, List};
+
+    ghost Value = { List (List ℕ) };
+
+    ghost view = { λ codes. codes.items.items };
+}
+
+impl Codes {
+    /// Returns a list of these codes, in this order.
+    ///
+    /// # Errors
+    ///
+    /// `AllocError` if there is no memory for the copy.
+    pub fn of(alloc: Global, codes: &[Code]) -> Result<Codes, AllocError>
+        ensures { IfOk result (λ list. list ≡ codes.now) }
+    {
+        Ok(Codes {
+            items: codes.to_vec(alloc)?,
+        })
+    }
+
+    /// Returns the codes, in order.
+    pub fn as_slice(&self) -> &[Code]
+        ensures { result.now ≡ self.now }
+    {
+        &self.items
     }
 }

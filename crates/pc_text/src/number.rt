@@ -1,10 +1,10 @@
-//! Numbers as a deck writes them.
-ghost use Rattle.std.specs.Prelude.{◌≡◌, ◌≤◌, ℕ, IfSome, Some, decimal, length};
+//! Numbers: reading those of a deck, and formatting any number in decimal.
+ghost use Rattle.std.specs.Prelude.{◌≡◌, ◌≤◌, ℕ, IfSome, Some, decimal, length, ◌+◌, ◌<◌, ◌/◌, ◌%◌};
 ghost use Rattle.std.specs.Fmt.{signed_decimal};
 ghost use Rattle.pc_text.specs.Number.{number_of};
 ghost use Rattle.pc_text.specs.inside.Number.{is_plain, value_of, IsDecimal};
 
-use crate::decimals::{Digits, Signed, Wide, of_signed, of_unsigned, of_wide};
+use std::marker::Model;
 
 /// The most digits that a number has.
 const LIMIT: usize = 13;
@@ -73,4 +73,121 @@ pub fn wide(n: u128) -> Wide
     ensures short { length result ≤ 39 }
 {
     of_wide(n)
+}
+
+/// The most digits that a `u64` has, and the most bytes of an `i64` with its sign.
+const MOST: usize = 20;
+
+/// The most digits that a `u128` has.
+const MOST_WIDE: usize = 39;
+
+/// The decimal form of a number, in at most `N` bytes.
+///
+/// It is stored in the value itself and takes no memory.
+#[derive(Debug, Drop)]
+pub struct Decimal<const N: usize> {
+    // The digits are at the end, because the last one is found first.
+    cells: [u8; N],
+    start: usize,
+}
+
+/// The decimal form of a `u64`, as [`digits`](crate::digits) returns it.
+pub type Digits = Decimal<MOST>;
+
+/// The decimal form of an `i64`, as [`signed`](crate::signed) returns it.
+pub type Signed = Decimal<MOST>;
+
+/// The decimal form of a `u128`, as [`wide`](crate::wide) returns it.
+pub type Wide = Decimal<MOST_WIDE>;
+
+impl<const N: usize> Model for Decimal<N> {
+    ghost use Rattle.std.specs.Prelude.{◌≡◌, ◌≤◌, ℕ, List, drop, length};
+
+    ghost Value = { List ℕ };
+
+    ghost view = { λ s. drop s.start s.cells };
+
+    ghost invariant = { λ s. (s.start ≤ N) × (length s.cells ≡ N) };
+}
+
+impl<const N: usize> Decimal<N> {
+    /// Returns the bytes, from the first digit or the sign on.
+    pub fn bytes(&self) -> &[u8]
+        ensures { result.now ≡ self.now }
+    {
+        let cells = &self.cells[..];
+        &cells[self.start..]
+    }
+}
+
+/// The two digits of each number below 100, from 00 on.
+static PAIRS: [u8; 200] = *b"\
+    0001020304050607080910111213141516171819\
+    2021222324252627282930313233343536373839\
+    4041424344454647484950515253545556575859\
+    6061626364656667686970717273747576777879\
+    8081828384858687888990919293949596979899";
+
+fn tens(number: usize) -> u8
+    requires { number < 100 }
+    ensures { result ≡ 48 + number / 10 }
+{
+    PAIRS[2 * number]
+}
+
+fn ones(number: usize) -> u8
+    requires { number < 100 }
+    ensures { result ≡ 48 + number % 10 }
+{
+    PAIRS[2 * number + 1]
+}
+
+/// The decimal form of a number without a sign, in at most so many bytes. It finds two digits with each division, and
+/// divides numbers of the type that the number has.
+macro_rules! unsigned {
+    ($n:expr, $most:expr) => {{
+        let mut cells = [0; $most];
+        let mut start = $most;
+        let mut rest = $n;
+        while rest >= 100 {
+            let pair = (rest % 100) as usize;
+            rest /= 100;
+            cells[start - 1] = ones(pair);
+            cells[start - 2] = tens(pair);
+            start -= 2;
+        }
+        let pair = rest as usize;
+        start -= 1;
+        cells[start] = ones(pair);
+        if rest >= 10 {
+            start -= 1;
+            cells[start] = tens(pair);
+        }
+        Decimal { cells, start }
+    }};
+}
+
+pub(crate) fn of_unsigned(n: u64) -> Digits
+    ensures { result ≡ decimal n }
+{
+    unsigned!(n, MOST)
+}
+
+pub(crate) fn of_wide(n: u128) -> Wide
+    ensures { result ≡ decimal n }
+{
+    unsigned!(n, MOST_WIDE)
+}
+
+pub(crate) fn of_signed(n: i64) -> Signed
+    ensures { result ≡ signed_decimal n }
+{
+    let digits = of_unsigned(n.unsigned_abs());
+    let mut cells = digits.cells;
+    let mut start = digits.start;
+    if n < 0 {
+        start -= 1;
+        cells[start] = b'-';
+    }
+    Decimal { cells, start }
 }

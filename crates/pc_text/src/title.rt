@@ -1,11 +1,11 @@
 //! Titles: the free text that a card may carry.
-ghost use Rattle.std.specs.Prelude.{◌≡◌, nat_eq};
+ghost use Rattle.std.specs.Prelude.{◌≡◌, nat_eq, ◌≤◌, length};
 ghost use Rattle.std.specs.Cmp.{partial_equiv_from_equiv};
 ghost use Rattle.std.specs.Cmp.Lexicographic.{pointwise, nat_list_eq_equiv};
 ghost use Rattle.pc_text.specs.Title.{is_title_shape};
 ghost use Rattle.pc_text.specs.inside.Title.{title_of};
+ghost use Rattle.pc_text.specs.inside.Words.{padded};
 
-use crate::words::pad;
 use std::marker::Model;
 
 /// The most bytes that a title has.
@@ -84,4 +84,14 @@ impl PartialEq for Title {
 
 impl Eq for Title {
     ghost laws = { nat_list_eq_equiv };
+}
+
+/// Returns the piece followed by zeros, `N` bytes in all.
+pub(crate) fn pad<const N: usize>(piece: &[u8]) -> [u8; N]
+    requires { length piece.now ≤ N }
+    ensures { result ≡ padded N piece.now }
+{
+    let mut cells = [0; N];
+    cells[..piece.len()].copy_from_slice(piece);
+    cells
 }

@@ -11,8 +11,8 @@ use Rattle.pc_model.specs.Network.{Network, IsInRange, IsSound, IsOrder, IsEnter
 use Rattle.pc_model.proofs.Walks.WalkLaws.{last_of_walk, greatest_unique}
 use Rattle.pc_model.proofs.Walks.OrderLaws.{stands_in_order}
 use Rattle.pc_times.specs.declared.TheConstants.{MAX_LENGTH, MAX_TIME}
-use Rattle.pc_times.specs.declared.state.ActState.{ActState}
-use Rattle.pc_times.specs.declared.state.ActState.TheVariants.{Waiting, Started, Finished}
+use Rattle.pc_times.specs.declared.forecasts.ActState.{ActState}
+use Rattle.pc_times.specs.declared.forecasts.ActState.TheVariants.{Waiting, Started, Finished}
 use Rattle.pc_times.specs.Times.{AreLengths}
 use Rattle.pc_times.specs.Forecast.{Expected, state_at, finish_of, IsFinishAt, IsForecast, IsSmallState, AreStates}
 use Rattle.pc_times.specs.inside.Forecast.{finish_at, IsLastAt, AreFinishes, AreLast}

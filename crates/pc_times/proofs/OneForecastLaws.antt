@@ -6,7 +6,7 @@ use Rattle.pc_model.specs.Walk.{from_of, to_of, IsWalk}
 use Rattle.pc_model.specs.Network.{Network, IsInRange, IsSound}
 use Rattle.pc_model.proofs.Walks.CycleLaws.{long_walk_has_cycle}
 use Rattle.pc_model.proofs.Walks.WalkLaws.{IsWalk-push, greatest_unique}
-use Rattle.pc_times.specs.declared.state.ActState.{ActState}
+use Rattle.pc_times.specs.declared.forecasts.ActState.{ActState}
 use Rattle.pc_times.specs.Forecast.{Expected, state_at, finish_of, IsFinishAt, IsForecast}
 
 -- each walk from an event to event e has fewer activities

@@ -7,7 +7,6 @@ ghost use Rattle.pc_times.specs.inside.Forecast.{finish_at, IsLastAt, AreFinishe
 ghost use Rattle.pc_times.specs.declared.TheConstants.{MAX_LENGTH};
 
 use crate::expected::Forecast;
-use crate::state::ActState;
 use pc_net::Net;
 use std::alloc::{AllocError, Global};
 
@@ -146,4 +145,15 @@ fn finish(state: ActState, length: u64, as_of: u64, begin: u64) -> u64
         ActState::Waiting if length == 0 => begin,
         ActState::Waiting => begin.max(as_of) + length,
     }
+}
+
+/// The progress of an activity. Times are in sixths of a day from the project's start date.
+#[derive(Clone, Copy)]
+pub enum ActState {
+    /// It has not begun.
+    Waiting,
+    /// It began at this time and is not finished.
+    Started(u64),
+    /// It was finished at this time.
+    Finished(u64),
 }

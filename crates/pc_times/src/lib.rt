@@ -7,18 +7,14 @@ mod events;
 mod expected;
 mod forecasts;
 mod found;
-mod passes;
 mod path;
-mod state;
 
 pub use estimate::{expected_sixths, variance_36};
-pub use events::{early, late, slack, so_long_before};
+pub use events::{early, early_into, late, slack, so_long_before, tails_into};
 pub use expected::Forecast;
-pub use forecasts::forecast;
+pub use forecasts::{ActState, forecast};
 pub use found::Longest;
-pub use passes::{early_into, tails_into};
 pub use path::{critical_path, critical_path_into, longest};
-pub use state::ActState;
 
 /// The greatest length of an activity, in sixths of a day: 100,000 units of 7 days.
 pub const MAX_LENGTH: u64 = 4_200_000;

@@ -10,8 +10,8 @@ ghost use Rattle.pc_times.specs.Picked.{IsPickedWalk, IsLongestWalk};
 ghost use Rattle.pc_times.specs.inside.Passes.{HasBoundedWalks, HasNoSlack};
 
 use crate::MAX_TIME;
+use crate::events::{early_times, tails_to_end};
 use crate::found::Longest;
-use crate::passes::{early_times, tails_to_end};
 use pc_net::Net;
 use std::alloc::{AllocError, Global};
 

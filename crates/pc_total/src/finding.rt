@@ -1,16 +1,16 @@
-//! The optimum of a solver's curve.
-ghost use Rattle.std.specs.Prelude.{◌≡◌, ◌+◌, ◌^◌, ◌≤◌, ◌<◌, false};
+//! Finding the optimum of a solver's curve, and the two signs that show it: how the totals of its neighbours differ
+//! from its own.
+ghost use Rattle.std.specs.Prelude.{◌≡◌, ◌+◌, ◌^◌, ◌≤◌, ◌<◌, false, pos, ◌+ℤ◌, IfNone, IfSome};
 ghost use Rattle.pc_model.specs.TimeCost.{AreTimeTerms};
 ghost use Rattle.pc_flow.specs.Courses.{IsFurther, IsSameCurve, all_looks, lower_of, most_looks};
 ghost use Rattle.pc_flow.specs.search.Labelling.{slopes_in};
 ghost use Rattle.pc_curve.specs.Points.{curve_in};
 ghost use Rattle.pc_curve.specs.inside.Points.{IsThere, IsToCome};
 ghost use Rattle.pc_total.specs.Bests.{IsBest};
-ghost use Rattle.pc_total.specs.inside.Stops.{PaysToStop};
+ghost use Rattle.pc_total.specs.inside.Stops.{PaysToStop, unit_cost, IsStop};
+ghost use Rattle.pc_flow.specs.declared.early.TheConstants.{MAX_LENGTH};
 
 use crate::optimum::Best;
-use crate::signs::{above_at, below_at};
-use crate::stopping::stop_in;
 use crate::time::{time_cost, unit_cost};
 use pc_crash::{SegmentView, Steps};
 use pc_curve::cost_at;
@@ -93,5 +93,53 @@ fn best_at<L: Ledger>(
         total: direct as i64 + time,
         below: below_at(terms, shortest, length, slope),
         above: above_at(terms, longest, length, gain),
+    }
+}
+
+/// By how much the total is higher one unit shorter, where a unit less costs the slope; none at the shortest length.
+pub(crate) fn below_at(terms: &TimeTerms, shortest: u64, length: u64, slope: u64) -> Option<i64>
+    requires terms { AreTimeTerms terms.now }
+    requires small { slope < 10 ^ 18 }
+    ensures none { IfNone result (length ≤ shortest) }
+    ensures above { IfSome result (λ _. shortest < length) }
+    ensures differs { IfSome result (λ more. more +ℤ pos (unit_cost terms.now length) ≡ pos slope) }
+{
+    if length > shortest {
+        Some(slope as i64 - unit_cost(terms, length) as i64)
+    } else {
+        None
+    }
+}
+
+/// By how much the total is higher one unit longer, where a unit more saves the gain; none at the longest length.
+pub(crate) fn above_at(terms: &TimeTerms, longest: u64, length: u64, gain: u64) -> Option<i64>
+    requires terms { AreTimeTerms terms.now }
+    requires length { length ≤ MAX_LENGTH }
+    requires small { gain < 10 ^ 18 }
+    ensures none { IfNone result (longest ≤ length) }
+    ensures below { IfSome result (λ _. length < longest) }
+    ensures differs { IfSome result (λ more. more +ℤ pos gain ≡ pos (unit_cost terms.now (length + 1))) }
+{
+    if length < longest {
+        Some(unit_cost(terms, length + 1) as i64 - gain as i64)
+    } else {
+        None
+    }
+}
+
+/// The length in a segment down to which each unit less saves at least as much of the time's cost as it costs, and
+/// below which it does not: one of the segment's two ends, or the target between them, since what a unit of time costs
+/// changes there alone.
+pub(crate) fn stop_in(terms: &TimeTerms, lower: u64, upper: u64, slope: u64) -> u64
+    requires terms { AreTimeTerms terms.now }
+    requires ordered { lower ≤ upper }
+    ensures { IsStop terms.now lower upper slope result }
+{
+    if slope <= terms.overhead + terms.bonus {
+        lower
+    } else if slope <= terms.overhead + terms.penalty {
+        terms.target.clamp(lower, upper)
+    } else {
+        upper
     }
 }

@@ -6,8 +6,6 @@ mod finding;
 pub mod laws;
 mod optimum;
 mod report;
-mod signs;
-mod stopping;
 mod time;
 
 pub use finding::best;

@@ -3,7 +3,7 @@ use Rattle.std.proofs.Common.{◌≡◌, ◌≢◌, ℕ, ◌+◌, ◌<◌, ◌�
 use Rattle.std.specs.Prelude.{option_and_then, slice_index, min, max, IsTrue, is_none}
 use Rattle.std.proofs.lemmas.Bool.{cases_lt, cases_eq}
 use Rattle.std.proofs.lemmas.List.{length_push, get_or_push, get_or_append_left, get_or_default}
-use Rattle.pc_wbs.specs.declared.row.ItemRow.{ItemRow}
+use Rattle.pc_wbs.specs.declared.tree.ItemRow.{ItemRow}
 use Rattle.pc_model.specs.declared.limits.TheConstants.{MAX_LEVEL}
 use Rattle.pc_wbs.specs.Climb.{parent_of, AreInRange, climb, HasLevel, IsLeaf, IsDepth, IsOnlyTop, IsTree}
 use Rattle.pc_wbs.specs.Refusal.{IsLooped, IsTooDeep}

@@ -4,7 +4,7 @@ use Rattle.std.specs.Prelude.{slice_index}
 use Rattle.std.proofs.lemmas.Bool.{cases_order}
 use Rattle.std.proofs.lemmas.Grind.{same_number_lists}
 use Rattle.pc_model.specs.Greatest.{IsFirst}
-use Rattle.pc_wbs.specs.declared.row.ItemRow.{ItemRow}
+use Rattle.pc_wbs.specs.declared.tree.ItemRow.{ItemRow}
 use Rattle.pc_wbs.specs.declared.error.TreeError.{TreeError}
 use Rattle.pc_wbs.specs.declared.error.TreeError.TheVariants.{NoTop, SecondTop, Loop, TooDeep, OutOfMemory}
 use Rattle.pc_wbs.specs.Climb.{parent_of, IsOnlyTop, HasLevel, IsTree}

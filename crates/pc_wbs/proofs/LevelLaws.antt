@@ -1,7 +1,7 @@
 -- How levels tell rows above one another apart.
 use Rattle.std.proofs.Common.{◌≡◌, ℕ, ◌+◌, ◌≤◌, List, Some, refl, ap, ◌∙◌, arith}
 use Rattle.std.specs.Prelude.{min}
-use Rattle.pc_wbs.specs.declared.row.ItemRow.{ItemRow}
+use Rattle.pc_wbs.specs.declared.tree.ItemRow.{ItemRow}
 use Rattle.pc_wbs.specs.Climb.{climb, IsBelow, HasLevel, IsAtLevel}
 use Rattle.pc_wbs.proofs.ClimbLaws.{climb-add, HasLevel-same}
 

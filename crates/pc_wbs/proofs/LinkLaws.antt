@@ -2,7 +2,7 @@
 use Rattle.std.proofs.Common.{◌≡◌, ◌≢◌, ◌∙◌, ℕ, ◌+◌, ◌<◌, List, length, Option, Some, None, replicate, set, sym, ap, subst, ⊎_elim, arith}
 use Rattle.std.proofs.lemmas.Bool.{cases_eq}
 use Rattle.std.proofs.lemmas.List.{get_or-replicate, get_or-set_same, get_or-set_other, length-replicate, length-set}
-use Rattle.pc_wbs.specs.declared.row.ItemRow.{ItemRow}
+use Rattle.pc_wbs.specs.declared.tree.ItemRow.{ItemRow}
 use Rattle.pc_wbs.specs.Climb.{parent_of}
 use Rattle.pc_wbs.specs.inside.Links.{IsFirstChild, link_at, AreFirstChildren, AreNextSiblings}
 

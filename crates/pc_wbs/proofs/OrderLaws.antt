@@ -4,7 +4,7 @@ use Rattle.std.specs.Prelude.{slice_index}
 use Rattle.std.proofs.lemmas.Bool.{cases_lt, cases_eq, cases_order}
 use Rattle.std.proofs.lemmas.List.{length_push, get_or_push, get_or_append_left, get_or_past}
 use Rattle.pc_model.specs.Greatest.{StandsBelow}
-use Rattle.pc_wbs.specs.declared.row.ItemRow.{ItemRow}
+use Rattle.pc_wbs.specs.declared.tree.ItemRow.{ItemRow}
 use Rattle.pc_wbs.specs.Climb.{parent_of, AreInRange, climb, IsBelow, HasLevel, IsOnlyTop, IsTree}
 use Rattle.pc_wbs.specs.inside.Links.{IsFirstChild, link_at, AreNextSiblings, IsNextBeside}
 use Rattle.pc_wbs.specs.Preorder.{IsPreorder}

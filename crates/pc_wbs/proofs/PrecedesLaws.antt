@@ -2,7 +2,7 @@
 -- earlier of two siblings.
 use Rattle.std.proofs.Common.{◌≡◌, ℕ, zero, suc, ◌+◌, ◌-◌, ◌⊎◌, List, Some, refl, sym, ap, ◌∙◌, inl, inr, ⊎_elim, add-one, arith}
 use Rattle.std.proofs.lemmas.Bool.{cases_lt}
-use Rattle.pc_wbs.specs.declared.row.ItemRow.{ItemRow}
+use Rattle.pc_wbs.specs.declared.tree.ItemRow.{ItemRow}
 use Rattle.pc_wbs.specs.Climb.{parent_of, climb, IsBelow, IsOnLoop}
 use Rattle.pc_wbs.specs.inside.Precedes.{IsUnder, Precedes}
 use Rattle.pc_wbs.proofs.ClimbLaws.{climb-add, climb-step, step-some, IsBelow-self, IsBelow-parent, IsBelow-cases}

@@ -1,7 +1,7 @@
 -- Where repeated parents lead: below, levels, leaves, loops, and what makes rows a tree.
 use Rattle.std.specs.Prelude.{◌≡◌, ◌≢◌, ℕ, zero, suc, ◌+◌, ◌<◌, ◌≤◌, min, List, length, Option, Some, None, option_and_then, slice_index_or}
 use Rattle.pc_model.specs.declared.limits.TheConstants.{MAX_LEVEL}
-use Rattle.pc_wbs.specs.declared.row.ItemRow.{ItemRow}
+use Rattle.pc_wbs.specs.declared.tree.ItemRow.{ItemRow}
 
 -- the parent of row x; none past the end of the rows
 abbrev pub parent_of : List ItemRow → ℕ → Option ℕ

@@ -1,7 +1,7 @@
 -- The preorder of a tree: an item, then the items below it, child by child in row order.
 use Rattle.std.specs.Prelude.{◌≡◌, ◌≢◌, ℕ, ◌<◌, ◌≤◌, List, length, slice_index, Some}
 use Rattle.pc_model.specs.Greatest.{StandsBelow}
-use Rattle.pc_wbs.specs.declared.row.ItemRow.{ItemRow}
+use Rattle.pc_wbs.specs.declared.tree.ItemRow.{ItemRow}
 use Rattle.pc_wbs.specs.Climb.{parent_of, IsBelow}
 
 -- all rows, each once; each behind its parent; those below an item right behind it, with no other row between

@@ -7,7 +7,7 @@ ghost use Rattle.pc_wbs.specs.inside.Ends.{AreLevels, AreGreatest};
 
 use crate::error::TreeError;
 use crate::loops;
-use crate::row::{ItemRow, parent_of};
+use crate::tree::{ItemRow, parent_of};
 use pc_model::MAX_LEVEL;
 use std::alloc::Global;
 

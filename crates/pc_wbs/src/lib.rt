@@ -3,12 +3,9 @@
 
 mod error;
 mod levels;
-mod links;
 mod loops;
 mod order;
-mod row;
 mod tree;
 
 pub use error::{Indices, TreeError};
-pub use row::ItemRow;
-pub use tree::Tree;
+pub use tree::{ItemRow, Tree};

@@ -6,7 +6,7 @@ ghost use Rattle.pc_wbs.specs.Refusal.{IsTreeError, IsLooped, IsLoopFrom};
 ghost use Rattle.pc_wbs.specs.inside.Ends.{AreEnds, AreDoubled, StayInside, IsLeastBelow, IsFirstLooped, lesser};
 
 use crate::error::{Indices, TreeError};
-use crate::row::{ItemRow, parent_of};
+use crate::tree::{ItemRow, parent_of};
 use std::alloc::{AllocError, Global};
 
 /// So often is a climb doubled, that it has at least as many steps as there are rows.

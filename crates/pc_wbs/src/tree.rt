@@ -1,4 +1,4 @@
-//! The tree of a work breakdown structure.
+//! The tree of a work breakdown structure, and the rows that it is built from.
 ghost use Rattle.std.specs.Prelude.{◌≡◌, ◌<◌, ◌≤◌, ◌↔◌, length, IsTrue, IsNone, IfOk, IfErr, IfSome};
 ghost use Rattle.pc_model.specs.declared.limits.TheConstants.{MAX_ITEMS, MAX_LEVEL};
 ghost use Rattle.pc_wbs.specs.Climb.{parent_of, AreInRange, HasLevel, IsTop, IsLeaf, IsTree, IsDepth, IsAtLevel};
@@ -7,9 +7,8 @@ ghost use Rattle.pc_wbs.specs.Refusal.{IsTreeError};
 
 use crate::error::TreeError;
 use crate::levels::{depth_of, levels_of, only_top};
-use crate::links::links_of;
 use crate::order;
-use crate::row::{ItemRow, parent_of};
+use crate::order::links_of;
 use std::alloc::Global;
 use std::marker::Model;
 
@@ -37,7 +36,7 @@ impl Drop for Tree {
 
 impl Model for Tree {
     ghost use Rattle.std.specs.Prelude.{List};
-    ghost use Rattle.pc_wbs.specs.declared.row.ItemRow.{ItemRow};
+    ghost use Rattle.pc_wbs.specs.declared.tree.ItemRow.{ItemRow};
 
     ghost Value = { List ItemRow };
 
@@ -146,4 +145,20 @@ impl Tree {
         }
         at
     }
+}
+
+/// A row of a work breakdown structure: an item, given by the row of its parent, counted from 0.
+///
+/// Only the top item has no parent.
+#[derive(Clone, Copy)]
+pub struct ItemRow {
+    pub parent: Option<u32>,
+}
+
+/// The parent of a row.
+pub(crate) fn parent_of(rows: &[ItemRow], item: u32) -> Option<u32>
+    requires { item < length rows.now }
+    ensures { result ≡ parent_of rows.now item }
+{
+    rows[item as usize].parent
 }

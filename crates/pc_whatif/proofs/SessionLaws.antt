@@ -106,5 +106,5 @@ module _ {D C O E : Type 0} (means : Meaning) (words : List (String Global)) (de
   after_no_project _ (ends.usage_cut no_word took same) unread_edits unused = write_fault (in_usage no_word took same unread_edits unused)
 
 -- from edits that are left alone nothing is taken
-pub none_taken_of : {C : Type 0} (left : C → Option (List ℕ)) (pulls : C → Option ℕ) (old new : C) → new ≡ old → IsTakenWithin left pulls old new
-none_taken_of left pulls old new same = subst (IsTakenWithin left pulls old) (sym same) (taken_none left pulls old).taken
+pub none_taken_of : {C : Type 0} (left : C → Option (List ℕ)) (faults : C → ℕ) (pulls : C → Option ℕ) (old new : C) → new ≡ old → IsTakenWithin left faults pulls old new
+none_taken_of left faults pulls old new same = subst (IsTakenWithin left faults pulls old) (sym same) (taken_none left faults pulls old).taken

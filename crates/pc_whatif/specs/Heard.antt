@@ -43,7 +43,7 @@ pub record HasAnsweredSome {C O : Type 0} (answers : List (List ℕ) → List �
   pub others : List (List ℕ)
   pub first : lines_of (take INPUT_LIMIT bytes) ≡ lines ++ others
   pub are_first : AreFirst (edits.bytes edits.new) bytes lines
-  pub at_once : IsTakenForLast edits.bytes edits.pulls edits.old edits.new lines
+  pub at_once : IsTakenForLast edits.bytes edits.faults edits.pulls edits.old edits.new lines
   pub no_fault : HadSteadyFaults edits
   pub text : List ℕ
   pub answers_are : answers lines text

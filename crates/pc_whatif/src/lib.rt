@@ -1,13 +1,10 @@
 //! What-if sessions: lines that edit a project, and lines that ask for the times and costs that follow.
 #![tactic(auto)]
 
-mod answering;
 mod edits;
 mod laws;
-mod renewing;
 mod replies;
 mod session;
-mod talker;
 mod top;
 mod trials;
 

@@ -1,15 +1,33 @@
-//! A session.
-ghost use Rattle.std.specs.Prelude.{◌≡◌, length, IfOk};
+//! A session, the answers to its lines, and the side of a talk that it is.
+ghost use Rattle.std.specs.Prelude.{◌≡◌, length, IfOk, ℕ, List, None, Some};
 ghost use Rattle.pc_whatif.specs.edits.Editing.{begun};
 ghost use Rattle.pc_whatif.specs.inside.trials.Trials.{trial_cells};
-ghost use Rattle.pc_whatif.specs.inside.Planning.{IsRenewed};
+ghost use Rattle.pc_whatif.specs.inside.Planning.{
+  IsRenewed,
+  IsChangedAt,
+  IsEditionOf,
+  IsAnswered,
+  LooksOver,
+  LooksToAnswer,
+  LooksToTry,
+  Says,
+};
+ghost use Rattle.pc_edges.specs.inside.Writes.{Writes};
+ghost use Rattle.pc_whatif.specs.edits.Reading.{ask_of};
+ghost use Rattle.pc_whatif.specs.declared.edits.ask.Ask.TheVariants as asks;
+ghost use Rattle.pc_crash.specs.inside.Steps.{IsBlankOf};
 
-use crate::edits::Edits;
+use crate::edits::{Ask, Edit, Edits, Reason, Trial};
+use crate::replies::{accept, refuse, tell_cost};
 use crate::trials::SessionRegion;
+use pc_crash::Steps;
+use pc_edges::lines::Answers;
 use pc_edges::page::{PAGE_ROOM, Page};
+use pc_edges::{Failed, Sink};
 use pc_project::Project;
 use std::alloc::{AllocError, Global};
-use std::marker::Model;
+use std::marker::{Brand, Model};
+use std::sync::ledger::{Blank, Ledger};
 
 /// A session on a project: its edited numbers, the times that follow from them, and the memory that a trial works in.
 ///
@@ -76,4 +94,158 @@ impl<'p> Session<'p> {
     {
         self.region.cells()
     }
+}
+
+/// Updates the standing times after a change of one activity's estimates.
+///
+/// Takes a few passes over the network.
+pub(crate) fn renew(region: &mut SessionRegion, edits: &Edits<'_>, a: u32, project: &Project)
+    requires edition { IsEditionOf project.now edits.now.editing }
+    requires changed { IsChangedAt project.now edits.now.editing a region.old }
+    ensures renewed { IsRenewed project.now edits.now.editing region.new }
+    ensures free { region.new.free ≡ region.old.free }
+{
+    // For what a network keeps to: the estimates of an activity are in order and within their limit.
+    let _net = edits.net();
+    region.set_estimates(a, &edits.estimates(a), project.unit_days());
+    region.renew(project.net());
+}
+
+impl Session<'_> {
+    /// Answers a line and flushes the sink. `line` has no LF.
+    ///
+    /// Takes no memory. The session moves on even if the sink fails. A trial or a curve looks at most four times at
+    /// each activity for each unit by which the slope rises or the length falls; any other line takes a few passes.
+    ///
+    /// # Errors
+    ///
+    /// `Failed` if the sink fails; it then has a prefix of the answer.
+    pub fn answer<O: Sink, L: Ledger>(
+        &mut self,
+        line: &[u8],
+        out: &mut O,
+        steps: &mut Steps<L>,
+    ) -> Result<(), Failed>
+        ensures answered { (text : List ℕ) × IsAnswered self.old (ask_of line.now) text self.new
+            × Writes result (O.taken out.old) (O.taken out.new) (O.faults out.old) (O.faults out.new) text }
+        ensures counted { LooksToAnswer self.old.editing (ask_of line.now) steps.old steps.new }
+    {
+        match Ask::read(line) {
+            None => self.no_form(out),
+            Some(Ask::Edit(edit)) => self.edit(&edit, out),
+            Some(Ask::Undo) => self.undo(out),
+            Some(Ask::Times) => self.times(out),
+            Some(Ask::Curve) => self.curve(out, steps),
+            Some(Ask::Try(trial)) => self.try_out(&trial, out, steps),
+        }
+    }
+
+    /// Answers a line that has none of the forms.
+    fn no_form<O: Sink>(&mut self, out: &mut O) -> Result<(), Failed>
+        ensures { (text : List ℕ) × IsAnswered self.old None text self.new
+            × Writes result (O.taken out.old) (O.taken out.new) (O.faults out.old) (O.faults out.new) text }
+    {
+        // Reading a field shows what the session keeps: its times stand, and its page is empty.
+        let _ = &self.page;
+        refuse(Reason::Form, out)
+    }
+
+    /// Applies an edit.
+    fn edit<O: Sink>(&mut self, edit: &Edit, out: &mut O) -> Result<(), Failed>
+        ensures { (text : List ℕ) × IsAnswered self.old (Some (asks.Edit edit.now)) text self.new
+            × Writes result (O.taken out.old) (O.taken out.new) (O.faults out.old) (O.faults out.new) text }
+    {
+        // Reading a field shows what the session keeps: its times stand, and its page is empty.
+        let _ = &self.page;
+        match self.edits.apply(edit) {
+            Ok(a) => {
+                renew(&mut self.region, &self.edits, a, self.project);
+                accept(out)
+            }
+            Err(reason) => refuse(reason, out),
+        }
+    }
+
+    /// Takes back the latest edit.
+    fn undo<O: Sink>(&mut self, out: &mut O) -> Result<(), Failed>
+        ensures { (text : List ℕ) × IsAnswered self.old (Some asks.Undo) text self.new
+            × Writes result (O.taken out.old) (O.taken out.new) (O.faults out.old) (O.faults out.new) text }
+    {
+        // Reading a field shows what the session keeps: its times stand, and its page is empty.
+        let _ = &self.page;
+        match self.edits.undo() {
+            Ok(a) => {
+                renew(&mut self.region, &self.edits, a, self.project);
+                accept(out)
+            }
+            Err(reason) => refuse(reason, out),
+        }
+    }
+
+    /// Writes the report of event times.
+    fn times<O: Sink>(&mut self, out: &mut O) -> Result<(), Failed>
+        ensures { (text : List ℕ) × IsAnswered self.old (Some asks.Times) text self.new
+            × Writes result (O.taken out.old) (O.taken out.new) (O.faults out.old) (O.faults out.new) text }
+    {
+        self.region.write_times(&mut self.page, out, self.project)
+    }
+
+    /// Writes the breakpoints of the curve.
+    fn curve<O: Sink, L: Ledger>(&mut self, out: &mut O, steps: &mut Steps<L>) -> Result<(), Failed>
+        ensures answered { (text : List ℕ) × IsAnswered self.old (Some asks.Curve) text self.new
+            × Writes result (O.taken out.old) (O.taken out.new) (O.faults out.old) (O.faults out.new) text }
+        ensures counted { LooksOver self.old.editing.net steps.old steps.new }
+    {
+        self.region
+            .write_curve(&mut self.page, out, self.edits.net(), steps)
+    }
+
+    /// Tries a term: it replaces the activity's own until the cost is known.
+    fn try_out<O: Sink, L: Ledger>(
+        &mut self,
+        trial: &Trial,
+        out: &mut O,
+        steps: &mut Steps<L>,
+    ) -> Result<(), Failed>
+        ensures answered { (text : List ℕ) × IsAnswered self.old (Some (asks.Try trial.now)) text self.new
+            × Writes result (O.taken out.old) (O.taken out.new) (O.faults out.old) (O.faults out.new) text }
+        ensures counted { LooksToTry self.old.editing trial.now steps.old steps.new }
+    {
+        let tried = match self.edits.tried(trial) {
+            Ok(tried) => tried,
+            Err(reason) => return refuse(reason, out),
+        };
+        self.edits.begin_trial(&tried);
+        let cost = self
+            .region
+            .least_cost(self.edits.net(), trial.length, steps);
+        self.edits.end_trial();
+        let Some(cost) = cost else {
+            return refuse(Reason::OutsideRange, out);
+        };
+        tell_cost(cost, out)
+    }
+}
+
+impl Answers for Session<'_> {
+    ghost Says = { Says };
+
+    fn reply<O: Sink>(&mut self, line: &[u8], out: &mut O) -> Result<(), Failed> {
+        counted::<O, Brand>(self, line, out, Blank::new(1))
+    }
+}
+
+/// Answers a line. The steps of the solver are counted in a ledger of their own.
+fn counted<O: Sink, L: Ledger>(
+    session: &mut Session<'_>,
+    line: &[u8],
+    out: &mut O,
+    blank: Blank,
+) -> Result<(), Failed>
+    requires { IsBlankOf L.name L.parts blank.name blank.parts }
+    ensures { (text : List ℕ) × IsAnswered session.old (ask_of line.now) text session.new
+        × Writes result (O.taken out.old) (O.taken out.new) (O.faults out.old) (O.faults out.new) text }
+{
+    let mut steps = Steps::<L>::new(blank);
+    session.answer(line, out, &mut steps)
 }

@@ -119,11 +119,13 @@ pub fn session_run<D: Source, C: Source, O: Sink, E: Sink>(
         → AnswersOn AnswersLines bytes lines text
         → AnswersOn AnswersInOrder bytes lines text }
 
-    // However long the deck is, nothing of it is pulled after the pull that passes the longest deck, ends it or fails.
-    ensures deck_stops { IsReadWithin longest_deck STREAM_ROOM D.left D.pulls deck.old deck.new }
+    // However long the deck is, nothing of it is pulled after the pull that passes the longest deck, ends it or fails,
+    // and each pull before that one gave at least one byte.
+    ensures deck_stops { IsReadWithin longest_deck STREAM_ROOM D.left D.faults D.pulls deck.old deck.new }
 
-    // However long the edits are, reading stops at the pull that passes their limit, ends them or fails.
-    ensures edits_stop { IsTakenWithin C.left C.pulls edits.old edits.new }
+    // However long the edits are, reading stops at the pull that passes their limit, ends them or fails, and each pull
+    // before that one gave at least one byte.
+    ensures edits_stop { IsTakenWithin C.left C.faults C.pulls edits.old edits.new }
 {
     session_outcome(alloc, words, deck, edits, out, err).code()
 }
@@ -140,8 +142,8 @@ fn session_outcome<D: Source, C: Source, O: Sink, E: Sink>(
     ensures outcome { SessionOutcome AnswersLines words.now (side D.left D.faults deck.old deck.new)
         (pulled_side C.left C.faults C.pulls edits.old edits.new)
         (side O.taken O.faults out.old out.new) (side E.taken E.faults err.old err.new) result }
-    ensures deck_stops { IsReadWithin longest_deck STREAM_ROOM D.left D.pulls deck.old deck.new }
-    ensures edits_stop { IsTakenWithin C.left C.pulls edits.old edits.new }
+    ensures deck_stops { IsReadWithin longest_deck STREAM_ROOM D.left D.faults D.pulls deck.old deck.new }
+    ensures edits_stop { IsTakenWithin C.left C.faults C.pulls edits.old edits.new }
 {
     match project_named(alloc, words, USAGE, deck, err) {
         Ok(project) => hear(alloc, &project, edits, out),
@@ -153,7 +155,7 @@ fn session_outcome<D: Source, C: Source, O: Sink, E: Sink>(
 fn hear<C: Source, O: Sink>(alloc: Global, project: &Project, edits: &mut C, out: &mut O) -> Status
     ensures hearing { Hearing (AnswersLines project.now) (pulled_side C.left C.faults C.pulls edits.old edits.new)
         (side O.taken O.faults out.old out.new) result }
-    ensures edits_stop { IsTakenWithin C.left C.pulls edits.old edits.new }
+    ensures edits_stop { IsTakenWithin C.left C.faults C.pulls edits.old edits.new }
 {
     let Ok(reader) = LineReader::build(alloc) else {
         return Status::OutOfMemory;

@@ -2,7 +2,7 @@
 use Rattle.std.proofs.Common.{◌≡◌, ◌≢◌, ℕ, ◌==◌, Bool, true, false, List, map, slice_index_or, [], Option, Some, if◌then◌else◌, ◌⊎◌, inl, inr, refl, sym, ap, ◌∙◌, subst}
 use Rattle.std.specs.Prelude.{ℤ, slice_index, IsFalse}
 use Rattle.std.proofs.lemmas.Bool.{cases_order}
-use Rattle.pc_accounts.specs.declared.status.row.StatusRow.{StatusRow}
+use Rattle.pc_accounts.specs.declared.status.StatusRow.{StatusRow}
 use Rattle.pc_accounts.specs.status.Statuses.{IsReason, reason_rank}
 use Rattle.pc_accounts.specs.Packages.{IsUneven}
 use Rattle.pc_accounts.specs.Second.{IsRepeated}
@@ -16,13 +16,12 @@ use Rattle.pc_faults.specs.declared.fault.DeckError.{DeckError}
 use Rattle.pc_faults.specs.declared.fault.DeckError.TheVariants as error
 use Rattle.pc_faults.specs.declared.fault.Detail.TheVariants.{Name}
 use Rattle.pc_faults.specs.declared.fault.Fault.{Fault}
-use Rattle.pc_faults.specs.declared.status.StatusFault.{StatusFault}
-use Rattle.pc_faults.specs.declared.status.StatusFault.TheVariants.{Second, Early, Late, NoStart, FinishFirst}
+use Rattle.pc_faults.specs.declared.fault.StatusFault.{StatusFault}
+use Rattle.pc_faults.specs.declared.fault.StatusFault.TheVariants.{Second, Early, Late, NoStart, FinishFirst}
 use Rattle.pc_model.specs.Network.{IsSound, Network}
 use Rattle.pc_net.specs.Firmness.{Dangles, EntersStart, IsUnentered, LeavesEnd}
-use Rattle.pc_net.specs.Refusals.{IsFirstDangling}
+use Rattle.pc_net.specs.Refusals.{IsFirstDangling, IsNetError as IsNetRefusal}
 use Rattle.pc_net.specs.Cycles.{LiesOnCycle}
-use Rattle.pc_net.specs.Refusals.{IsNetError as IsNetRefusal}
 use Rattle.pc_net.specs.declared.refusal.NetError.{NetError}
 use Rattle.pc_net.specs.declared.refusal.NetError.TheVariants as net
 use Rattle.pc_net.proofs.RefusalLaws.{refused_is_not_sound}
@@ -40,7 +39,7 @@ use Rattle.pc_project.proofs.RefusalLaws.{no_tree}
 use Rattle.pc_wbs.specs.Climb.{IsTree}
 use Rattle.pc_wbs.specs.declared.error.TreeError.{TreeError}
 use Rattle.pc_wbs.specs.declared.error.TreeError.TheVariants as tree
-use Rattle.pc_wbs.specs.declared.row.ItemRow.{ItemRow}
+use Rattle.pc_wbs.specs.declared.tree.ItemRow.{ItemRow}
 use Rattle.pc_wbs.proofs.ExactLaws.{IsRefusal-same}
 use Rattle.pert_cli.proofs.FirstOnceLaws.{AreAlike, AreToldByPlace, alike, by_number, first_number_once, first_once, settled}
 use Rattle.pert_cli.proofs.RowsOnceLaws.{HasOwnRows}

@@ -1,4 +1,4 @@
-//! Laws of faults. A law is a function with an empty body whose contract is what it says.
+//! Laws of faults: functions that change nothing, whose contract is the law.
 ghost use Rattle.std.specs.Prelude.{◌≡◌, ◌≢◌, ℕ, List};
 ghost use Rattle.pc_cards.specs.declared.sort.Sort.{Sort as TheSort};
 ghost use Rattle.pc_faults.specs.declared.fault.Fault.{Fault};

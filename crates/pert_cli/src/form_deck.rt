@@ -35,7 +35,7 @@ pub(crate) fn project_for<S: Source>(
     requires { IsNumbered form }
     ensures project { IfOk result (HasProjectFor form (side S.left S.faults source.old source.new)) }
     ensures none { IfErr result (HasNoProjectFor form (side S.left S.faults source.old source.new)) }
-    ensures stops { IsReadWithin longest_deck STREAM_ROOM S.left S.pulls source.old source.new }
+    ensures stops { IsReadWithin longest_deck STREAM_ROOM S.left S.faults S.pulls source.old source.new }
 {
     match form.bench() {
         Some(n) => bench_project(alloc, n),
@@ -52,7 +52,7 @@ fn read_as<S: Source>(
 ) -> Result<Project, NoProject>
     ensures project { IfOk result (HasProjectBy (IsMadeAs sort) (side S.left S.faults source.old source.new)) }
     ensures none { IfErr result (HasNoProjectBy (IsFaultAs sort) (side S.left S.faults source.old source.new)) }
-    ensures stops { IsReadWithin longest_deck STREAM_ROOM S.left S.pulls source.old source.new }
+    ensures stops { IsReadWithin longest_deck STREAM_ROOM S.left S.faults S.pulls source.old source.new }
 {
     let key = source.key();
     match read_deck(alloc, source) {

@@ -121,8 +121,8 @@ pub fn run<S: Source, O: Sink, E: Sink>(
         source.new ≡ source.old }
 
     // However long the source is, nothing is pulled after the pull that passes the longest deck, ends the input or
-    // fails.
-    ensures stops { IsReadWithin longest_deck STREAM_ROOM S.left S.pulls source.old source.new }
+    // fails, and each pull before that one gave at least one byte.
+    ensures stops { IsReadWithin longest_deck STREAM_ROOM S.left S.faults S.pulls source.old source.new }
 
     // If no source or sink fails, the words and the deck decide, unless memory runs out: the deck of the source, or the
     // form's own.
@@ -155,7 +155,7 @@ fn outcome<S: Source, O: Sink, E: Sink>(
 ) -> Status
     ensures outcome { Outcome words.now (side S.left S.faults source.old source.new)
         (side O.taken O.faults out.old out.new) (side E.taken E.faults err.old err.new) result }
-    ensures stops { IsReadWithin longest_deck STREAM_ROOM S.left S.pulls source.old source.new }
+    ensures stops { IsReadWithin longest_deck STREAM_ROOM S.left S.faults S.pulls source.old source.new }
 {
     let Some(form) = Form::asked(words) else {
         return match send(err, usage()) {

@@ -1,9 +1,9 @@
 -- What the passes over charges, amounts to go, budgets and costs have found of the rows so far.
 use Rattle.std.specs.Prelude.{◌≡◌, ◌≢◌, ℕ, ◌*◌, ◌-◌, ◌<◌, ◌≤◌, ℤ, ◌≤ℤ◌, int_lt, if◌then◌else◌, List, length, take, slice_index, slice_index_or, sum, sum_by, Option, Some, None}
 use Rattle.pc_model.specs.declared.limits.TheConstants.{MAX_COST}
-use Rattle.pc_accounts.specs.declared.rows.AcctRow.{AcctRow}
-use Rattle.pc_accounts.specs.declared.rows.MoneyRow.{MoneyRow}
-use Rattle.pc_accounts.specs.declared.rows.WorkRow.{WorkRow}
+use Rattle.pc_accounts.specs.declared.book.AcctRow.{AcctRow}
+use Rattle.pc_accounts.specs.declared.book.MoneyRow.{MoneyRow}
+use Rattle.pc_accounts.specs.declared.book.WorkRow.{WorkRow}
 use Rattle.pc_accounts.specs.declared.entry.Entry.{Entry}
 use Rattle.pc_accounts.specs.Entries.{entry_at}
 use Rattle.pc_accounts.specs.Amounts.{money_at, budget_of, actual_of, IsDue}

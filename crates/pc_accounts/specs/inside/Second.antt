@@ -2,7 +2,7 @@
 -- Here is what no clause of a top call and no law reaches.
 use Rattle.std.specs.Prelude.{List}
 use Rattle.pc_model.specs.Greatest.{IsFirst}
-use Rattle.pc_accounts.specs.declared.rows.MoneyRow.{MoneyRow}
+use Rattle.pc_accounts.specs.declared.book.MoneyRow.{MoneyRow}
 use Rattle.pc_accounts.specs.declared.error.BookError.{BookError}
 use Rattle.pc_accounts.specs.declared.error.BookError.TheVariants.{SecondToGo, OutOfMemory}
 use Rattle.pc_accounts.specs.Second.{Repeats, IsRepeated}

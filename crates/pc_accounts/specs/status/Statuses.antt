@@ -1,11 +1,11 @@
 -- What STATUS cards say of activities: which of them are in disorder (F30), and how far each activity is.
 use Rattle.std.specs.Prelude.{◌≡◌, ℕ, ◌<◌, Bool, true, false, ℤ, pos, ◌-ℤ◌, ◌*ℤ◌, ◌<ℤ◌, List, length, slice_index_or}
 use Rattle.pc_model.specs.Greatest.{IsFirst}
-use Rattle.pc_times.specs.declared.state.ActState.{ActState}
-use Rattle.pc_times.specs.declared.state.ActState.TheVariants.{Waiting, Started, Finished}
-use Rattle.pc_faults.specs.declared.status.StatusFault.{StatusFault}
-use Rattle.pc_faults.specs.declared.status.StatusFault.TheVariants.{Second, Early, Late, NoStart, FinishFirst}
-use Rattle.pc_accounts.specs.declared.status.row.StatusRow.{StatusRow}
+use Rattle.pc_times.specs.declared.forecasts.ActState.{ActState}
+use Rattle.pc_times.specs.declared.forecasts.ActState.TheVariants.{Waiting, Started, Finished}
+use Rattle.pc_faults.specs.declared.fault.StatusFault.{StatusFault}
+use Rattle.pc_faults.specs.declared.fault.StatusFault.TheVariants.{Second, Early, Late, NoStart, FinishFirst}
+use Rattle.pc_accounts.specs.declared.status.StatusRow.{StatusRow}
 
 -- the k-th status; past the end of the list that activity 0 was begun on day 0
 abbrev pub status_at : List StatusRow → ℕ → StatusRow

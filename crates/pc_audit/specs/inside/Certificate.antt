@@ -3,8 +3,8 @@
 use Rattle.std.specs.Prelude.{◌≡◌}
 use Rattle.pc_crash.specs.Priced.{PricedNetwork}
 use Rattle.pc_check.specs.inside.Certified.{OnYes}
-use Rattle.pc_check.specs.declared.fail.Verdict.{Verdict}
-use Rattle.pc_check.specs.declared.fail.Verdict.TheVariants.{Yes, No}
+use Rattle.pc_check.specs.declared.checker.Verdict.{Verdict}
+use Rattle.pc_check.specs.declared.checker.Verdict.TheVariants.{Yes, No}
 use Rattle.pc_check.specs.Texts.{Finds}
 use Rattle.pc_project.specs.Project.{Project}
 use Rattle.pc_shell.specs.declared.status.Status.{Status}

@@ -1,8 +1,8 @@
 -- Regions: a number of cells, and live spans of them, one after the other.
 -- Here is what no clause of a top call and no law reaches.
 use Rattle.std.specs.Prelude.{◌≡◌, ℕ, ◌-◌, ◌<◌, ◌≤◌, List, [], ◌∷◌, ◌++◌, length, take, replicate, sum_by, slice_index_or, slice_set}
-use Rattle.pc_cells.specs.declared.span.Span.{Span}
-use Rattle.pc_cells.specs.declared.span.Mark.{Mark}
+use Rattle.pc_cells.specs.declared.region.Span.{Span}
+use Rattle.pc_cells.specs.declared.region.Mark.{Mark}
 use Rattle.pc_cells.specs.Spans.{Cells}
 
 -- how many cells are in no live span

@@ -5,7 +5,7 @@ use Rattle.pc_model.specs.Schedule.{normals, crashes}
 use Rattle.pc_crash.specs.Priced.{PricedNetwork}
 use Rattle.pc_times.specs.Picked.{IsPickedWalk}
 use Rattle.pc_times.specs.inside.Picked.{LongestWalk}
-use Rattle.pc_certify.specs.inside.Complete.{IsThrough}
+use Rattle.pc_certify.specs.Complete.{IsThrough}
 
 -- the walk that is picked by these lengths, and the sum of the lengths along it, which is the greatest
 pub record IsPicked (net : Network) (lengths : List ℕ) (found : LongestWalk) : Type 0 where

@@ -6,7 +6,7 @@ use Rattle.pc_cert.specs.Grammar.{next}
 use Rattle.pc_cert.specs.inside.Grammar.{IsRow}
 use Rattle.pc_cert.specs.inside.Known.{IsAgain}
 use Rattle.pc_crash.specs.Priced.{PricedNetwork}
-use Rattle.pc_check.specs.declared.adding.Cut.{Cut}
+use Rattle.pc_check.specs.declared.advancing.Cut.{Cut}
 use Rattle.pc_check.specs.declared.again.EndEvents.{EndEvents}
 use Rattle.pc_check.specs.declared.kept.Kept.{Kept}
 use Rattle.pc_check.specs.inside.Advances.{Adds}

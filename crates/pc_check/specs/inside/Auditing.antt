@@ -5,7 +5,7 @@ use Rattle.pc_cert.specs.declared.line.CertLine.{CertLine}
 use Rattle.pc_cert.specs.declared.line.TheConstants.{MAX_LINE}
 use Rattle.pc_cert.specs.inside.Reader.{Reading, StandsFor as ReadsAs}
 use Rattle.pc_check.specs.Texts.{IsFailing}
-use Rattle.pc_check.specs.declared.fail.Fail.{Fail}
+use Rattle.pc_check.specs.declared.checker.Fail.{Fail}
 use Rattle.pc_check.specs.inside.Bounds.{lines_left}
 use Rattle.pc_check.specs.inside.Checking.{Checking, StandsFor as ChecksAs}
 

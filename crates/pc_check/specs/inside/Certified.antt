@@ -1,34 +1,12 @@
--- What lines of which none fails prove.
+-- What a checker found of lines.
 -- Here is what no clause of a top call and no law reaches.
-use Rattle.std.specs.Prelude.{◌≡◌, ℕ, ◌≤◌, List, length, Some, None}
-use Rattle.pc_model.specs.Schedule.{IsAllNormalLength, IsAllCrashLength}
-use Rattle.pc_laws.specs.Segment.{Segment}
-use Rattle.pc_laws.specs.Cover.{IsCovering, IsReadRight}
+use Rattle.std.specs.Prelude.{◌≡◌, List, length, Some}
 use Rattle.pc_cert.specs.declared.line.CertLine.{CertLine}
-use Rattle.pc_cert.specs.declared.place.Place.TheVariants.{Start, Ended}
-use Rattle.pc_cert.specs.Text.{ran}
-use Rattle.pc_crash.specs.Priced.{PricedNetwork, knees_in}
-use Rattle.pc_check.specs.declared.fail.Verdict.{Verdict}
-use Rattle.pc_check.specs.declared.fail.Verdict.TheVariants.{Yes, No}
+use Rattle.pc_crash.specs.Priced.{PricedNetwork}
+use Rattle.pc_check.specs.declared.checker.Verdict.{Verdict}
+use Rattle.pc_check.specs.declared.checker.Verdict.TheVariants.{Yes, No}
 use Rattle.pc_check.specs.Failures.{failure_of}
-use Rattle.pc_check.specs.Certified.{segments_of}
-
--- segments that are the whole curve of a network: they are whole and join, the first upper end is the all-normal length and
--- the last lower end the all-crash length, and for every length between them what is read is right: it is a schedule for
--- the length, costs what is said, no schedule for the length costs less, the flow has the slope as its value and the cost
--- as its bound, and the slope is the cut gain
-pub record AreCurve (net : PricedNetwork) (segments : List Segment) : Type 0 where
-  pub high : ℕ
-  pub low : ℕ
-  pub covering : IsCovering net.network net.terms (knees_in net) segments high low
-  pub longest : IsAllNormalLength net.network net.terms high
-  pub shortest : IsAllCrashLength net.network net.terms low
-  pub read : (limit : ℕ) → low ≤ limit → limit ≤ high → IsReadRight net.network net.terms (knees_in net) segments limit
-
--- the lines are those of a whole certificate, and none of them fails
-pub record AreCertified (net : PricedNetwork) (lines : List CertLine) : Type 0 where
-  pub whole : ran Start lines ≡ Some Ended
-  pub none : failure_of net lines ≡ None
+use Rattle.pc_check.specs.Certified.{AreCertified, segments_of}
 
 -- what a checker found: that the lines are certified, with so many segments, or their first failure
 abbrev pub Finds : PricedNetwork → List CertLine → Verdict → Type 0

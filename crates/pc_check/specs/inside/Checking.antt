@@ -6,7 +6,7 @@ use Rattle.pc_cert.specs.Text.{ran}
 use Rattle.pc_model.specs.Sums.{sum_to}
 use Rattle.pc_model.specs.Cost.{activity_cost}
 use Rattle.pc_crash.specs.Priced.{PricedNetwork, knees_in}
-use Rattle.pc_check.specs.declared.fail.Fail.{Fail}
+use Rattle.pc_check.specs.declared.checker.Fail.{Fail}
 use Rattle.pc_check.specs.declared.kept.Kept.{Kept}
 use Rattle.pc_check.specs.declared.kept.Tally.{Tally}
 use Rattle.pc_check.specs.Draft.{Part, Draft, draft_of}

@@ -7,7 +7,7 @@ use Rattle.pc_model.specs.Schedule.{normal_of, crash_of}
 use Rattle.pc_model.specs.Walk.{from_of, to_of}
 use Rattle.pc_laws.specs.Segment.{head_at, span, tail_at}
 use Rattle.pc_crash.specs.Priced.{PricedNetwork, knees_in}
-use Rattle.pc_crash.specs.declared.costing.TheConstants.{MAX_ACTIVITY_COST}
+use Rattle.pc_crash.specs.declared.crash_net.TheConstants.{MAX_ACTIVITY_COST}
 use Rattle.pc_check.specs.inside.Crossings.{IsStill}
 use Rattle.pc_check.specs.declared.passed.Passed.{Passed}
 use Rattle.pc_cert.specs.declared.line.CertLine.{CertLine}

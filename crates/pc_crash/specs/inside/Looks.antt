@@ -2,7 +2,7 @@
 use Rattle.std.specs.Prelude.{◌≡◌, ℕ}
 use Rattle.pc_model.specs.Schedule.{crash_of, normal_of, slope_of}
 use Rattle.pc_model.specs.Walk.{from_of, to_of}
-use Rattle.pc_crash.specs.declared.looking.Look.{Look}
+use Rattle.pc_crash.specs.declared.crash_net.Look.{Look}
 use Rattle.pc_crash.specs.inside.KneeLists.{AreKneesOf}
 use Rattle.pc_crash.specs.Priced.{PricedNetwork, knees_in}
 

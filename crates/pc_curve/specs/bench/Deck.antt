@@ -2,7 +2,7 @@
 use Rattle.std.specs.Prelude.{ℕ, ◌+◌, List, [], ◌∷◌, ◌++◌, codes, decimal}
 use Rattle.pc_edges.specs.Texts.{texts_to}
 use Rattle.pc_model.specs.Sums.{sum_to}
-use Rattle.pc_curve.specs.declared.bench.activity.BenchActivity.{BenchActivity}
+use Rattle.pc_curve.specs.declared.bench.deck.BenchActivity.{BenchActivity}
 use Rattle.pc_curve.specs.bench.Recipe.{bench_last_event, activity}
 
 -- a card: its fields with commas between them, and the end of the line

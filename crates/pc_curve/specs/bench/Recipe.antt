@@ -1,7 +1,7 @@
 -- What the benchmark's deck of n activities is made of. Its events are numbered from 0 and its activities from 1; the draws
 -- begin behind n, and the activities draw one after the other.
 use Rattle.std.specs.Prelude.{ℕ, ◌+◌, ◌-◌, ◌*◌, ◌/◌, ◌%◌, min, nat_le, if◌then◌else◌}
-use Rattle.pc_curve.specs.declared.bench.activity.BenchActivity.{BenchActivity}
+use Rattle.pc_curve.specs.declared.bench.deck.BenchActivity.{BenchActivity}
 use Rattle.pc_curve.specs.bench.Draws.{drawn}
 
 -- the number of the last event: half of n, rounded up

@@ -1,5 +1,5 @@
-//! The text of the deck.
-ghost use Rattle.std.specs.Prelude.{◌≡◌, ◌≤◌, ◌++◌, IfOk, OnOk, string_bytes};
+//! The text of the benchmark's deck, and the numbers that it is drawn from.
+ghost use Rattle.std.specs.Prelude.{◌≡◌, ◌≤◌, ◌++◌, IfOk, OnOk, string_bytes, ℕ, ◌+◌, ◌<◌, ◌-◌};
 ghost use Rattle.pc_curve.specs.bench.Deck.{
   activities_text,
   activity_line,
@@ -10,10 +10,12 @@ ghost use Rattle.pc_curve.specs.bench.Deck.{
   item_line,
   project_line,
 };
+ghost use Rattle.pc_curve.specs.bench.Draws.{drawn};
+ghost use Rattle.pc_curve.specs.bench.Recipe.{activity, begins_at, draws_to, ends_at, bench_last_event, own_draw};
+ghost use Rattle.pc_curve.specs.declared.bench.deck.TheConstants.{MOST_ACTIVITIES};
 
-use crate::bench::activity::{BenchActivity, draw_activity, last_event};
-use crate::bench::draws::Draws;
 use std::alloc::{AllocError, Global};
+use std::marker::Model;
 
 /// The greatest number of activities of a deck of the benchmark.
 pub const MOST_ACTIVITIES: u64 = 4_000;
@@ -106,4 +108,100 @@ fn write_end(deck: &mut String, costs: u64) -> Result<(), AllocError>
     ensures { OnOk result (string_bytes deck.new ≡ string_bytes deck.old ++ end_text costs) }
 {
     write!(deck, "ACCT,X,1,{costs},\nEND\n")
+}
+
+/// Draws, each made from the one before.
+#[derive(Drop)]
+pub(in crate::bench) struct Draws {
+    last: u64,
+}
+
+impl Model for Draws {
+    ghost use Rattle.std.specs.Prelude.{ℕ, ◌<◌};
+
+    ghost Value = { ℕ };
+
+    ghost view = { λ draws. draws.last };
+
+    ghost invariant = { λ draws. draws.last < 65_537 };
+}
+
+impl Draws {
+    /// The draws behind a number.
+    pub(in crate::bench) fn behind(start: u64) -> Draws
+        requires { start < 65_537 }
+        ensures { result ≡ start }
+    {
+        Draws { last: start }
+    }
+
+    pub(in crate::bench) fn next(&mut self) -> u64
+        ensures result { (start k : ℕ) → self.old ≡ drawn start k → result ≡ drawn start (k + 1) }
+        ensures last { (start k : ℕ) → self.old ≡ drawn start k → self.new ≡ drawn start (k + 1) }
+    {
+        self.last = (75 * self.last + 74) % 65_537;
+        self.last
+    }
+}
+
+/// An activity of the benchmark's deck: between which events it leads, how long it lasts, in units, and what it costs.
+#[derive(Clone, Copy)]
+pub(in crate::bench) struct BenchActivity {
+    pub(in crate::bench) from: u64,
+    pub(in crate::bench) to: u64,
+    pub(in crate::bench) normal: u64,
+    pub(in crate::bench) crash: u64,
+    pub(in crate::bench) slope: u64,
+    pub(in crate::bench) cost: u64,
+}
+
+/// The number of the last event of a deck of `n` activities.
+pub(in crate::bench) fn last_event(n: u64) -> u64
+    requires { n ≤ MOST_ACTIVITIES }
+    ensures { result ≡ bench_last_event n }
+{
+    (n + 1) / 2
+}
+
+/// Draws activity `i` of `n`, from 1, where those before it have made their draws.
+pub(in crate::bench) fn draw_activity(draws: &mut Draws, n: u64, i: u64) -> BenchActivity
+    requires most { n ≤ MOST_ACTIVITIES }
+    requires first { 0 < i }
+    requires last { i ≤ n }
+    requires draws { draws.old ≡ drawn n (draws_to n (i - 1)) }
+    ensures activity { result ≡ activity n i }
+    ensures draws { draws.new ≡ drawn n (draws_to n i) }
+{
+    let (from, to) = draw_ends(draws, n, i);
+    let normal = (to - from) * (1 + draws.next() % 20);
+    let crash = draws.next() % (normal + 1);
+    BenchActivity {
+        from,
+        to,
+        normal,
+        crash,
+        slope: 1 + draws.next() % 9,
+        cost: 10 + draws.next() % 90,
+    }
+}
+
+/// Draws the events between which it leads.
+fn draw_ends(draws: &mut Draws, n: u64, i: u64) -> (u64, u64)
+    requires most { n ≤ MOST_ACTIVITIES }
+    requires first { 0 < i }
+    requires last { i ≤ n }
+    requires draws { draws.old ≡ drawn n (draws_to n (i - 1)) }
+    ensures begins { result.0 ≡ begins_at n i }
+    ensures ends { result.1 ≡ ends_at n i }
+    ensures draws { draws.new ≡ own_draw n i 0 }
+    ensures order { result.0 < result.1 }
+    ensures small { result.1 ≤ bench_last_event n }
+{
+    let last = last_event(n);
+    if i <= last {
+        return (i - 1, i);
+    }
+    let from = draws.next() % last;
+    let to = last.min(from + 1 + draws.next() % 4);
+    (from, to)
 }

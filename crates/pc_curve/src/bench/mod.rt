@@ -1,8 +1,6 @@
 //! The benchmark: a deck that is the same on every machine, and what is said of its time-cost curve.
 
-mod activity;
 mod deck;
-mod draws;
 mod figures;
 mod report;
 

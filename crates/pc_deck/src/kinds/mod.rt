@@ -9,10 +9,9 @@ use crate::limits::{
     MAX_AFTERS, MAX_TASK_ITEMS, MAX_TASKS, SMALL_ACTIVITIES, SMALL_CHARGES, SMALL_EVENTS,
     SMALL_PIECES, SMALL_STATUSES,
 };
-use pc_cards::entry::{by_sort, by_version};
 use pc_cards::lists::{Listed, Named, Once};
 use pc_cards::place::CardPlace;
-use pc_cards::sort::Sort;
+use pc_cards::sort::{Sort, by_sort, by_version};
 use pc_faults::{DeckError, Kind};
 use pc_model::{
     MAX_ACCOUNTS, MAX_ACTIVITIES, MAX_CHARGES, MAX_EVENTS, MAX_ITEMS, MAX_LOADS, MAX_PIECES,
@@ -49,7 +48,7 @@ pub use terms::TermsCard;
 pub use titled::TitledCard;
 pub use wbs::ItemCard;
 
-/// The cards of a deck by kind, but for its PROJECT card. Those of a kind that the deck's sort has not are none.
+/// The cards of a deck by kind, except its PROJECT card. A kind that decks of this sort do not have has no cards.
 pub struct CardLists {
     pub as_of: Once<AsOfCard>,
     pub terms: Once<TermsCard>,
@@ -68,7 +67,7 @@ pub struct CardLists {
 }
 
 impl Drop for CardLists {
-    // Written out, so that who lets the lists go cites this proof, and none goes through all of them again.
+    // Written by hand so that the proof of dropping all these lists is done once, here.
     fn drop(self) {
         let CardLists {
             as_of: _as_of,

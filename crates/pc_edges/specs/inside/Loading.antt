@@ -3,7 +3,7 @@
 use Rattle.std.specs.Prelude.{◌≡◌, ℕ, ◌+◌, ◌<◌, ◌≤◌, List, length, Option, Vec, vec_len, Result, IfOk, OnOk, IsErrOf}
 use Rattle.std.specs.Io.KnownBytes.{Consumes, IsAtEnd}
 use Rattle.pc_edges.specs.Faults.{Rose}
-use Rattle.pc_edges.specs.Pulls.{TakesPulls}
+use Rattle.pc_edges.specs.Pulls.{CameIn, TakesPulls}
 use Rattle.pc_edges.specs.declared.loading.LoadError.{LoadError}
 use Rattle.pc_edges.specs.declared.loading.LoadError.TheVariants as error
 
@@ -18,13 +18,13 @@ pub record HasLoaded {X A : Type 0} (result : Result (Vec ℕ A) LoadError) (lim
   pub count : faults old ≤ faults new
 
 -- reading stopped as `IsReadWithin` says, and TooLong is the answer exactly if the last pull passed the limit
-pub record LoadsWithin {X : Type 0} (TooLong : Type 0) (limit room : ℕ) (left : X → Option (List ℕ)) (pulls : X → Option ℕ) (old new : X) : Type 0 where
+pub record LoadsWithin {X : Type 0} (TooLong : Type 0) (limit room : ℕ) (left : X → Option (List ℕ)) (faults : X → ℕ) (pulls : X → Option ℕ) (old new : X) : Type 0 where
   pub before : X
+  pub pieces : List (List ℕ)
   pub front : List ℕ
   pub last : List ℕ
-  pub came : Consumes (left old) (left before) front
+  pub came : CameIn left faults pulls pieces front old before
   pub within : length front ≤ limit
-  pub turns : TakesPulls (length front) (pulls old) (pulls before)
   pub pulled : Consumes (left before) (left new) last
   pub short : length last ≤ room
   pub once : TakesPulls 1 (pulls before) (pulls new)

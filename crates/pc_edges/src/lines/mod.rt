@@ -1,7 +1,6 @@
 //! The lines of a source, one after the other, in whatever pieces it gives its bytes; and sessions, in which each line
 //! is answered on a sink before the next is pulled.
 
-mod line_end;
 mod reader;
 mod talking;
 

@@ -20,9 +20,10 @@ ghost use Rattle.std.specs.Prelude.{
 ghost use Rattle.pc_edges.specs.Faults.{Rose};
 ghost use Rattle.pc_edges.specs.Pulls.{TakesPulls};
 ghost use Rattle.pc_edges.specs.inside.lines.Reading.{StandsFor, Stepped, TakesLine, Filled, bytes_left};
+ghost use Rattle.pc_edges.specs.inside.lines.Lines.{line_len};
 
-use crate::lines::line_end::line_len;
 use crate::{Failed, STREAM_ROOM, Source};
+use memchr::memchr;
 use std::alloc::{AllocError, Global};
 use std::marker::Model;
 
@@ -112,7 +113,7 @@ impl LineReader {
         // a reader that gave these lines of these bytes gives the next line of them and of the bytes that were pulled
         // behind them
         ensures stepped { (lines : List (List ℕ)) (bytes : List ℕ) → StandsFor self.old lines bytes
-            → Stepped S.left S.pulls source.old source.new lines bytes self.new result }
+            → Stepped S.left S.faults S.pulls source.old source.new lines bytes self.new result }
         // nothing is pulled while a whole line is there
         ensures unpulled { Contains self.old.ahead 10 → (source.new ≡ source.old) × (result ≡ Ok Next.Line) }
         ensures left { IfOk result (λ next. next ≡ Next.Line → bytes_left self.new < bytes_left self.old) }
@@ -217,5 +218,16 @@ impl LineReader {
         self.to = n.min(INPUT_LIMIT - self.taken);
         self.taken += n;
         Ok(n)
+    }
+}
+
+/// Returns how many bytes are before the first end of a line: all of them if there is none.
+pub(in crate::lines) fn line_len(bytes: &[u8]) -> usize
+    ensures value { result ≡ line_len bytes.now }
+    ensures within { result ≤ length bytes.now }
+{
+    match memchr(b'\n', bytes) {
+        Some(end) => end,
+        None => bytes.len(),
     }
 }

@@ -54,7 +54,7 @@ pub fn talk<T: Answers, C: Source, O: Sink>(
     requires { StandsFor reader [] [] }
     ensures ends { Ends T.Says C.left C.faults C.pulls O.taken O.faults talker.old talker.new source.old
         source.new out.old out.new result }
-    ensures within { IsTakenWithin C.left C.pulls source.old source.new }
+    ensures within { IsTakenWithin C.left C.faults C.pulls source.old source.new }
 {
     loop {
         match reader.next(source) {

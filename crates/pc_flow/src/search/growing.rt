@@ -18,7 +18,7 @@ ghost use Rattle.pc_flow.specs.inside.search.Growing.{
 
 use crate::search::search::Search;
 use pc_crash::{Link, Steps};
-use pc_net::degree_laws::each_activity_stands_once;
+use pc_net::each_activity_stands_once;
 use std::sync::ledger::Ledger;
 
 impl<'n> Search<'n> {

@@ -1,7 +1,7 @@
 -- The table of items: what their leaves add up to in each period.
 -- Here is what no clause of a top call and no law reaches.
 use Rattle.std.specs.Prelude.{◌≡◌, ℕ, ◌<◌, List, length}
-use Rattle.pc_wbs.specs.declared.row.ItemRow.{ItemRow}
+use Rattle.pc_wbs.specs.declared.tree.ItemRow.{ItemRow}
 use Rattle.pc_rollup.specs.inside.Totals.{AreRolledUp}
 use Rattle.pc_load.specs.Table.{Table, column}
 

@@ -3,7 +3,7 @@ use Rattle.std.specs.Prelude.{◌≤◌, length}
 use Rattle.pc_model.specs.Network.{Network, IsInRange}
 use Rattle.pc_model.specs.declared.limits.TheConstants.{MAX_EVENTS, MAX_ACTIVITIES}
 use Rattle.pc_net.specs.declared.graph.Graph.TheInside.{Inside}
-use Rattle.pc_net.specs.declared.side.Side.TheVariants.{Begins, Ends}
+use Rattle.pc_net.specs.declared.graph.Side.TheVariants.{Begins, Ends}
 use Rattle.pc_net.specs.inside.Sides.{events_of}
 use Rattle.pc_net.specs.inside.Listings.{IsListing}
 use Rattle.pc_net.specs.inside.Networks.{network}

@@ -3,7 +3,7 @@ use Rattle.std.specs.Prelude.{◌≡◌, ◌≢◌, ℕ, ◌<◌, ◌≤◌, ◌
 use Rattle.pc_model.specs.Greatest.{StandsBelow}
 use Rattle.pc_model.specs.Walk.{from_of, to_of}
 use Rattle.pc_model.specs.Network.{Network, IsPartOrder}
-use Rattle.pc_net.specs.declared.side.Side.TheVariants.{Ends}
+use Rattle.pc_net.specs.declared.graph.Side.TheVariants.{Ends}
 use Rattle.pc_net.specs.inside.Sides.{events_of}
 
 -- the number of activities that enter each event

@@ -1,8 +1,8 @@
 -- The ends of activities, and the events at one end of all of them.
 use Rattle.std.specs.Prelude.{ℕ, ◌<◌, List, length, map, slice_index}
 use Rattle.pc_model.specs.declared.Arc.{Arc}
-use Rattle.pc_net.specs.declared.side.Side.{Side}
-use Rattle.pc_net.specs.declared.side.Side.TheVariants.{Begins, Ends}
+use Rattle.pc_net.specs.declared.graph.Side.{Side}
+use Rattle.pc_net.specs.declared.graph.Side.TheVariants.{Begins, Ends}
 
 -- the event at that end of the activity
 abbrev pub event_of : Side → Arc → ℕ

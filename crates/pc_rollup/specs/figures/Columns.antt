@@ -1,8 +1,8 @@
 -- An amount of each account, summed by item and by level.
 use Rattle.std.specs.Prelude.{◌≡◌, ℕ, ◌+◌, ◌<◌, ◌≤◌, ℤ, List, length}
-use Rattle.pc_wbs.specs.declared.row.ItemRow.{ItemRow}
+use Rattle.pc_wbs.specs.declared.tree.ItemRow.{ItemRow}
 use Rattle.pc_wbs.specs.Climb.{IsAtLevel, IsBelow, IsLeaf, IsDepth}
-use Rattle.pc_accounts.specs.declared.rows.AcctRow.{AcctRow}
+use Rattle.pc_accounts.specs.declared.book.AcctRow.{AcctRow}
 use Rattle.pc_accounts.specs.Amounts.{item_of}
 use Rattle.pc_rollup.specs.declared.levels.LevelLine.{LevelLine}
 use Rattle.pc_rollup.specs.Sums.{IsSumOver}

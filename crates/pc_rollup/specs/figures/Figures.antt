@@ -2,8 +2,8 @@
 use Rattle.std.specs.Prelude.{ℕ, ℤ, pos, ◌-ℤ◌, List}
 use Rattle.pc_accounts.specs.declared.entry.Entry.{Entry}
 use Rattle.pc_accounts.specs.Entries.{entry_at, latest_of}
-use Rattle.pc_rollup.specs.declared.figures.figures.Figure.{Figure}
-use Rattle.pc_rollup.specs.declared.figures.figures.Figure.TheVariants.{Budget, Actual, ToGo, Latest, Overrun}
+use Rattle.pc_rollup.specs.declared.figures.column.Figure.{Figure}
+use Rattle.pc_rollup.specs.declared.figures.column.Figure.TheVariants.{Budget, Actual, ToGo, Latest, Overrun}
 
 -- an amount of an account: what it may spend, what it has spent, what is to go, what it will have cost, and by how much
 -- that is more than it may spend

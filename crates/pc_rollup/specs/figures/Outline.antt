@@ -1,6 +1,6 @@
 -- The items in the order in which reports list them.
 use Rattle.std.specs.Prelude.{◌≡◌, ℕ, ◌<◌, List, length, slice_index, slice_index_or}
-use Rattle.pc_wbs.specs.declared.row.ItemRow.{ItemRow}
+use Rattle.pc_wbs.specs.declared.tree.ItemRow.{ItemRow}
 use Rattle.pc_wbs.specs.Climb.{HasLevel}
 use Rattle.pc_wbs.specs.Preorder.{IsPreorder}
 use Rattle.pc_rollup.specs.declared.figures.outline.OutlineRow.{OutlineRow}

@@ -1,12 +1,12 @@
 -- Which packages are finished, and what the work of each account is worth.
 use Rattle.std.specs.Prelude.{◌≡◌, ◌⊎◌, ℕ, ◌<◌, false, ℤ, pos, ◌-ℤ◌, List, length, slice_index}
-use Rattle.pc_accounts.specs.declared.rows.AcctRow.{AcctRow}
+use Rattle.pc_accounts.specs.declared.book.AcctRow.{AcctRow}
 use Rattle.pc_accounts.specs.declared.entry.Entry.{Entry}
 use Rattle.pc_accounts.specs.Amounts.{item_of}
 use Rattle.pc_accounts.specs.Entries.{entry_at, value_of}
 use Rattle.pc_rollup.specs.Totals.{amount_at}
-use Rattle.pc_times.specs.declared.state.ActState.{ActState}
-use Rattle.pc_times.specs.declared.state.ActState.TheVariants.{Waiting, Started, Finished}
+use Rattle.pc_times.specs.declared.forecasts.ActState.{ActState}
+use Rattle.pc_times.specs.declared.forecasts.ActState.TheVariants.{Waiting, Started, Finished}
 use Rattle.pc_times.specs.Forecast.{state_at}
 
 -- the activity is finished

@@ -2,7 +2,7 @@
 use Rattle.std.specs.Prelude.{◌≡◌, ℕ, ◌<◌, ℤ, pos, ◌-ℤ◌, List, length, slice_index, slice_index_or, Option}
 use Rattle.pc_model.specs.Network.{Network}
 use Rattle.pc_model.specs.Walk.{to_of}
-use Rattle.pc_wbs.specs.declared.row.ItemRow.{ItemRow}
+use Rattle.pc_wbs.specs.declared.tree.ItemRow.{ItemRow}
 use Rattle.pc_wbs.specs.Climb.{IsBelow}
 use Rattle.pc_rollup.specs.Least.{IsLeastOver, least_at}
 

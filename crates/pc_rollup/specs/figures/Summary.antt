@@ -1,15 +1,15 @@
 -- What the management summary tells.
 use Rattle.std.specs.Prelude.{ℕ, ℤ, List, length}
-use Rattle.pc_wbs.specs.declared.row.ItemRow.{ItemRow}
+use Rattle.pc_wbs.specs.declared.tree.ItemRow.{ItemRow}
 use Rattle.pc_wbs.specs.Climb.{AreInRange, IsTree}
-use Rattle.pc_accounts.specs.declared.rows.AcctRow.{AcctRow}
-use Rattle.pc_accounts.specs.declared.rows.MoneyRow.{MoneyRow}
+use Rattle.pc_accounts.specs.declared.book.AcctRow.{AcctRow}
+use Rattle.pc_accounts.specs.declared.book.MoneyRow.{MoneyRow}
 use Rattle.pc_accounts.specs.declared.entry.Entry.{Entry}
 use Rattle.pc_accounts.specs.Amounts.{AreMoney, AreEntriesOf}
 use Rattle.pc_rollup.specs.declared.figures.outline.OutlineRow.{OutlineRow}
 use Rattle.pc_rollup.specs.Totals.{amount_at}
 use Rattle.pc_rollup.specs.declared.figures.summary.SummaryAmounts.{SummaryAmounts}
-use Rattle.pc_rollup.specs.declared.figures.figures.Figure.TheVariants.{Budget, Actual, ToGo, Latest, Overrun}
+use Rattle.pc_rollup.specs.declared.figures.column.Figure.TheVariants.{Budget, Actual, ToGo, Latest, Overrun}
 use Rattle.pc_rollup.specs.figures.Columns.{AmountColumn, AreOnTree, IsColumn, AddUpTo, HaveOneLine}
 use Rattle.pc_rollup.specs.figures.Figures.{figure_of, figure_at}
 use Rattle.pc_rollup.specs.figures.Outline.{IsOutline}

@@ -1,11 +1,11 @@
 -- What the work of each item is worth.
 use Rattle.std.specs.Prelude.{ℕ, ℤ, List}
-use Rattle.pc_wbs.specs.declared.row.ItemRow.{ItemRow}
-use Rattle.pc_accounts.specs.declared.rows.AcctRow.{AcctRow}
+use Rattle.pc_wbs.specs.declared.tree.ItemRow.{ItemRow}
+use Rattle.pc_accounts.specs.declared.book.AcctRow.{AcctRow}
 use Rattle.pc_accounts.specs.declared.entry.Entry.{Entry}
-use Rattle.pc_times.specs.declared.state.ActState.{ActState}
+use Rattle.pc_times.specs.declared.forecasts.ActState.{ActState}
 use Rattle.pc_rollup.specs.Totals.{amount_at}
-use Rattle.pc_rollup.specs.declared.figures.figures.Figure.TheVariants.{Budget, Actual}
+use Rattle.pc_rollup.specs.declared.figures.column.Figure.TheVariants.{Budget, Actual}
 use Rattle.pc_rollup.specs.declared.figures.worth.WorthAmounts.{WorthAmounts}
 use Rattle.pc_rollup.specs.figures.Columns.{AreItemSums}
 use Rattle.pc_rollup.specs.figures.Figures.{figure_at}

@@ -1,7 +1,7 @@
 -- The least of amounts that are placed on items.
 -- Here is what no clause of a top call and no law reaches.
 use Rattle.std.specs.Prelude.{◌≡◌, ℕ, ◌<◌, ℤ, int_lt, if◌then◌else◌, List, length, Option, Some, None}
-use Rattle.pc_wbs.specs.declared.row.ItemRow.{ItemRow}
+use Rattle.pc_wbs.specs.declared.tree.ItemRow.{ItemRow}
 use Rattle.pc_wbs.specs.Climb.{IsBelow}
 use Rattle.pc_rollup.specs.declared.totals.Placed.{Placed}
 use Rattle.pc_rollup.specs.inside.Totals.{place_of, amount_of}

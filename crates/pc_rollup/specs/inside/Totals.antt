@@ -1,7 +1,7 @@
 -- What the items of a work breakdown structure add up to.
 -- Here is what no clause of a top call and no law reaches.
 use Rattle.std.specs.Prelude.{◌≡◌, ℕ, ◌<◌, ℤ, pos, List, length, slice_index_or}
-use Rattle.pc_wbs.specs.declared.row.ItemRow.{ItemRow}
+use Rattle.pc_wbs.specs.declared.tree.ItemRow.{ItemRow}
 use Rattle.pc_wbs.specs.Climb.{IsBelow, IsLeaf}
 use Rattle.pc_rollup.specs.declared.totals.Placed.{Placed}
 use Rattle.pc_rollup.specs.Sums.{IsSumOver}

@@ -1,22 +1,69 @@
 //! An amount of each account, summed by item and by level.
-ghost use Rattle.std.specs.Prelude.{◌≡◌, ℕ, ◌+◌, ◌<◌, ◌^◌, length, sum_by, unsigned_abs, FitsSigned, IfOk};
-ghost use Rattle.std.specs.Int.{w64};
-ghost use Rattle.pc_accounts.specs.Entries.{AreEntriesWithinLimits};
+ghost use Rattle.std.specs.Prelude.{◌≡◌, ◌+◌, ◌<◌, ◌^◌, length, sum_by, unsigned_abs, IfOk};
+ghost use Rattle.pc_accounts.specs.Entries.{AreEntriesWithinLimits, IsEntryWithinLimits};
+ghost use Rattle.pc_accounts.specs.inside.Entries.{entry_of_all};
 ghost use Rattle.pc_wbs.specs.Climb.{AreInRange, IsTree};
-ghost use Rattle.pc_rollup.specs.Lines.{sum_of};
 ghost use Rattle.pc_rollup.specs.Totals.{amount_at};
 ghost use Rattle.pc_rollup.specs.inside.Totals.{IsRolledUp};
-ghost use Rattle.pc_rollup.specs.figures.Columns.{AreOnTree, AreItemSums, AreLevelSums, IsColumn};
-ghost use Rattle.pc_rollup.specs.figures.Figures.{figure_at};
-ghost use Rattle.pc_rollup.specs.inside.figures.Columns.{IsWhole};
+ghost use Rattle.pc_rollup.specs.figures.Columns.{AreOnTree, AreItemSums, AreLevelSums, IsColumn, AddUpTo};
+ghost use Rattle.pc_rollup.specs.figures.Figures.{figure_at, figure_of};
 ghost use Rattle.pc_rollup.specs.inside.figures.ColumnParts.{ArePlaced};
+ghost use Rattle.pc_rollup.specs.inside.figures.Figures.{AreAmounts};
 
-use crate::figures::figures::{Figure, figures};
-use crate::{LevelLine, Placed, level_lines, totals_of};
+use crate::{Placed, totals_of};
 use pc_accounts::{AcctRow, Entry};
 use pc_wbs::Tree;
 use std::alloc::{AllocError, Global};
 use std::marker::Model;
+
+/// One of the amounts that the summary tells.
+#[derive(Clone, Copy, Debug, PartialEq, Eq)]
+pub(in crate::figures) enum Figure {
+    /// What may be spent.
+    Budget,
+    /// What was spent up to as-of.
+    Actual,
+    /// What is still to go.
+    ToGo,
+    /// What it will have cost: what was spent and what is to go.
+    Latest,
+    /// By how much that is more than may be spent.
+    Overrun,
+}
+
+impl Figure {
+    /// The amount of an account.
+    fn of(self, entry: &Entry) -> i64
+        requires { IsEntryWithinLimits entry.now }
+        ensures { result ≡ figure_of self entry.now }
+    {
+        match self {
+            Figure::Budget => entry.budget as i64,
+            Figure::Actual => entry.actual as i64,
+            Figure::ToGo => entry.to_go as i64,
+            Figure::Latest => entry.latest() as i64,
+            Figure::Overrun => entry.latest() as i64 - entry.budget as i64,
+        }
+    }
+}
+
+/// The amount of each account.
+pub(in crate::figures) fn figures(
+    alloc: Global,
+    entries: &[Entry],
+    figure: Figure,
+) -> Result<Vec<i64>, AllocError>
+    requires { AreEntriesWithinLimits entries.now }
+    ensures amounts { IfOk result (λ amounts. AreAmounts (figure_at figure entries.now)
+        (length entries.now) amounts.items) }
+    ensures small { IfOk result (λ amounts. sum_by unsigned_abs amounts.items < 2 ^ 63) }
+{
+    let mut amounts = Vec::with_capacity(alloc, entries.len())?;
+    for entry in entries {
+        amounts.push(figure.of(entry))?;
+    }
+    Ok(amounts)
+}
 
 /// A column of a report: an amount for each item, and for each level from the first on.
 pub(in crate::figures) struct AmountColumn {
@@ -25,7 +72,7 @@ pub(in crate::figures) struct AmountColumn {
 }
 
 impl Drop for AmountColumn {
-    // Written out, so that who lets a column go cites this proof.
+    // Written by hand so that the proof of dropping it is done once, here.
     fn drop(self) {
         let AmountColumn {
             items: _items,
@@ -43,22 +90,21 @@ impl Model for AmountColumn {
 }
 
 impl AmountColumn {
-    /// The column of an amount of each account. It takes time in proportion to accounts, and to items at each level.
+    /// The column of one of the summary's amounts. Linear in accounts and items.
     pub(in crate::figures) fn build(
         alloc: Global,
         tree: &Tree,
         accounts: &[AcctRow],
-        amounts: &[i64],
+        entries: &[Entry],
+        figure: Figure,
     ) -> Result<AmountColumn, AllocError>
-        requires ranged { AreInRange tree.now }
-        requires sound { IsTree tree.now }
         requires on_tree { AreOnTree tree.now accounts.now }
-        requires one_each { length amounts.now ≡ length accounts.now }
-        requires small { sum_by unsigned_abs amounts.now < 2 ^ 63 }
-        ensures column { IfOk result (IsColumn tree.now accounts.now (amount_at amounts.now)) }
-        ensures whole { IfOk result (IsWhole accounts.now (amount_at amounts.now)) }
+        requires one_each { length entries.now ≡ length accounts.now }
+        requires small { AreEntriesWithinLimits entries.now }
+        ensures column { IfOk result (IsColumn tree.now accounts.now (figure_at figure entries.now)) }
+        ensures whole { IfOk result (AddUpTo tree.now (figure_of figure (entry_of_all entries.now))) }
     {
-        let items = item_sums(alloc, tree, accounts, amounts)?;
+        let items = figure_sums(alloc, tree, accounts, entries, figure)?;
         let levels = level_sums(alloc, tree, &items)?;
         Ok(AmountColumn { items, levels })
     }
@@ -115,7 +161,9 @@ pub(in crate::figures) fn figure_sums(
     requires on_tree { AreOnTree tree.now accounts.now }
     requires one_each { length entries.now ≡ length accounts.now }
     requires small { AreEntriesWithinLimits entries.now }
-    ensures { IfOk result (λ totals. AreItemSums tree.now accounts.now (figure_at figure entries.now) totals.items) }
+    ensures sums { IfOk result (λ totals. AreItemSums tree.now accounts.now
+        (figure_at figure entries.now) totals.items) }
+    ensures rolled { IfOk result (λ totals. IsRolledUp tree.now totals.items) }
 {
     let amounts = figures(alloc, entries, figure)?;
     item_sums(alloc, tree, accounts, &amounts)
@@ -136,31 +184,16 @@ fn placed(alloc: Global, accounts: &[AcctRow], amounts: &[i64]) -> Result<Vec<Pl
     Ok(placed)
 }
 
-/// For each level the sum of the totals of the items at it and of the leaves above it.
+/// For each level the sum of the totals of the items at it and of the leaves above it. At each level that is what the
+/// top has.
 fn level_sums(alloc: Global, tree: &Tree, totals: &[i64]) -> Result<Vec<i64>, AllocError>
-    requires sound { IsTree tree.now }
     requires one_each { length totals.now ≡ length tree.now }
-    requires fits { (y : ℕ) → y < length tree.now → FitsSigned w64 (amount_at totals.now y) }
     requires rolled { IsRolledUp tree.now totals.now }
-    ensures { IfOk result (λ sums. AreLevelSums tree.now totals.now sums.items) }
+    ensures sums { IfOk result (λ sums. AreLevelSums tree.now totals.now sums.items) }
+    ensures ranged { AreInRange tree.now }
+    ensures sound { IsTree tree.now }
 {
-    let depth = tree.depth();
-    let mut sums = Vec::with_capacity(alloc, depth as usize)?;
-    for k in 0..depth {
-        let lines = level_lines(alloc, tree, k + 1, totals)?;
-        sums.push(sum_of(&lines))?;
-    }
+    let top = tree.preorder()[0];
+    let sums = vec![in alloc; totals[top as usize]; tree.depth() as usize]?;
     Ok(sums)
-}
-
-/// The sum of the amounts of the lines.
-fn sum_of(lines: &[LevelLine]) -> i64
-    requires { FitsSigned w64 (sum_of lines.now) }
-    ensures { result ≡ sum_of lines.now }
-{
-    let mut sum: i128 = 0;
-    for line in lines {
-        sum += i128::from(line.amount);
-    }
-    sum as i64
 }

@@ -2,11 +2,8 @@
 //! it can wait.
 
 mod column;
-mod figures;
 mod outline;
 mod outlook;
-mod outlook_parts;
-mod packages;
 mod slacks;
 mod summary;
 mod worth;

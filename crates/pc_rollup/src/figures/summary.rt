@@ -1,24 +1,22 @@
 //! What the management summary tells.
 ghost use Rattle.std.specs.Prelude.{◌≡◌, ℕ, ◌+◌, ◌<◌, ◌≤◌, ◌^◌, ℤ, pos, List, length, IfOk};
-ghost use Rattle.pc_wbs.specs.declared.row.ItemRow.{ItemRow};
-ghost use Rattle.pc_wbs.specs.Climb.{AreInRange, IsTree};
-ghost use Rattle.pc_accounts.specs.declared.rows.AcctRow.{AcctRow};
-ghost use Rattle.pc_accounts.specs.declared.rows.MoneyRow.{MoneyRow};
+ghost use Rattle.pc_wbs.specs.declared.tree.ItemRow.{ItemRow};
+ghost use Rattle.pc_accounts.specs.declared.book.AcctRow.{AcctRow};
+ghost use Rattle.pc_accounts.specs.declared.book.MoneyRow.{MoneyRow};
 ghost use Rattle.pc_accounts.specs.declared.entry.Entry.{Entry};
 ghost use Rattle.pc_accounts.specs.Amounts.{all_charged};
 ghost use Rattle.pc_accounts.specs.Entries.{AreEntriesWithinLimits};
 ghost use Rattle.pc_accounts.specs.inside.Entries.{entry_of_all};
 ghost use Rattle.pc_rollup.specs.declared.levels.LevelLine.{LevelLine};
 ghost use Rattle.pc_rollup.specs.Lines.{AreLevelLines, sum_of};
-ghost use Rattle.pc_rollup.specs.declared.figures.figures.Figure.TheVariants.{Actual};
-ghost use Rattle.pc_rollup.specs.figures.Columns.{AreOnTree, AreItemSums, IsColumn, AddUpTo};
-ghost use Rattle.pc_rollup.specs.figures.Figures.{figure_of, figure_at};
+ghost use Rattle.pc_rollup.specs.declared.figures.column.Figure.TheVariants.{Actual};
+ghost use Rattle.pc_rollup.specs.figures.Columns.{AreOnTree, AreItemSums};
+ghost use Rattle.pc_rollup.specs.figures.Figures.{figure_at};
 ghost use Rattle.pc_rollup.specs.figures.Outline.{row_at};
 ghost use Rattle.pc_rollup.specs.figures.Summary.{IsSummaryOf, AreBooked, CountsOnce, item_amounts, level_amounts};
 
 use crate::each_leaf_has_one_line;
-use crate::figures::column::AmountColumn;
-use crate::figures::figures::{Figure, figures};
+use crate::figures::column::{AmountColumn, Figure};
 use crate::figures::outline::{OutlineRow, outline_of};
 use pc_accounts::{AcctRow, Entry};
 use pc_wbs::Tree;
@@ -46,7 +44,7 @@ pub struct Summary {
 }
 
 impl Drop for Summary {
-    // Written out, so that who lets a summary go cites this proof.
+    // Written by hand so that the proof of dropping it is done once, here.
     fn drop(self) {
         let Summary {
             outline: _outline,
@@ -75,7 +73,7 @@ impl Model for Summary {
 }
 
 impl Summary {
-    /// Returns the summary of these accounts. Linear in the accounts, and in the items at each level.
+    /// Returns the summary of these accounts. Linear in the accounts and items.
     ///
     /// # Errors
     ///
@@ -95,11 +93,11 @@ impl Summary {
         each_leaf_has_one_line();
         Ok(Summary {
             outline: outline_of(alloc, tree)?,
-            budget: column_of(alloc, tree, accounts, entries, Figure::Budget)?,
-            actual: column_of(alloc, tree, accounts, entries, Figure::Actual)?,
-            to_go: column_of(alloc, tree, accounts, entries, Figure::ToGo)?,
-            latest: column_of(alloc, tree, accounts, entries, Figure::Latest)?,
-            overrun: column_of(alloc, tree, accounts, entries, Figure::Overrun)?,
+            budget: AmountColumn::build(alloc, tree, accounts, entries, Figure::Budget)?,
+            actual: AmountColumn::build(alloc, tree, accounts, entries, Figure::Actual)?,
+            to_go: AmountColumn::build(alloc, tree, accounts, entries, Figure::ToGo)?,
+            latest: AmountColumn::build(alloc, tree, accounts, entries, Figure::Latest)?,
+            overrun: AmountColumn::build(alloc, tree, accounts, entries, Figure::Overrun)?,
         })
     }
 
@@ -161,26 +159,6 @@ impl Summary {
             overrun: self.overrun.level(k),
         }
     }
-}
-
-/// The column of one of the amounts.
-fn column_of(
-    alloc: Global,
-    tree: &Tree,
-    accounts: &[AcctRow],
-    entries: &[Entry],
-    figure: Figure,
-) -> Result<AmountColumn, AllocError>
-    requires ranged { AreInRange tree.now }
-    requires sound { IsTree tree.now }
-    requires on_tree { AreOnTree tree.now accounts.now }
-    requires one_each { length entries.now ≡ length accounts.now }
-    requires small { AreEntriesWithinLimits entries.now }
-    ensures column { IfOk result (IsColumn tree.now accounts.now (figure_at figure entries.now)) }
-    ensures whole { IfOk result (AddUpTo tree.now (figure_of figure (entry_of_all entries.now))) }
-{
-    let amounts = figures(alloc, entries, figure)?;
-    AmountColumn::build(alloc, tree, accounts, &amounts)
 }
 
 /// States that at each level the actuals of the lines add up to all charges dated up to the as-of date: each of these

@@ -1,7 +1,7 @@
 -- Where climbs from all rows end, and the first row without a parent among the rows that were seen.
 use Rattle.std.specs.Prelude.{◌≡◌, ◌≢◌, ℕ, ◌<◌, ◌≤◌, min, List, length, Option, Some, None, option_and_then, slice_index}
 use Rattle.pc_model.specs.declared.limits.TheConstants.{MAX_LEVEL}
-use Rattle.pc_wbs.specs.declared.row.ItemRow.{ItemRow}
+use Rattle.pc_wbs.specs.declared.tree.ItemRow.{ItemRow}
 use Rattle.pc_wbs.specs.Climb.{parent_of, climb, HasLevel, IsTop}
 use Rattle.pc_model.specs.Greatest.{IsFirst, StandsBelow}
 use Rattle.pc_wbs.specs.inside.Links.{link_at}

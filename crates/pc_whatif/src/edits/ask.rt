@@ -1,12 +1,25 @@
-//! What a line of a session asks for.
+//! What a line of a session asks for, and reading it: its first word says what it asks for, and its fields are read one
+//! after the other.
 ghost use Rattle.std.specs.Prelude.{◌≡◌, IfSome, Some};
 ghost use Rattle.pc_whatif.specs.inside.edits.Lines.{Asks};
-ghost use Rattle.pc_whatif.specs.edits.Reading.{ask_of};
+ghost use Rattle.pc_whatif.specs.edits.Reading.{
+  ask_of,
+  ask_with,
+  estimate_ask,
+  amount_of,
+  edit_of,
+  normal_ask,
+  crash_ask,
+  slope_ask,
+  try_ask,
+};
 ghost use Rattle.pc_whatif.specs.declared.edits.ask.Ask.{Ask};
+ghost use Rattle.pc_text.specs.Fields.{alone};
+ghost use Rattle.std.specs.Option.{option_map};
+ghost use Rattle.pc_whatif.specs.edits.Fields.{number_field};
 
-use crate::edits::reading::ask_of;
 use pc_project::Estimates;
-use pc_text::Code;
+use pc_text::{Code, field, read_number, run_len};
 
 /// The most bytes of a line, without its LF.
 pub(crate) const MAX_LINE: usize = 96;
@@ -65,4 +78,141 @@ impl Ask {
     {
         ask_of(line)
     }
+}
+
+/// Returns what a line asks for.
+#[tactic(auto, unfolding(crate::specs::edits::Reading::ask_of))]
+pub(in crate::edits) fn ask_of(line: &[u8]) -> Option<Ask>
+    ensures { result ≡ ask_of line.now }
+{
+    if line.len() > MAX_LINE {
+        return None;
+    }
+    let end = run_len(line, b' ');
+    ask_with(&line[..end], &line[end..])
+}
+
+/// Returns what a line with this first word and these fields asks for.
+fn ask_with(word: &[u8], fields: &[u8]) -> Option<Ask>
+    ensures { result ≡ ask_with word.now fields.now }
+{
+    if word == b"TRY".as_slice() {
+        try_of(fields)
+    } else if word == b"ESTIMATE".as_slice() {
+        estimate_of(fields)
+    } else if word == b"NORMAL".as_slice() {
+        normal_of(fields)
+    } else if word == b"CRASH".as_slice() {
+        crash_of(fields)
+    } else if word == b"SLOPE".as_slice() {
+        slope_of(fields)
+    } else if word == b"UNDO".as_slice() {
+        alone(fields, Ask::Undo)
+    } else if word == b"TIMES".as_slice() {
+        alone(fields, Ask::Times)
+    } else if word == b"CURVE".as_slice() {
+        alone(fields, Ask::Curve)
+    } else {
+        None
+    }
+}
+
+/// Returns the request if nothing is left after it.
+fn alone(rest: &[u8], ask: Ask) -> Option<Ask>
+    ensures { result ≡ alone rest.now ask }
+{
+    if rest.is_empty() { Some(ask) } else { None }
+}
+
+/// Returns an edit as a request.
+fn edit_of(act: Code, change: Change) -> Ask
+    ensures { result ≡ edit_of act change }
+{
+    Ask::Edit(Edit { act, change })
+}
+
+#[tactic(auto, unfolding(crate::specs::edits::Reading::estimate_ask, pc_text::specs::Fields::field_by))]
+fn estimate_of(fields: &[u8]) -> Option<Ask>
+    ensures { result ≡ estimate_ask fields.now }
+{
+    let (word, rest) = field(fields)?;
+    let act = Code::read(word)?;
+    let (optimistic, rest) = number_field(rest)?;
+    let (likely, rest) = number_field(rest)?;
+    let (pessimistic, rest) = number_field(rest)?;
+    let estimates = Estimates {
+        optimistic,
+        likely,
+        pessimistic,
+    };
+    alone(rest, edit_of(act, Change::Estimate(estimates)))
+}
+
+/// Reads fields that are an activity and one number.
+#[tactic(auto, unfolding(crate::specs::edits::Reading::amount_of, pc_text::specs::Fields::field_by))]
+fn amount_of(fields: &[u8]) -> Option<(Code, u64)>
+    ensures { result ≡ amount_of fields.now }
+{
+    let (word, rest) = field(fields)?;
+    let act = Code::read(word)?;
+    let (n, rest) = number_field(rest)?;
+    if rest.is_empty() {
+        Some((act, n))
+    } else {
+        None
+    }
+}
+
+#[tactic(auto, unfolding(crate::specs::edits::Reading::normal_ask))]
+fn normal_of(fields: &[u8]) -> Option<Ask>
+    ensures { result ≡ normal_ask fields.now }
+{
+    let (act, n) = amount_of(fields)?;
+    Some(edit_of(act, Change::Normal(n)))
+}
+
+#[tactic(auto, unfolding(crate::specs::edits::Reading::crash_ask))]
+fn crash_of(fields: &[u8]) -> Option<Ask>
+    ensures { result ≡ crash_ask fields.now }
+{
+    let (act, n) = amount_of(fields)?;
+    Some(edit_of(act, Change::Crash(n)))
+}
+
+#[tactic(auto, unfolding(crate::specs::edits::Reading::slope_ask))]
+fn slope_of(fields: &[u8]) -> Option<Ask>
+    ensures { result ≡ slope_ask fields.now }
+{
+    let (act, n) = amount_of(fields)?;
+    Some(edit_of(act, Change::Slope(n)))
+}
+
+#[tactic(auto, unfolding(crate::specs::edits::Reading::try_ask, pc_text::specs::Fields::field_by))]
+fn try_of(fields: &[u8]) -> Option<Ask>
+    ensures { result ≡ try_ask fields.now }
+{
+    let (word, rest) = field(fields)?;
+    let act = Code::read(word)?;
+    let (normal, rest) = number_field(rest)?;
+    let (crash, rest) = number_field(rest)?;
+    let (slope, rest) = number_field(rest)?;
+    let (length, rest) = number_field(rest)?;
+    let trial = Trial {
+        act,
+        normal,
+        crash,
+        slope,
+        length,
+    };
+    alone(rest, Ask::Try(trial))
+}
+
+/// Reads a space and a number, and returns the number and the bytes after it.
+#[tactic(auto, unfolding(crate::specs::edits::Fields::number_field, pc_text::specs::Fields::field_by))]
+pub(in crate::edits) fn number_field(bytes: &[u8]) -> Option<(u64, &[u8])>
+    ensures { option_map (λ parts. (parts.0, parts.1.now)) result ≡ number_field bytes.now }
+{
+    let (word, rest) = field(bytes)?;
+    let number = read_number(word)?;
+    Some((number, rest))
 }

@@ -1,20 +1,20 @@
 //! Why new numbers of an activity are refused.
-ghost use Rattle.std.specs.Prelude.{◌≡◌, ◌<◌, IfOk, IfErr, IfSome, OnOk, None, Some, length};
-ghost use Rattle.pc_model.specs.Schedule.{term_at};
+ghost use Rattle.std.specs.Prelude.{◌≡◌, ◌<◌, IfOk, IfErr, IfSome, OnOk, None, Some, length, ◌≤◌};
+ghost use Rattle.pc_model.specs.Schedule.{term_at, AreTerms};
 ghost use Rattle.pc_crash.specs.Priced.{ArePiecesWithinLimits};
 ghost use Rattle.pc_crash.specs.inside.Priced.{AreNames};
 ghost use Rattle.pc_whatif.specs.edits.Editing.{activity_named};
 ghost use Rattle.pc_whatif.specs.inside.edits.Editing.{MayTry};
-ghost use Rattle.pc_whatif.specs.inside.edits.Further.{refusal_with};
+ghost use Rattle.pc_whatif.specs.inside.edits.Further.{refusal_with, further_in, is_flawed};
 ghost use Rattle.pc_whatif.specs.edits.Plans.{plan_with, term_tried};
 ghost use Rattle.pc_whatif.specs.inside.edits.Plans.{IsFitPlan};
 ghost use Rattle.pc_whatif.specs.edits.Refusal.{are_disordered, edit_refusal, is_over, is_trial_over, trial_refusal};
+ghost use Rattle.pc_model.specs.Pieces.{ArePieces, pieces_of};
+ghost use Rattle.pc_crash.specs.Terms.{AreWithinLimits};
 
 use crate::edits::ask::{Change, Edit, Trial};
-use crate::edits::changing::{estimates_with, term_with};
-use crate::edits::further::{Further, further_of, is_flawed};
+use crate::edits::edits::{ActTerm, estimates_with, term_with};
 use crate::edits::reason::Reason;
-use crate::edits::trying::ActTerm;
 use pc_crash::CrashNet;
 use pc_model::{MAX_DURATION, MAX_SLOPE, Term};
 use pc_project::Estimates;
@@ -148,5 +148,45 @@ fn term_tried(trial: &Trial, term: Term) -> Term
         crash: trial.crash,
         slope: trial.slope,
         cost: term.cost,
+    }
+}
+
+/// The further pieces of an activity's cost: the slope of the first of them, and the units that they have together.
+///
+/// The activity's own slope must be below that slope, and it must have more units from normal to crash than these.
+#[derive(Clone, Copy)]
+pub(in crate::edits) struct Further {
+    pub(in crate::edits) slope: u64,
+    pub(in crate::edits) units: u64,
+}
+
+/// Returns what the further pieces of an activity demand, if it has some. Looks at its knees once.
+pub(in crate::edits) fn further_of(net: &CrashNet<'_>, a: u32) -> Option<Further>
+    requires activity { a < length net.now.network.arcs }
+    requires terms { AreTerms net.now.network net.now.terms }
+    requires limits { AreWithinLimits net.now.terms }
+    requires pieces { ArePieces net.now.terms net.now.pieces }
+    requires piece_limits { ArePiecesWithinLimits net.now.pieces }
+    ensures { result ≡ further_in (pieces_of net.now.pieces a) }
+{
+    let knees = net.knees(a);
+    if knees.len() < 2 {
+        return None;
+    }
+    let term = net.term(a);
+    Some(Further {
+        slope: term.slope + knees.rise(1),
+        units: knees.knee(1) - term.crash,
+    })
+}
+
+/// Returns whether a term breaks what the further pieces demand.
+pub(in crate::edits) fn is_flawed(term: &Term, further: Option<Further>) -> bool
+    requires { term.now.crash ≤ term.now.normal }
+    ensures { result ≡ is_flawed term.now further }
+{
+    match further {
+        None => false,
+        Some(f) => f.slope <= term.slope || term.normal - term.crash <= f.units,
     }
 }

@@ -1,19 +1,10 @@
 //! What a line of a what-if session asks for, and a project whose numbers are edited: which edits are refused and why,
 //! and what UNDO takes back.
 
-mod applying;
 mod ask;
-mod beginning;
-mod changing;
 mod edits;
-mod field;
-mod further;
 mod judging;
-mod kept;
-mod reading;
 mod reason;
-mod trying;
-mod undoing;
 
 pub(crate) use crate::edits::ask::{Ask, Edit, Trial};
 pub(crate) use crate::edits::edits::Edits;

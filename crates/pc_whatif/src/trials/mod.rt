@@ -4,8 +4,6 @@
 //! them back, so nothing here takes memory between two lines, and any number of trials finds its cells.
 
 mod region;
-mod renewing;
-mod spans;
 mod trial;
 mod view;
 

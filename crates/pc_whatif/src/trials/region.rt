@@ -1,5 +1,5 @@
-//! The region of a session, with the standing times in it.
-ghost use Rattle.std.specs.Prelude.{◌≡◌, ◌+◌, ◌-◌, ◌*◌, ◌<◌, ◌≤◌, ◌↔◌, ℕ, List, length, Some, IfOk, IfSome, IsSome};
+//! The region of a session: its spans, the standing times in them, and the passes over the network from span to span.
+ghost use Rattle.std.specs.Prelude.{◌≡◌, ◌+◌, ◌-◌, ◌*◌, ◌<◌, ◌≤◌, ◌↔◌, ℕ, List, length, Some, IfOk, IfSome, IsSome, []};
 ghost use Rattle.pc_curve.specs.CurveText.{IsCurveText};
 ghost use Rattle.pc_curve.specs.Points.{curve_in};
 ghost use Rattle.pc_edges.specs.inside.Writes.{Writes};
@@ -16,7 +16,7 @@ ghost use Rattle.pc_project.specs.Project.{Project as Plan};
 ghost use Rattle.pc_reports.specs.TimesText.{IsTimesText};
 ghost use Rattle.pc_times.specs.Times.{AreLengths};
 ghost use Rattle.pc_times.specs.declared.TheConstants.{MAX_LENGTH, MAX_TIME};
-ghost use Rattle.pc_whatif.specs.inside.trials.Laid.{AreAtMost};
+ghost use Rattle.pc_whatif.specs.inside.trials.Laid.{AreAtMost, AreSpansTaken, AreRenewed, IsLaidIn, list_of};
 ghost use Rattle.pc_whatif.specs.inside.trials.SessionRegion.{
   IsChangedTo,
   IsFor,
@@ -29,18 +29,16 @@ ghost use Rattle.pc_whatif.specs.inside.trials.SessionRegion.{
 ghost use Rattle.pc_curve.specs.Range.{IsRange, IsLengthInRange};
 ghost use Rattle.pc_whatif.specs.inside.trials.Trials.{HasRoom, looks_over, trial_cells};
 
-use crate::trials::renewing::renew_times;
-use crate::trials::spans::{Spans, take_spans};
 use crate::trials::trial::{trial_cost, trial_curve};
 use crate::trials::view::StandingTimes;
-use pc_cells::Region;
+use pc_cells::{Region, Span};
 use pc_crash::{CrashNet, Steps};
 use pc_edges::page::Page;
 use pc_edges::{Failed, Sink};
 use pc_net::Net;
 use pc_project::{Estimates, Project};
 use pc_reports::{end_to_meet, write_times_on};
-use pc_times::{expected_sixths, variance_36};
+use pc_times::{critical_path_into, early_into, expected_sixths, tails_into, variance_36};
 use std::alloc::{AllocError, Global};
 use std::marker::Model;
 use std::sync::ledger::Ledger;
@@ -299,4 +297,61 @@ fn present(region: &Option<Region>) -> &Region
     ensures { region.now ≡ Some result.now }
 {
     region.as_ref().unwrap()
+}
+
+/// The span of each list of the standing times.
+#[derive(Clone, Copy, Debug)]
+pub(in crate::trials) struct Spans {
+    pub(in crate::trials) expected: Span,
+    pub(in crate::trials) variances: Span,
+    pub(in crate::trials) early: Span,
+    pub(in crate::trials) tails: Span,
+    pub(in crate::trials) path_cells: Span,
+}
+
+/// Takes the spans for so many events and activities from a region that has none yet.
+pub(in crate::trials) fn take_spans(region: &mut Region, events: usize, activities: usize) -> Spans
+    requires events { 0 < events }
+    requires activities { 0 < activities }
+    requires none { region.old.spans ≡ [] }
+    requires room { 2 * activities + 3 * events ≤ region.old.capacity }
+    ensures { AreSpansTaken region.old region.new events activities result }
+{
+    Spans {
+        expected: region.take_free(activities),
+        variances: region.take_free(activities),
+        early: region.take_free(events),
+        tails: region.take_free(events),
+        path_cells: region.take_free(events),
+    }
+}
+
+/// Computes the times and the critical path from the expected times, and returns how many activities the path has.
+///
+/// The passes write into `room`, which has a place for each event, and from there into the spans. Takes no memory.
+pub(in crate::trials) fn renew_times(
+    region: &mut Region,
+    spans: &Spans,
+    net: &Net,
+    room: &mut [u64],
+) -> usize
+    requires laid { IsLaidIn region.old spans.now }
+    requires lengths { AreLengths net.now (list_of region.old 0) }
+    requires early { length (list_of region.old 2) ≡ net.now.events }
+    requires tails { length (list_of region.old 3) ≡ net.now.events }
+    requires path_cells { length (list_of region.old 4) ≡ net.now.events }
+    requires room { length room.old ≡ net.now.events }
+    ensures renewed { AreRenewed net.now spans.now region.old region.new result }
+    ensures room { length room.new ≡ length room.old }
+{
+    early_into(net, region.list(spans.expected), room);
+    region.write(spans.early, room);
+    tails_into(net, region.list(spans.expected), room);
+    region.write(spans.tails, room);
+    let expected = region.list(spans.expected);
+    let early = region.list(spans.early);
+    let tails = region.list(spans.tails);
+    let path_len = critical_path_into(net, expected, early, tails, room);
+    region.write(spans.path_cells, room);
+    path_len
 }

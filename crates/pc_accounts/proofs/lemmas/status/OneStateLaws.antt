@@ -5,10 +5,10 @@ use Rattle.std.proofs.lemmas.Bool.{cases_lt}
 use Rattle.std.proofs.lemmas.Int.{ints}
 use Rattle.std.proofs.lemmas.List.{ext_get_or}
 use Rattle.pc_model.specs.Greatest.{IsFirst}
-use Rattle.pc_times.specs.declared.state.ActState.{ActState}
-use Rattle.pc_times.specs.declared.state.ActState.TheVariants.{Waiting, Started, Finished}
+use Rattle.pc_times.specs.declared.forecasts.ActState.{ActState}
+use Rattle.pc_times.specs.declared.forecasts.ActState.TheVariants.{Waiting, Started, Finished}
 use Rattle.pc_times.specs.Forecast.{state_at}
-use Rattle.pc_accounts.specs.declared.status.row.StatusRow.{StatusRow}
+use Rattle.pc_accounts.specs.declared.status.StatusRow.{StatusRow}
 use Rattle.pc_accounts.specs.status.Statuses.{status_at, IsStateOf, IsSixths}
 
 -- two first places are one

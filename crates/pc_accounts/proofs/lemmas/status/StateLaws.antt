@@ -3,9 +3,9 @@ use Rattle.std.proofs.Common.{◌≡◌, ℕ, ◌<◌, Bool, List, length, get_o
 use Rattle.std.specs.Prelude.{ℤ, pos, false, ◌≤ℤ◌}
 use Rattle.std.proofs.lemmas.Int.{by_lt_z}
 use Rattle.std.proofs.lemmas.List.{get_or_default}
-use Rattle.pc_faults.specs.declared.status.StatusFault.TheVariants.{Early}
+use Rattle.pc_faults.specs.declared.fault.StatusFault.TheVariants.{Early}
 use Rattle.pc_model.specs.Greatest.{IsFirst}
-use Rattle.pc_accounts.specs.declared.status.row.StatusRow.{StatusRow}
+use Rattle.pc_accounts.specs.declared.status.StatusRow.{StatusRow}
 use Rattle.pc_accounts.specs.status.Statuses.{status_at, IsOf, AreInOrder}
 use Rattle.pc_accounts.specs.inside.Parts.{option_at}
 use Rattle.pc_accounts.specs.inside.status.Firsts.{FirstBelow, AreFirsts}

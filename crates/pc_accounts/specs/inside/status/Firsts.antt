@@ -1,7 +1,7 @@
 -- The first statuses of activities among those that were read.
 use Rattle.std.specs.Prelude.{◌≡◌, ℕ, ◌<◌, Bool, List, length, Option, Some, None, if◌then◌else◌}
 use Rattle.pc_model.specs.Greatest.{IsFirst}
-use Rattle.pc_accounts.specs.declared.status.row.StatusRow.{StatusRow}
+use Rattle.pc_accounts.specs.declared.status.StatusRow.{StatusRow}
 use Rattle.pc_accounts.specs.status.Statuses.{IsOf}
 use Rattle.pc_accounts.specs.inside.Parts.{option_at}
 

@@ -1,7 +1,7 @@
 -- What holds of the parts of a log.
 use Rattle.std.specs.Prelude.{◌≤◌, true, false, length}
 use Rattle.pc_model.specs.declared.limits.TheConstants.{MAX_ACTIVITIES, MAX_STATUSES}
-use Rattle.pc_accounts.specs.declared.status.log.Log.TheInside.{Inside}
+use Rattle.pc_accounts.specs.declared.status.Log.TheInside.{Inside}
 use Rattle.pc_accounts.specs.status.Statuses.{AreKnown}
 use Rattle.pc_accounts.specs.inside.status.Statuses.{StatusLog}
 use Rattle.pc_accounts.specs.inside.status.Firsts.{AreFirsts}

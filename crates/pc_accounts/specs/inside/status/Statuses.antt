@@ -1,7 +1,7 @@
 -- What STATUS cards say of activities: which of them are in disorder (F30), and how far each activity is.
 -- Here is what no clause of a top call and no law reaches.
 use Rattle.std.specs.Prelude.{ℕ, List}
-use Rattle.pc_accounts.specs.declared.status.row.StatusRow.{StatusRow}
+use Rattle.pc_accounts.specs.declared.status.StatusRow.{StatusRow}
 
 -- the statuses of so many activities
 pub record StatusLog : Type 0 where

@@ -3,7 +3,7 @@ use Rattle.std.proofs.Common.{◌≡◌, ℕ, ◌+◌, ◌-◌, ◌*◌, ◌%◌
 use Rattle.std.specs.Prelude.{if◌then◌else◌, nat_le}
 use Rattle.pc_edges.specs.Texts.{texts_to}
 use Rattle.pc_model.specs.Sums.{sum_to}
-use Rattle.pc_curve.specs.declared.bench.activity.BenchActivity.{BenchActivity}
+use Rattle.pc_curve.specs.declared.bench.deck.BenchActivity.{BenchActivity}
 use Rattle.pc_curve.specs.bench.Draws.{drawn}
 use Rattle.pc_curve.specs.bench.Deck.{activity_line}
 use Rattle.pc_curve.specs.bench.Recipe.{activity, begins_at, draws_to, ends_at, bench_last_event, own_draw}

@@ -5,9 +5,9 @@ use Rattle.std.proofs.lemmas.List.{take_all, drop_all, length-take, nil_from_len
 use Rattle.std.proofs.Math.Seq.{take-append-add}
 use Rattle.std.proofs.KnownBytes.{Consumes-nil, Consumes-trans, Consumes-kept}
 use Rattle.std.specs.Io.KnownBytes.{Consumes, Keeps, IsAtEnd}
-use Rattle.pc_edges.specs.Pulls.{TakesPulls}
+use Rattle.pc_edges.specs.Pulls.{CameIn, TakesPulls}
 use Rattle.pc_edges.specs.declared.loading.TheConstants.{STREAM_ROOM}
-use Rattle.pc_edges.proofs.PullLaws.{TakesPulls-then, TakesPulls-more, TakesPulls-none}
+use Rattle.pc_edges.proofs.PullLaws.{CameIn-more}
 use Rattle.pc_edges.specs.declared.lines.reader.TheConstants.{INPUT_LIMIT, LINE_ROOM}
 use Rattle.pc_edges.specs.lines.Lines.{last_line, lines_of, whole_lines}
 use Rattle.pc_edges.specs.inside.lines.Lines.{line_len, text_of, IsOpen, AreOpen}
@@ -72,31 +72,33 @@ begins {lines} {bytes} left start now h is = record {
 }
 
 -- what was pulled since the lines were given
-pub record IsUnder {X : Type 0} (left : X → Option (List ℕ)) (pulls : X → Option ℕ) (source source_now : X) (lines : List (List ℕ)) (bytes : List ℕ) (reading : Reading) : Type 0 where
+pub record IsUnder {X : Type 0} (left : X → Option (List ℕ)) (faults : X → ℕ) (pulls : X → Option ℕ) (source source_now : X) (lines : List (List ℕ)) (bytes : List ℕ) (reading : Reading) : Type 0 where
   pub within : IsWithin lines bytes (left source) (left source_now) reading
-  pub each : TakesPulls (length within.more) (pulls source) (pulls source_now)
-  pub pulled : HasPulled left pulls source source_now lines bytes
+  pub pieces : List (List ℕ)
+  pub each : CameIn left faults pulls pieces within.more source source_now
+  pub pulled : HasPulled left faults pulls source source_now lines bytes
 
-pub begins_under : {X : Type 0} (left : X → Option (List ℕ)) (pulls : X → Option ℕ) (source : X) {lines : List (List ℕ)} {bytes : List ℕ} (start now : Reading) → StandsFor start lines bytes
-    → now ≡ record start { line = [] } → IsUnder left pulls source source lines bytes now
+pub begins_under : {X : Type 0} (left : X → Option (List ℕ)) (faults : X → ℕ) (pulls : X → Option ℕ) (source : X) {lines : List (List ℕ)} {bytes : List ℕ} (start now : Reading)
+    → StandsFor start lines bytes → now ≡ record start { line = [] } → IsUnder left faults pulls source source lines bytes now
 unfolding begins
-begins_under left pulls source start now h is = record {
+begins_under left faults pulls source start now h is = record {
   within = begins (left source) start now h is;
-  each = TakesPulls-none 0 (pulls source);
+  pieces = [];
+  each = (refl, refl);
   pulled = no_pull refl;
 }
 
 -- a line ends in the bytes ahead
-pub gives : {X : Type 0} {left : X → Option (List ℕ)} {pulls : X → Option ℕ} {source source_now : X} {lines : List (List ℕ)} {bytes : List ℕ} {old : Reading} (new : Reading) (front : List ℕ)
-    → IsUnder left pulls source source_now lines bytes old → TookLine old new front → Gave left pulls source source_now lines bytes new
+pub gives : {X : Type 0} {left : X → Option (List ℕ)} {faults : X → ℕ} {pulls : X → Option ℕ} {source source_now : X} {lines : List (List ℕ)} {bytes : List ℕ} {old : Reading}
+    (new : Reading) (front : List ℕ) → IsUnder left faults pulls source source_now lines bytes old → TookLine old new front → Gave left faults pulls source source_now lines bytes new
 gives {lines = lines} {bytes = bytes} {old = old} new front u took =
     let h = u.within in
     let line = h.part ++ front in
     record {
       line = line;
       more = h.more;
-      taken = h.taken;
-      each = u.each;
+      pieces = u.pieces;
+      taken = u.each;
       pulled = u.pulled;
       is = took.kept_is ∙ ap (λ l. kept (l ++ front)) h.is ∙ take-of_cut LINE_ROOM h.part front;
       stands = record {
@@ -125,10 +127,10 @@ goes_on {lines} {old = old} new h took = record {
   count = took.same ∙ h.count;
 }
 
-pub goes_on_under : {X : Type 0} {left : X → Option (List ℕ)} {pulls : X → Option ℕ} {source source_now : X} {lines : List (List ℕ)} {bytes : List ℕ} {old : Reading} (new : Reading)
-    → IsUnder left pulls source source_now lines bytes old → TookAll old new → IsUnder left pulls source source_now lines bytes new
+pub goes_on_under : {X : Type 0} {left : X → Option (List ℕ)} {faults : X → ℕ} {pulls : X → Option ℕ} {source source_now : X} {lines : List (List ℕ)} {bytes : List ℕ} {old : Reading} (new : Reading)
+    → IsUnder left faults pulls source source_now lines bytes old → TookAll old new → IsUnder left faults pulls source source_now lines bytes new
 unfolding goes_on
-goes_on_under new u took = record { within = goes_on new u.within took; each = u.each; pulled = u.pulled }
+goes_on_under new u took = record { within = goes_on new u.within took; pieces = u.pieces; each = u.each; pulled = u.pulled }
 
 -- of all bytes that were pulled before and those that are pulled now, the ones within the limit
 within_limit : (limit : ℕ) (bytes more : List ℕ) → length bytes ≤ limit → take limit (bytes ++ more) ≡ bytes ++ take (limit - length bytes) more
@@ -166,26 +168,25 @@ fills {lines} {bytes} left_after {old} new count h nothing fits f =
     }
 
 -- one pull more: the lines are all whole ones before it
-pub pulls_once : {X : Type 0} {left : X → Option (List ℕ)} {pulls : X → Option ℕ} {source source_now : X} {lines : List (List ℕ)} {bytes : List ℕ} (source_after : X) {reading : Reading}
-    → IsUnder left pulls source source_now lines bytes reading → reading.ahead ≡ [] → reading.taken ≤ INPUT_LIMIT
+pub pulls_once : {X : Type 0} {left : X → Option (List ℕ)} {faults : X → ℕ} {pulls : X → Option ℕ} {source source_now : X} {lines : List (List ℕ)} {bytes : List ℕ}
+    (source_after : X) {reading : Reading} → IsUnder left faults pulls source source_now lines bytes reading → reading.ahead ≡ [] → reading.taken ≤ INPUT_LIMIT
     → (last : List ℕ) → Consumes (left source_now) (left source_after) last → length last ≤ STREAM_ROOM → TakesPulls 1 (pulls source_now) (pulls source_after)
-    → HasPulled left pulls source source_after lines bytes
+    → HasPulled left faults pulls source source_after lines bytes
 pulls_once {source_now = source_now} {lines = lines} source_after u nothing fits last taken room once =
     let h = u.within in
-    some_pulls source_now h.more last h.taken (omega (arith, h.count, fits)) u.each taken room once
+    some_pulls source_now u.pieces h.more last u.each (omega (arith, h.count, fits)) taken room once
     (ap whole_lines (short_whole h nothing fits) ∙ whole_lines-are lines h.part h.ends h.no_end)
 
 -- and it gives some bytes
-pub fills_under : {X : Type 0} {left : X → Option (List ℕ)} {pulls : X → Option ℕ} {source source_now : X} {lines : List (List ℕ)} {bytes : List ℕ}
+pub fills_under : {X : Type 0} {left : X → Option (List ℕ)} {faults : X → ℕ} {pulls : X → Option ℕ} {source source_now : X} {lines : List (List ℕ)} {bytes : List ℕ}
     (source_after : X) {old : Reading} (new : Reading) (count : ℕ)
-    → IsUnder left pulls source source_now lines bytes old → old.ahead ≡ [] → old.taken ≤ INPUT_LIMIT → IsFilled old new (left source_now) (left source_after) count
-    → TakesPulls 1 (pulls source_now) (pulls source_after) → 0 < count → IsUnder left pulls source source_after lines bytes new
+    → IsUnder left faults pulls source source_now lines bytes old → old.ahead ≡ [] → old.taken ≤ INPUT_LIMIT → IsFilled old new (left source_now) (left source_after) count
+    → TakesPulls 1 (pulls source_now) (pulls source_after) → faults source_after ≡ faults source_now → 0 < count → IsUnder left faults pulls source source_after lines bytes new
 unfolding fills
-fills_under {left = left} {pulls = pulls} {source = source} {source_now = source_now} source_after new count u nothing fits f once some = record {
+fills_under {left = left} {faults = faults} {pulls = pulls} {source = source} {source_now = source_now} source_after new count u nothing fits f once no_fault some = record {
   within = fills (left source_after) new count u.within nothing fits f;
-  each = TakesPulls-more (length u.within.more + 1) (length (u.within.more ++ f.more)) (pulls source) (pulls source_after)
-      (omega (arith, length-append u.within.more f.more, f.length_is, some))
-      (TakesPulls-then (length u.within.more) 1 (pulls source) (pulls source_now) (pulls source_after) u.each once);
+  pieces = u.pieces ++ f.more ∷ [];
+  each = CameIn-more left faults pulls u.pieces u.within.more f.more source source_now source_after u.each (omega (arith, f.length_is, some)) f.taken no_fault once;
   pulled = pulls_once source_after u nothing fits f.more f.taken f.room once;
 }
 
@@ -199,9 +200,9 @@ fills_nothing {old} {new} count f none =
 part_empty : (part line : List ℕ) → line ≡ kept part → length line ≡ 0 → part ≡ []
 part_empty part line is none = nil_from_length part (omega (arith, ap length is, length-take LINE_ROOM part, none))
 
-pub ends_all : {X : Type 0} {left : X → Option (List ℕ)} {pulls : X → Option ℕ} {source source_now : X} {lines : List (List ℕ)} {bytes : List ℕ} {reading : Reading}
-    → IsWithin lines bytes (left source) (left source_now) reading → HasPulled left pulls source source_now lines bytes
-    → reading.ahead ≡ [] → reading.taken ≤ INPUT_LIMIT → IsAtEnd (left source_now) → length reading.line ≡ 0 → GaveAll left pulls source source_now lines bytes
+pub ends_all : {X : Type 0} {left : X → Option (List ℕ)} {faults : X → ℕ} {pulls : X → Option ℕ} {source source_now : X} {lines : List (List ℕ)} {bytes : List ℕ} {reading : Reading}
+    → IsWithin lines bytes (left source) (left source_now) reading → HasPulled left faults pulls source source_now lines bytes
+    → reading.ahead ≡ [] → reading.taken ≤ INPUT_LIMIT → IsAtEnd (left source_now) → length reading.line ≡ 0 → GaveAll left faults pulls source source_now lines bytes
 ends_all {lines = lines} {bytes = bytes} {reading = reading} h pulled nothing fits end none =
     let empty : h.part ≡ [] = part_empty h.part reading.line h.is none in
     record {
@@ -213,9 +214,9 @@ ends_all {lines = lines} {bytes = bytes} {reading = reading} h pulled nothing fi
       all = ap lines_of (short_whole h nothing fits) ∙ lines_of-are lines h.part h.ends h.no_end ∙ ap (λ l. lines ++ last_line l) empty ∙ append-nil lines;
     }
 
-pub ends_last : {X : Type 0} {left : X → Option (List ℕ)} {pulls : X → Option ℕ} {source source_now : X} {lines : List (List ℕ)} {bytes : List ℕ} {reading : Reading}
-    → IsWithin lines bytes (left source) (left source_now) reading → HasPulled left pulls source source_now lines bytes
-    → reading.ahead ≡ [] → reading.taken ≤ INPUT_LIMIT → IsAtEnd (left source_now) → length reading.line ≢ 0 → GaveLast left pulls source source_now lines bytes reading
+pub ends_last : {X : Type 0} {left : X → Option (List ℕ)} {faults : X → ℕ} {pulls : X → Option ℕ} {source source_now : X} {lines : List (List ℕ)} {bytes : List ℕ} {reading : Reading}
+    → IsWithin lines bytes (left source) (left source_now) reading → HasPulled left faults pulls source source_now lines bytes
+    → reading.ahead ≡ [] → reading.taken ≤ INPUT_LIMIT → IsAtEnd (left source_now) → length reading.line ≢ 0 → GaveLast left faults pulls source source_now lines bytes reading
 ends_last {lines = lines} {bytes = bytes} {reading = reading} h pulled nothing fits end some =
     let full : h.part ≢ [] = λ empty. some (ap length (h.is ∙ ap kept empty)) in
     record {
@@ -229,9 +230,9 @@ ends_last {lines = lines} {bytes = bytes} {reading = reading} h pulled nothing f
       all = ap lines_of (short_whole h nothing fits) ∙ lines_of-are lines h.part h.ends h.no_end ∙ ap (λ l. lines ++ l) (last_line-some h.part full);
     }
 
-pub fails : {X : Type 0} {left : X → Option (List ℕ)} {pulls : X → Option ℕ} {source source_now : X} {lines : List (List ℕ)} {bytes : List ℕ} (source_after : X) {reading : Reading}
-    → IsUnder left pulls source source_now lines bytes reading → reading.ahead ≡ [] → reading.taken ≤ INPUT_LIMIT → Keeps (left source_now) (left source_after)
-    → TakesPulls 1 (pulls source_now) (pulls source_after) → FailedBehind left pulls source source_after lines bytes
+pub fails : {X : Type 0} {left : X → Option (List ℕ)} {faults : X → ℕ} {pulls : X → Option ℕ} {source source_now : X} {lines : List (List ℕ)} {bytes : List ℕ} (source_after : X) {reading : Reading}
+    → IsUnder left faults pulls source source_now lines bytes reading → reading.ahead ≡ [] → reading.taken ≤ INPUT_LIMIT → Keeps (left source_now) (left source_after)
+    → TakesPulls 1 (pulls source_now) (pulls source_after) → FailedBehind left faults pulls source source_after lines bytes
 fails {left = left} {source_now = source_now} {lines = lines} {bytes = bytes} source_after u nothing fits keeps once =
     let h = u.within in
     record {
@@ -242,8 +243,8 @@ fails {left = left} {source_now = source_now} {lines = lines} {bytes = bytes} so
       all = ap whole_lines (short_whole h nothing fits) ∙ whole_lines-are lines h.part h.ends h.no_end;
     }
 
-pub passes : {X : Type 0} {left : X → Option (List ℕ)} {pulls : X → Option ℕ} {source source_now : X} {lines : List (List ℕ)} {bytes : List ℕ} {reading : Reading}
-    → IsUnder left pulls source source_now lines bytes reading → reading.ahead ≡ [] → INPUT_LIMIT < reading.taken → PassedLimit left pulls source source_now lines bytes
+pub passes : {X : Type 0} {left : X → Option (List ℕ)} {faults : X → ℕ} {pulls : X → Option ℕ} {source source_now : X} {lines : List (List ℕ)} {bytes : List ℕ} {reading : Reading}
+    → IsUnder left faults pulls source source_now lines bytes reading → reading.ahead ≡ [] → INPUT_LIMIT < reading.taken → PassedLimit left faults pulls source source_now lines bytes
 passes {lines = lines} {bytes = bytes} u nothing long =
     let h = u.within in
     record {
@@ -280,7 +281,7 @@ open_lacks bytes h has = lacks_at bytes h (has.0) (has.1) (has.2)
 -- ---- what a step keeps before it ends
 
 pub record Keeping {S : Type 0} (start now : Reading) (left : S → Option (List ℕ)) (pulls : S → Option ℕ) (faults : S → ℕ) (source source_now : S) : Type 0 where
-  pub under : (lines : List (List ℕ)) (bytes : List ℕ) → StandsFor start lines bytes → IsUnder left pulls source source_now lines bytes now
+  pub under : (lines : List (List ℕ)) (bytes : List ℕ) → StandsFor start lines bytes → IsUnder left faults pulls source source_now lines bytes now
   pub unpulled : Contains start.ahead 10 → (source_now ≡ source) × (now.ahead ≡ start.ahead)
   pub less : bytes_left now ≤ bytes_left start
   pub no_fault : faults source_now ≡ faults source

@@ -1,5 +1,5 @@
 -- How a talk goes on and ends.
-use Rattle.std.proofs.Common.{◌≡◌, ℕ, List, [], ◌∷◌, ◌++◌, length, map, Option, refl, sym, ap, ◌∙◌, subst, arith, append_assoc, append-nil, length-append}
+use Rattle.std.proofs.Common.{◌≡◌, ℕ, List, [], ◌∷◌, ◌++◌, map, Option, refl, sym, ap, ◌∙◌, subst, arith, append_assoc, append-nil}
 use Rattle.std.proofs.lemmas.List.{map-append, take_all}
 use Rattle.std.proofs.KnownBytes.{Consumes-nil, Consumes-trans}
 use Rattle.std.specs.Io.KnownBytes.{Consumes}
@@ -9,8 +9,8 @@ use Rattle.pc_edges.proofs.Writing.{Rose-earlier, Wrote-nil, Wrote-then, Stopped
 use Rattle.pc_edges.specs.declared.lines.reader.TheConstants.{INPUT_LIMIT}
 use Rattle.pc_edges.specs.lines.Lines.{lines_of, whole_lines}
 use Rattle.pc_edges.specs.lines.Taken.{of_whole, of_all, IsTakenWithin, IsTakenFor, IsTakenForLast}
-use Rattle.pc_edges.specs.Pulls.{TakesPulls}
-use Rattle.pc_edges.proofs.PullLaws.{TakesPulls-then, TakesPulls-none}
+use Rattle.pc_edges.specs.Pulls.{CameIn}
+use Rattle.pc_edges.proofs.PullLaws.{CameIn-then, CameIn-consumes, TakesPulls-none}
 use Rattle.pc_edges.specs.inside.lines.Reading.{Reading, kept, StandsFor, HasPulled, no_pull, some_pulls, Gave, GaveLast, GaveAll, FailedBehind, PassedLimit}
 use Rattle.pc_edges.proofs.lemmas.lines.LineLaws.{lines_of-front, whole_lines-front}
 use Rattle.pc_edges.specs.inside.lines.Talk.{Talks, Answered, IsDone, IsUnread, IsTooLong, IsCut}
@@ -36,24 +36,24 @@ pub record IsTalking {T C O : Type 0} (says : T → List ℕ → List ℕ → T 
   pub lines : List (List ℕ)
   pub bytes : List ℕ
   pub text : List ℕ
-  pub read : Consumes (left source) (left source_now) bytes
-  pub each : TakesPulls (length bytes) (pulls source) (pulls source_now)
-  pub taken_for : IsTakenFor left pulls source source_now lines
+  pub pieces : List (List ℕ)
+  pub read : CameIn left source_faults pulls pieces bytes source source_now
+  pub taken_for : IsTakenFor left source_faults pulls source source_now lines
   pub no_fault : source_faults source_now ≡ source_faults source
   pub stands : StandsFor reading lines bytes
   pub answered : Answered says talker lines text talker_now
   pub wrote : Wrote (taken out) (taken out_now) (sink_faults out) (sink_faults out_now) text
 
 -- nothing is taken
-pub taken_none : {C : Type 0} (left : C → Option (List ℕ)) (pulls : C → Option ℕ) (source : C) → IsTakenFor left pulls source source []
-taken_none left pulls source = record {
+pub taken_none : {C : Type 0} (left : C → Option (List ℕ)) (faults : C → ℕ) (pulls : C → Option ℕ) (source : C) → IsTakenFor left faults pulls source source []
+taken_none left faults pulls source = record {
   taken = record {
     before = source;
+    pieces = [];
     front = [];
     last = [];
-    came = Consumes-nil (left source);
+    came = (refl, refl);
     within = omega arith;
-    turns = TakesPulls-none 0 (pulls source);
     pulled = Consumes-nil (left source);
     short = omega arith;
     once = TakesPulls-none 1 (pulls source);
@@ -63,13 +63,13 @@ taken_none left pulls source = record {
 }
 
 -- the last of lines is the one that was cut
-taken_last : {C : Type 0} {left : C → Option (List ℕ)} {pulls : C → Option ℕ} {source source_after : C} (lines : List (List ℕ)) (line : List ℕ)
-    → IsTakenFor left pulls source source_after lines → IsTakenForLast left pulls source source_after (lines ++ line ∷ [])
+taken_last : {C : Type 0} {left : C → Option (List ℕ)} {faults : C → ℕ} {pulls : C → Option ℕ} {source source_after : C} (lines : List (List ℕ)) (line : List ℕ)
+    → IsTakenFor left faults pulls source source_after lines → IsTakenForLast left faults pulls source source_after (lines ++ line ∷ [])
 taken_last lines line is = record { earlier = lines; line = line; are = refl; taken = is }
 
 -- one line more is given
-taken_more : {C : Type 0} {left : C → Option (List ℕ)} {pulls : C → Option ℕ} {source source_after : C} (lines : List (List ℕ)) (line : List ℕ)
-    → IsTakenFor left pulls source source_after lines → IsTakenFor left pulls source source_after (lines ++ line ∷ [])
+taken_more : {C : Type 0} {left : C → Option (List ℕ)} {faults : C → ℕ} {pulls : C → Option ℕ} {source source_after : C} (lines : List (List ℕ)) (line : List ℕ)
+    → IsTakenFor left faults pulls source source_after lines → IsTakenFor left faults pulls source source_after (lines ++ line ∷ [])
 taken_more lines line is = record {
   taken = is.taken;
   others = is.others ++ line ∷ [];
@@ -83,9 +83,9 @@ module _ {T C O : Type 0} {says : T → List ℕ → List ℕ → T → Type 0} 
     lines = [];
     bytes = [];
     text = [];
-    read = Consumes-nil (left source);
-    each = TakesPulls-none 0 (pulls source);
-    taken_for = taken_none left pulls source;
+    pieces = [];
+    read = (refl, refl);
+    taken_for = taken_none left source_faults pulls source;
     no_fault = refl;
     stands = stands;
     answered = (refl, refl);
@@ -94,18 +94,21 @@ module _ {T C O : Type 0} {says : T → List ℕ → List ℕ → T → Type 0} 
 
   module _ {talker talker_now : T} {source source_now : C} {out out_now : O} {reading : Reading}
       (h : IsTalking says left source_faults pulls taken sink_faults talker talker_now source source_now out out_now reading) where
+    -- what was pulled so far
+    taken_so_far : Consumes (left source) (left source_now) h.bytes
+    taken_so_far = CameIn-consumes left source_faults pulls h.pieces h.bytes source source_now h.read
+
     -- what a step pulls goes on with what was pulled before it
-    taken_on : (source_after : C) → HasPulled left pulls source_now source_after h.lines h.bytes → IsTakenFor left pulls source source_after h.lines
-    taken_on source_after (no_pull same) = subst (λ s. IsTakenFor left pulls source s h.lines) (sym same) h.taken_for
-    taken_on source_after (some_pulls before more last came within turns pulled short once whole) = record {
+    taken_on : (source_after : C) → HasPulled left source_faults pulls source_now source_after h.lines h.bytes → IsTakenFor left source_faults pulls source source_after h.lines
+    taken_on source_after (no_pull same) = subst (λ s. IsTakenFor left source_faults pulls source s h.lines) (sym same) h.taken_for
+    taken_on source_after (some_pulls before pieces more last came within pulled short once whole) = record {
       taken = record {
         before = before;
+        pieces = h.pieces ++ pieces;
         front = h.bytes ++ more;
         last = last;
-        came = Consumes-trans _ _ _ h.bytes more h.read came;
+        came = CameIn-then left source_faults pulls h.pieces pieces h.bytes more source source_now before h.read came;
         within = within;
-        turns = subst (λ n. TakesPulls n (pulls source) (pulls before)) (sym (length-append h.bytes more))
-            (TakesPulls-then (length h.bytes) (length more) (pulls source) (pulls source_now) (pulls before) h.each turns);
         pulled = pulled;
         short = short;
         once = once;
@@ -115,21 +118,20 @@ module _ {T C O : Type 0} {says : T → List ℕ → List ℕ → T → Type 0} 
     }
 
     -- so reading stopped where it should
-    pub stopped_at : (source_after : C) → HasPulled left pulls source_now source_after h.lines h.bytes → IsTakenWithin left pulls source source_after
+    pub stopped_at : (source_after : C) → HasPulled left source_faults pulls source_now source_after h.lines h.bytes → IsTakenWithin left source_faults pulls source source_after
     stopped_at source_after pulled = (taken_on source_after pulled).taken
 
     -- a line was given and answered
     pub goes_on : (talker_after : T) (source_after : C) (out_after : O) (reading_after : Reading) (answer : List ℕ)
-        → (gave : Gave left pulls source_now source_after h.lines h.bytes reading_after) → source_faults source_after ≡ source_faults source_now
+        → (gave : Gave left source_faults pulls source_now source_after h.lines h.bytes reading_after) → source_faults source_after ≡ source_faults source_now
         → says talker_now reading_after.line answer talker_after → Wrote (taken out_now) (taken out_after) (sink_faults out_now) (sink_faults out_after) answer
         → IsTalking says left source_faults pulls taken sink_faults talker talker_after source source_after out out_after reading_after
     goes_on talker_after source_after out_after reading_after answer gave no_fault said wrote = record {
       lines = h.lines ++ gave.line ∷ [];
       bytes = h.bytes ++ gave.more;
       text = h.text ++ answer;
-      read = Consumes-trans _ _ _ h.bytes gave.more h.read gave.taken;
-      each = subst (λ n. TakesPulls n (pulls source) (pulls source_after)) (sym (length-append h.bytes gave.more))
-          (TakesPulls-then (length h.bytes) (length gave.more) (pulls source) (pulls source_now) (pulls source_after) h.each gave.each);
+      pieces = h.pieces ++ gave.pieces;
+      read = CameIn-then left source_faults pulls h.pieces gave.pieces h.bytes gave.more source source_now source_after h.read gave.taken;
       taken_for = taken_more h.lines gave.line (taken_on source_after gave.pulled);
       no_fault = no_fault ∙ h.no_fault;
       stands = gave.stands;
@@ -139,7 +141,7 @@ module _ {T C O : Type 0} {says : T → List ℕ → List ℕ → T → Type 0} 
 
     -- a line was given, and its answer was cut
     pub cut_in : (talker_after : T) (source_after : C) (out_after : O) (reading_after : Reading) (answer : List ℕ)
-        → (gave : Gave left pulls source_now source_after h.lines h.bytes reading_after) → source_faults source_after ≡ source_faults source_now
+        → (gave : Gave left source_faults pulls source_now source_after h.lines h.bytes reading_after) → source_faults source_after ≡ source_faults source_now
         → says talker_now reading_after.line answer talker_after → Stopped (taken out_now) (taken out_after) (sink_faults out_now) (sink_faults out_after) answer
         → IsCut says left source_faults pulls taken sink_faults talker talker_after source source_after out out_after
     cut_in talker_after source_after out_after reading_after answer gave no_fault said stopped = record {
@@ -147,7 +149,7 @@ module _ {T C O : Type 0} {says : T → List ℕ → List ℕ → T → Type 0} 
       text = h.text ++ answer;
       lines = h.lines ++ gave.line ∷ [];
       others = lines_of reading_after.ahead;
-      read = Consumes-trans _ _ _ h.bytes gave.more h.read gave.taken;
+      read = Consumes-trans _ _ _ h.bytes gave.more taken_so_far (CameIn-consumes left source_faults pulls gave.pieces gave.more source_now source_after gave.taken);
       no_fault = no_fault ∙ h.no_fault;
       first = ap lines_of gave.stands.whole ∙ lines_of-front (h.lines ++ gave.line ∷ []) reading_after.ahead gave.stands.ends;
       are_first = of_whole (whole_lines reading_after.ahead) (ap whole_lines gave.stands.whole ∙ whole_lines-front (h.lines ++ gave.line ∷ []) reading_after.ahead gave.stands.ends);
@@ -158,13 +160,13 @@ module _ {T C O : Type 0} {says : T → List ℕ → List ℕ → T → Type 0} 
 
     -- the last line, which has no end, was answered
     pub last_answered : (talker_after : T) (source_after : C) (out_after : O) (reading_after : Reading) (answer : List ℕ)
-        → (gave : GaveLast left pulls source_now source_after h.lines h.bytes reading_after) → source_faults source_after ≡ source_faults source_now
+        → (gave : GaveLast left source_faults pulls source_now source_after h.lines h.bytes reading_after) → source_faults source_after ≡ source_faults source_now
         → says talker_now reading_after.line answer talker_after → Wrote (taken out_now) (taken out_after) (sink_faults out_now) (sink_faults out_after) answer
         → IsDone says left source_faults pulls taken sink_faults talker talker_after source source_after out out_after
     last_answered talker_after source_after out_after reading_after answer gave no_fault said wrote = record {
       bytes = h.bytes ++ gave.more;
       text = h.text ++ answer;
-      read = Consumes-trans _ _ _ h.bytes gave.more h.read gave.taken;
+      read = Consumes-trans _ _ _ h.bytes gave.more taken_so_far gave.taken;
       end = gave.end;
       no_fault = no_fault ∙ h.no_fault;
       short = gave.short;
@@ -174,7 +176,7 @@ module _ {T C O : Type 0} {says : T → List ℕ → List ℕ → T → Type 0} 
     }
 
     pub last_cut : (talker_after : T) (source_after : C) (out_after : O) (reading_after : Reading) (answer : List ℕ)
-        → (gave : GaveLast left pulls source_now source_after h.lines h.bytes reading_after) → source_faults source_after ≡ source_faults source_now
+        → (gave : GaveLast left source_faults pulls source_now source_after h.lines h.bytes reading_after) → source_faults source_after ≡ source_faults source_now
         → says talker_now reading_after.line answer talker_after → Stopped (taken out_now) (taken out_after) (sink_faults out_now) (sink_faults out_after) answer
         → IsCut says left source_faults pulls taken sink_faults talker talker_after source source_after out out_after
     last_cut talker_after source_after out_after reading_after answer gave no_fault said stopped = record {
@@ -182,7 +184,7 @@ module _ {T C O : Type 0} {says : T → List ℕ → List ℕ → T → Type 0} 
       text = h.text ++ answer;
       lines = h.lines ++ gave.line ∷ [];
       others = [];
-      read = Consumes-trans _ _ _ h.bytes gave.more h.read gave.taken;
+      read = Consumes-trans _ _ _ h.bytes gave.more taken_so_far gave.taken;
       no_fault = no_fault ∙ h.no_fault;
       first = ap lines_of (take_all INPUT_LIMIT (h.bytes ++ gave.more) gave.short) ∙ gave.all ∙ sym (append-nil (h.lines ++ gave.line ∷ []));
       are_first = of_all gave.end gave.short [] (gave.all ∙ sym (append-nil (h.lines ++ gave.line ∷ [])));
@@ -192,12 +194,12 @@ module _ {T C O : Type 0} {says : T → List ℕ → List ℕ → T → Type 0} 
     }
 
     -- there is no further line
-    pub ended : (source_after : C) → (gave : GaveAll left pulls source_now source_after h.lines h.bytes) → source_faults source_after ≡ source_faults source_now
+    pub ended : (source_after : C) → (gave : GaveAll left source_faults pulls source_now source_after h.lines h.bytes) → source_faults source_after ≡ source_faults source_now
         → IsDone says left source_faults pulls taken sink_faults talker talker_now source source_after out out_now
     ended source_after gave no_fault = record {
       bytes = h.bytes ++ gave.more;
       text = h.text;
-      read = Consumes-trans _ _ _ h.bytes gave.more h.read gave.taken;
+      read = Consumes-trans _ _ _ h.bytes gave.more taken_so_far gave.taken;
       end = gave.end;
       no_fault = no_fault ∙ h.no_fault;
       short = gave.short;
@@ -205,24 +207,24 @@ module _ {T C O : Type 0} {says : T → List ℕ → List ℕ → T → Type 0} 
       wrote = h.wrote;
     }
 
-    pub unread : (source_after : C) → (failed : FailedBehind left pulls source_now source_after h.lines h.bytes) → Rose (source_faults source_now) (source_faults source_after)
+    pub unread : (source_after : C) → (failed : FailedBehind left source_faults pulls source_now source_after h.lines h.bytes) → Rose (source_faults source_now) (source_faults source_after)
         → IsUnread says left source_faults pulls taken sink_faults talker talker_now source source_after out out_now
     unread source_after failed rose = record {
       bytes = h.bytes ++ failed.more;
       text = h.text;
-      read = Consumes-trans _ _ _ h.bytes failed.more h.read failed.taken;
+      read = Consumes-trans _ _ _ h.bytes failed.more taken_so_far failed.taken;
       fault = Rose-earlier (source_faults source) (source_faults source_now) (source_faults source_after) (omega (arith, h.no_fault)) rose;
       short = failed.short;
       answered = subst (λ ls. Answered says talker ls h.text talker_now) (sym failed.all) h.answered;
       wrote = h.wrote;
     }
 
-    pub too_long : (source_after : C) → (passed : PassedLimit left pulls source_now source_after h.lines h.bytes) → source_faults source_after ≡ source_faults source_now
+    pub too_long : (source_after : C) → (passed : PassedLimit left source_faults pulls source_now source_after h.lines h.bytes) → source_faults source_after ≡ source_faults source_now
         → IsTooLong says left source_faults pulls taken sink_faults talker talker_now source source_after out out_now
     too_long source_after passed no_fault = record {
       bytes = h.bytes ++ passed.more;
       text = h.text;
-      read = Consumes-trans _ _ _ h.bytes passed.more h.read passed.taken;
+      read = Consumes-trans _ _ _ h.bytes passed.more taken_so_far passed.taken;
       no_fault = no_fault ∙ h.no_fault;
       long = passed.long;
       answered = subst (λ ls. Answered says talker ls h.text talker_now) (sym passed.all) h.answered;

@@ -1,7 +1,7 @@
 -- What a reader of lines stands for, and what a step leaves.
 use Rattle.std.specs.Prelude.{◌≡◌, ℕ, ◌+◌, ◌-◌, ◌<◌, ◌≤◌, List, [], ◌∷◌, ◌++◌, length, take, Bool, true, false, Option, Result, Ok, Err}
 use Rattle.std.specs.Io.KnownBytes.{Consumes, IsAtEnd, Keeps}
-use Rattle.pc_edges.specs.Pulls.{TakesPulls}
+use Rattle.pc_edges.specs.Pulls.{CameIn, TakesPulls}
 use Rattle.pc_edges.specs.declared.loading.TheConstants.{STREAM_ROOM}
 use Rattle.pc_edges.specs.declared.source.Failed.{Failed}
 use Rattle.pc_edges.specs.declared.lines.reader.Next.{Next}
@@ -35,22 +35,22 @@ bytes_left reading = (INPUT_LIMIT - reading.taken) + length reading.ahead
 
 -- ---- what a step leaves
 
--- what a step of a reader pulls that gave these lines of these bytes: nothing; or some bytes, up to the last pull at least one for each
--- pull, and before the last pull no other line was whole
-pub data HasPulled {X : Type 0} (left : X → Option (List ℕ)) (pulls : X → Option ℕ) (source source_after : X) (lines : List (List ℕ)) (bytes : List ℕ) : Type 0 where
-  no_pull : source_after ≡ source → HasPulled left pulls source source_after lines bytes
-  some_pulls : (before : X) (more last : List ℕ) → Consumes (left source) (left before) more → length (bytes ++ more) ≤ INPUT_LIMIT → TakesPulls (length more) (pulls source) (pulls before)
+-- what a step of a reader pulls that gave these lines of these bytes: nothing; or some bytes, up to the last pull by pulls that each gave
+-- at least one and had no fault, and before the last pull no other line was whole
+pub data HasPulled {X : Type 0} (left : X → Option (List ℕ)) (faults : X → ℕ) (pulls : X → Option ℕ) (source source_after : X) (lines : List (List ℕ)) (bytes : List ℕ) : Type 0 where
+  no_pull : source_after ≡ source → HasPulled left faults pulls source source_after lines bytes
+  some_pulls : (before : X) (pieces : List (List ℕ)) (more last : List ℕ) → CameIn left faults pulls pieces more source before → length (bytes ++ more) ≤ INPUT_LIMIT
       → Consumes (left before) (left source_after) last → length last ≤ STREAM_ROOM → TakesPulls 1 (pulls before) (pulls source_after)
-      → whole_lines (bytes ++ more) ≡ lines → HasPulled left pulls source source_after lines bytes
+      → whole_lines (bytes ++ more) ≡ lines → HasPulled left faults pulls source source_after lines bytes
 
-module _ {X : Type 0} (left : X → Option (List ℕ)) (pulls : X → Option ℕ) (source source_after : X) (lines : List (List ℕ)) (bytes : List ℕ) where
-  -- one more line is given, and each pull gave a byte at least
+module _ {X : Type 0} (left : X → Option (List ℕ)) (faults : X → ℕ) (pulls : X → Option ℕ) (source source_after : X) (lines : List (List ℕ)) (bytes : List ℕ) where
+  -- one more line is given, and each pull gave a byte at least and had no fault
   pub record Gave (reading : Reading) : Type 0 where
     pub line : List ℕ
+    pub pieces : List (List ℕ)
     pub more : List ℕ
-    pub taken : Consumes (left source) (left source_after) more
-    pub each : TakesPulls (length more) (pulls source) (pulls source_after)
-    pub pulled : HasPulled left pulls source source_after lines bytes
+    pub taken : CameIn left faults pulls pieces more source source_after
+    pub pulled : HasPulled left faults pulls source source_after lines bytes
     pub is : reading.line ≡ kept line
     pub stands : StandsFor reading (lines ++ line ∷ []) (bytes ++ more)
 
@@ -59,7 +59,7 @@ module _ {X : Type 0} (left : X → Option (List ℕ)) (pulls : X → Option ℕ
     pub line : List ℕ
     pub more : List ℕ
     pub taken : Consumes (left source) (left source_after) more
-    pub pulled : HasPulled left pulls source source_after lines bytes
+    pub pulled : HasPulled left faults pulls source source_after lines bytes
     pub end : IsAtEnd (left source_after)
     pub short : length (bytes ++ more) ≤ INPUT_LIMIT
     pub is : reading.line ≡ kept line
@@ -69,7 +69,7 @@ module _ {X : Type 0} (left : X → Option (List ℕ)) (pulls : X → Option ℕ
   pub record GaveAll : Type 0 where
     pub more : List ℕ
     pub taken : Consumes (left source) (left source_after) more
-    pub pulled : HasPulled left pulls source source_after lines bytes
+    pub pulled : HasPulled left faults pulls source source_after lines bytes
     pub end : IsAtEnd (left source_after)
     pub short : length (bytes ++ more) ≤ INPUT_LIMIT
     pub all : lines_of (bytes ++ more) ≡ lines
@@ -78,7 +78,7 @@ module _ {X : Type 0} (left : X → Option (List ℕ)) (pulls : X → Option ℕ
   pub record FailedBehind : Type 0 where
     pub more : List ℕ
     pub taken : Consumes (left source) (left source_after) more
-    pub pulled : HasPulled left pulls source source_after lines bytes
+    pub pulled : HasPulled left faults pulls source source_after lines bytes
     pub short : length (bytes ++ more) ≤ INPUT_LIMIT
     pub all : whole_lines (bytes ++ more) ≡ lines
 
@@ -86,7 +86,7 @@ module _ {X : Type 0} (left : X → Option (List ℕ)) (pulls : X → Option ℕ
   pub record PassedLimit : Type 0 where
     pub more : List ℕ
     pub taken : Consumes (left source) (left source_after) more
-    pub pulled : HasPulled left pulls source source_after lines bytes
+    pub pulled : HasPulled left faults pulls source source_after lines bytes
     pub long : INPUT_LIMIT < length (bytes ++ more)
     pub all : whole_lines (take INPUT_LIMIT (bytes ++ more)) ≡ lines
 

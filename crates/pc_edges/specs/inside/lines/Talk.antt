@@ -64,7 +64,7 @@ module _ {T C O : Type 0} (says : T → List ℕ → List ℕ → T → Type 0) 
     pub no_fault : source_faults source_after ≡ source_faults source
     pub first : lines_of (take INPUT_LIMIT bytes) ≡ lines ++ others
     pub are_first : AreFirst (left source_after) bytes lines
-    pub at_once : IsTakenForLast left pulls source source_after lines
+    pub at_once : IsTakenForLast left source_faults pulls source source_after lines
     pub answered : Answered says talker lines text talker_after
     pub stopped : Stopped (taken out) (taken out_after) (sink_faults out) (sink_faults out_after) text
 

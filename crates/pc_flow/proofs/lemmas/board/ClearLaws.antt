@@ -3,7 +3,7 @@ use Rattle.std.proofs.Common.{◌≡◌, ℕ, ◌+◌, ◌^◌, ◌<◌, [], ◌
 use Rattle.std.specs.Prelude.{slice_index, sum_by}
 use Rattle.std.proofs.lemmas.List.{length-append, get_or-append-add, take-append-le, take_at, length-replicate}
 use Rattle.pc_model.proofs.Walks.PlaceLaws.{zero-at}
-use Rattle.pc_cells.specs.declared.span.Mark.{Mark}
+use Rattle.pc_cells.specs.declared.region.Mark.{Mark}
 use Rattle.pc_cells.specs.Spans.{Cells}
 use Rattle.pc_cells.specs.inside.Spans.{cells_before, IsSpan, IsMark}
 use Rattle.pc_flow.specs.declared.board.columns.Column.{Column}

@@ -3,7 +3,7 @@ use Rattle.std.proofs.Common.{◌≡◌, ℕ, ◌+◌, List, [], ◌∷◌, ◌+
 use Rattle.std.specs.Prelude.{sum_by}
 use Rattle.std.proofs.lemmas.List.{length-append, length-replicate, append-nil}
 use Rattle.std.proofs.lemmas.List.Sums.{sum_by-append, sum_by-cons}
-use Rattle.pc_cells.specs.declared.span.Span.{Span}
+use Rattle.pc_cells.specs.declared.region.Span.{Span}
 use Rattle.pc_cells.specs.Spans.{Cells}
 use Rattle.pc_cells.specs.inside.Spans.{IsSpan, IsTaken}
 use Rattle.pc_cells.proofs.LiveLaws.{live-append}

@@ -1,6 +1,6 @@
 -- The columns of a board, by name.
 use Rattle.std.specs.Prelude.{◌≡◌, ◌≢◌, ℕ, Bool, not, nat_lt, ◌==◌, ◌&&◌, if◌then◌else◌, List, slice_index}
-use Rattle.pc_cells.specs.declared.span.Span.{Span}
+use Rattle.pc_cells.specs.declared.region.Span.{Span}
 use Rattle.pc_flow.specs.declared.board.columns.Column.{Column}
 use Rattle.pc_flow.specs.declared.board.columns.Column.TheVariants.{Time, Rank, Queue, Step, Against, Near, Room, Lost, Flow, Waiting, Slot, Due, Up, Down}
 use Rattle.pc_flow.specs.declared.board.columns.Columns.{Columns}

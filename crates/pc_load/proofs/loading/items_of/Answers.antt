@@ -1,7 +1,7 @@
 use Rattle.std.proofs.Common.{List, length, subst, sym}
 use Rattle.pc_rollup.proofs.lemmas.figures.PushLaws.{if_answered}
 use Rattle.pc_rollup.specs.inside.Totals.{AreAtLeaves}
-use Rattle.pc_wbs.specs.declared.row.ItemRow.{ItemRow}
+use Rattle.pc_wbs.specs.declared.tree.ItemRow.{ItemRow}
 use Rattle.pc_load.specs.inside.Items.{IsItemTable}
 use Rattle.pc_load.specs.Loading.{AreItemParts, ItemsAddUp}
 use Rattle.pc_load.specs.Table.{column}

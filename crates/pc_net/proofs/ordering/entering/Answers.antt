@@ -2,7 +2,7 @@ use Rattle.std.proofs.Common.{◌≡◌, ℕ, ◌<◌, ◌+◌, ◌==◌, length
 use Rattle.std.proofs.lemmas.Bool.{cases_eq}
 use Rattle.std.proofs.lemmas.List.{get_or_read, get_or-set_same, get_or-set_other, length-set}
 use Rattle.std.proofs.lemmas.List.Sums.{sum_by_more, count_by-le-length}
-use Rattle.pc_net.specs.declared.side.Side.TheVariants.{Ends}
+use Rattle.pc_net.specs.declared.graph.Side.TheVariants.{Ends}
 use Rattle.pc_net.specs.inside.Sides.{events_of}
 use Rattle.pc_net.proofs.SideLaws.{events_of_at, length-events_of}
 use Rattle.pc_net.proofs.CountLaws.{one_at_same, one_at_other}

@@ -1,5 +1,5 @@
 use Rattle.std.proofs.Common.{◌≡◌, ℕ, ◌<◌, ◌==◌, length, slice_index, count_by, take}
-use Rattle.pc_net.specs.declared.side.Side.TheVariants.{Ends}
+use Rattle.pc_net.specs.declared.graph.Side.TheVariants.{Ends}
 use Rattle.pc_net.specs.inside.Sides.{events_of}
 use Rattle.pc_net.proofs.ordering.entering.Given as goal
 

@@ -6,7 +6,7 @@ use Rattle.pc_deck.specs.declared.kinds.status.StatusCard.{StatusCard}
 use Rattle.pc_model.specs.declared.limits.TheConstants.{MAX_STATUSES}
 use Rattle.pc_faults.specs.declared.kind.Kind.TheVariants.{Status}
 use Rattle.pc_faults.specs.Faults.{disorder}
-use Rattle.pc_faults.specs.declared.status.StatusFault.{StatusFault}
+use Rattle.pc_faults.specs.declared.fault.StatusFault.{StatusFault}
 use Rattle.pc_faults.specs.inside.First.{earliest}
 use Rattle.pc_faults.proofs.FirstLaws.{earliest-alone}
 use Rattle.pc_project.specs.DisorderFaults.{IsDisorderAt}

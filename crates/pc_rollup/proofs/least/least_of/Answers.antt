@@ -1,6 +1,6 @@
 use Rattle.std.proofs.Common.{◌≡◌, ℕ, List, length, subst, sym, ◌∙◌}
 use Rattle.std.proofs.lemmas.List.{length_push}
-use Rattle.pc_wbs.specs.declared.row.ItemRow.{ItemRow}
+use Rattle.pc_wbs.specs.declared.tree.ItemRow.{ItemRow}
 use Rattle.pc_wbs.specs.Preorder.{IsPreorder}
 use Rattle.pc_rollup.proofs.BackLaws.{all_came, order_of, place_of_turn}
 use Rattle.pc_rollup.proofs.LeastLaws.{least_none, least_taken, least_top, least_all}

@@ -9,8 +9,8 @@ use Rattle.pc_accounts.specs.declared.entry.Entry.{Entry}
 use Rattle.pc_accounts.specs.Entries.{entry_at, AreEntriesWithinLimits}
 use Rattle.pc_accounts.specs.Entries.{IsEntryWithinLimits}
 use Rattle.std.proofs.lemmas.Int.{ints}
-use Rattle.pc_rollup.specs.declared.figures.figures.Figure.{Figure}
-use Rattle.pc_rollup.specs.declared.figures.figures.Figure.TheVariants.{Budget, Actual, ToGo, Latest, Overrun}
+use Rattle.pc_rollup.specs.declared.figures.column.Figure.{Figure}
+use Rattle.pc_rollup.specs.declared.figures.column.Figure.TheVariants.{Budget, Actual, ToGo, Latest, Overrun}
 use Rattle.pc_rollup.specs.figures.Figures.{figure_of}
 use Rattle.pc_rollup.specs.inside.figures.Figures.{AreAmounts}
 use Rattle.pc_rollup.proofs.lemmas.figures.PushLaws.{each_more}

@@ -1,9 +1,9 @@
 -- All columns of a tree have as many levels.
 use Rattle.std.proofs.Common.{◌≡◌, ℕ, List, length, arith}
 use Rattle.std.specs.Prelude.{ℤ}
-use Rattle.pc_wbs.specs.declared.row.ItemRow.{ItemRow}
+use Rattle.pc_wbs.specs.declared.tree.ItemRow.{ItemRow}
 use Rattle.pc_wbs.specs.Climb.{IsDepth}
-use Rattle.pc_accounts.specs.declared.rows.AcctRow.{AcctRow}
+use Rattle.pc_accounts.specs.declared.book.AcctRow.{AcctRow}
 use Rattle.pc_rollup.specs.figures.Columns.{AmountColumn, IsColumn}
 
 -- a tree has one depth

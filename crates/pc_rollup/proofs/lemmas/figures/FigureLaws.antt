@@ -1,12 +1,12 @@
 -- What a figure of all accounts comes to: that figure of what all entries come to.
-use Rattle.std.proofs.Common.{◌≡◌, ℕ, ◌+◌, ◌<◌, ◌≤◌, List, length, take, refl, sym, ap, ◌∙◌, arith}
+use Rattle.std.proofs.Common.{◌≡◌, ℕ, ◌+◌, ◌<◌, ◌≤◌, List, length, take, refl, sym, ap, ◌∙◌, subst, arith}
 use Rattle.std.specs.Prelude.{ℤ, pos, ◌+ℤ◌, sum_by}
 use Rattle.std.proofs.lemmas.Int.{ints}
 use Rattle.std.proofs.lemmas.List.Sums.{sum_by_more}
 use Rattle.std.proofs.Math.Seq.{take-length}
-use Rattle.pc_wbs.specs.declared.row.ItemRow.{ItemRow}
-use Rattle.pc_accounts.specs.declared.rows.AcctRow.{AcctRow}
-use Rattle.pc_accounts.specs.declared.rows.MoneyRow.{MoneyRow}
+use Rattle.pc_wbs.specs.declared.tree.ItemRow.{ItemRow}
+use Rattle.pc_accounts.specs.declared.book.AcctRow.{AcctRow}
+use Rattle.pc_accounts.specs.declared.book.MoneyRow.{MoneyRow}
 use Rattle.pc_accounts.specs.declared.entry.Entry.{Entry}
 use Rattle.pc_accounts.specs.Amounts.{all_charged}
 use Rattle.pc_accounts.specs.Entries.{entry_at}
@@ -15,13 +15,15 @@ use Rattle.pc_accounts.proofs.WholeLaws.{all_spent}
 use Rattle.pc_rollup.specs.declared.levels.LevelLine.{LevelLine}
 use Rattle.pc_rollup.specs.Lines.{AreLevelLines, sum_of}
 use Rattle.pc_rollup.proofs.SumLaws.{IsSumOver-all}
-use Rattle.pc_rollup.specs.declared.figures.figures.Figure.{Figure}
-use Rattle.pc_rollup.specs.declared.figures.figures.Figure.TheVariants.{Budget, Actual, ToGo, Latest, Overrun}
-use Rattle.pc_rollup.specs.figures.Columns.{AreItemSums}
+use Rattle.pc_rollup.specs.declared.figures.column.Figure.{Figure}
+use Rattle.pc_rollup.specs.declared.figures.column.Figure.TheVariants.{Budget, Actual, ToGo, Latest, Overrun}
+use Rattle.pc_rollup.specs.Totals.{amount_at}
+use Rattle.pc_wbs.specs.Climb.{AreInRange, IsTree}
+use Rattle.pc_rollup.specs.figures.Columns.{AddUpTo, AmountColumn, AreItemSums, AreOnTree, IsColumn, IsLevelSum}
 use Rattle.pc_rollup.specs.inside.figures.Columns.{IsTotal}
 use Rattle.pc_rollup.specs.figures.Figures.{figure_of, figure_at}
 use Rattle.pc_rollup.specs.figures.Summary.{AreBooked}
-use Rattle.pc_rollup.proofs.lemmas.figures.SumLaws.{lines_are_whole}
+use Rattle.pc_rollup.proofs.lemmas.figures.SumLaws.{levels_are_whole, lines_are_whole}
 
 -- no entries come to nothing
 none_of : (figure : Figure) (entries : List Entry) → figure_of figure (entry_of_all (take 0 entries)) ≡ pos 0
@@ -66,6 +68,15 @@ figure_total figure accounts entries one_each t is =
     (λ a h. h)
     is
     ∙ ap (λ (es : List Entry). figure_of figure (entry_of_all es)) whole
+
+-- the lines of each level add up to the figure of all entries
+pub adds_up : (figure : Figure) (tree : List ItemRow) (accounts : List AcctRow) (entries : List Entry) (column : AmountColumn) → AreInRange tree → IsTree tree →
+    AreOnTree tree accounts → length entries ≡ length accounts → IsColumn tree accounts (figure_at figure entries) column →
+    AddUpTo tree (figure_of figure (entry_of_all entries)) column
+adds_up figure tree accounts entries column ranged sound on_tree one_each is = λ k lt.
+    let e = figure_total figure accounts entries one_each (amount_at column.levels k)
+    (levels_are_whole tree accounts (figure_at figure entries) column.items column.levels ranged sound on_tree is.items is.levels k lt) in
+    (subst (λ (z : ℤ). IsLevelSum tree column.items (k + 1) z) e (is.levels.each k lt), e)
 
 -- the lines of a level have all charges up to as-of
 pub lines_have_charges : (tree : List ItemRow) (accounts : List AcctRow) (charges togos : List MoneyRow) (as_of : ℤ) (entries : List Entry)

@@ -9,11 +9,11 @@ use Rattle.std.proofs.lemmas.List.Sums.{sum_by_push}
 use Rattle.pc_model.specs.declared.limits.TheConstants.{MAX_ACCOUNTS, MAX_COST}
 use Rattle.pc_model.specs.Sums.{sum_to}
 use Rattle.pc_model.proofs.Sums.{sum_to-most}
-use Rattle.pc_wbs.specs.declared.row.ItemRow.{ItemRow}
+use Rattle.pc_wbs.specs.declared.tree.ItemRow.{ItemRow}
 use Rattle.pc_wbs.specs.Climb.{AreInRange, IsBelow, IsLeaf, IsTree}
 use Rattle.pc_wbs.proofs.OrderLaws.{IsBelow-top}
 use Rattle.pc_accounts.specs.declared.entry.Entry.{Entry}
-use Rattle.pc_accounts.specs.declared.rows.AcctRow.{AcctRow}
+use Rattle.pc_accounts.specs.declared.book.AcctRow.{AcctRow}
 use Rattle.pc_accounts.specs.Amounts.{item_of}
 use Rattle.pc_accounts.specs.Entries.{AreEntriesWithinLimits}
 use Rattle.pc_rollup.specs.declared.totals.Placed.{Placed}
@@ -21,7 +21,7 @@ use Rattle.pc_rollup.specs.Sums.{IsSumOver}
 use Rattle.pc_rollup.specs.Totals.{amount_at}
 use Rattle.pc_rollup.specs.inside.Totals.{place_of, amount_of, AreOnLeaves, AreTotalsOf}
 use Rattle.pc_rollup.proofs.SumLaws.{IsSumOver-bound, IsSumOver-part, IsSumOver-same}
-use Rattle.pc_rollup.specs.declared.figures.figures.Figure.TheVariants.{Budget}
+use Rattle.pc_rollup.specs.declared.figures.column.Figure.TheVariants.{Budget}
 use Rattle.pc_rollup.specs.declared.figures.outlook.OutlookAmounts.{OutlookAmounts}
 use Rattle.pc_rollup.specs.figures.Columns.{AreItemSums, AreOnTree, IsItemSum}
 use Rattle.pc_rollup.specs.figures.Figures.{figure_at}

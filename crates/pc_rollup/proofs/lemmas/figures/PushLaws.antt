@@ -16,8 +16,3 @@ each_more P xs x d n count so_far here k lt =
 pub if_answered : {T E : Type 0} (r : Result T E) (P Q : T → Type 0) → ((v : T) → P v → Q v) → IfOk r P → IfOk r Q
 if_answered (Ok v) P Q follows is = follows v is
 if_answered (Err e) P Q follows is = is
-
--- and what follows from two facts of an answer
-pub if_both : {T E : Type 0} (r : Result T E) (P Q R : T → Type 0) → ((v : T) → P v → Q v → R v) → IfOk r P → IfOk r Q → IfOk r R
-if_both (Ok v) P Q R follows is also = follows v is also
-if_both (Err e) P Q R follows is also = is

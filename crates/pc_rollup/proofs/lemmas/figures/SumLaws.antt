@@ -1,23 +1,23 @@
 -- Amounts of accounts as they are summed.
-use Rattle.std.proofs.Common.{◌≡◌, ℕ, zero, suc, ◌+◌, ◌<◌, ◌≤◌, inl, inr, List, [], ◌∷◌, ◌++◌, length, take, sym, ap, ◌∙◌, subst, arith}
+use Rattle.std.proofs.Common.{◌≡◌, ℕ, zero, suc, ◌+◌, ◌<◌, ◌≤◌, inl, inr, List, [], ◌∷◌, ◌++◌, length, replicate, slice_index, take, sym, ap, ◌∙◌, subst, arith}
 use Rattle.std.specs.Prelude.{ℤ, pos, ◌+ℤ◌, unsigned_abs, sum_by}
-use Rattle.std.proofs.lemmas.List.{length_push}
-use Rattle.std.proofs.Math.Seq.{take-length}
-use Rattle.std.proofs.lemmas.List.Sums.{sum_by_push, sum_by_more, fold_more}
-use Rattle.pc_wbs.specs.declared.row.ItemRow.{ItemRow}
-use Rattle.pc_wbs.specs.Climb.{AreInRange, IsBelow, IsTree}
-use Rattle.pc_accounts.specs.declared.rows.AcctRow.{AcctRow}
+use Rattle.std.proofs.lemmas.List.{get_or-replicate, length-replicate, length_push}
+use Rattle.std.proofs.lemmas.List.Sums.{sum_by_push, sum_by_more}
+use Rattle.pc_wbs.specs.declared.tree.ItemRow.{ItemRow}
+use Rattle.pc_wbs.specs.Climb.{AreInRange, IsBelow, IsDepth, IsTree}
+use Rattle.pc_accounts.specs.declared.book.AcctRow.{AcctRow}
 use Rattle.pc_accounts.specs.Amounts.{item_of}
 use Rattle.pc_rollup.specs.declared.totals.Placed.{Placed}
 use Rattle.pc_rollup.specs.declared.levels.LevelLine.{LevelLine}
-use Rattle.pc_rollup.specs.Lines.{line_at, AreLevelLines, sum_of}
+use Rattle.pc_rollup.specs.Lines.{AreLevelLines, sum_of}
 use Rattle.pc_rollup.specs.Sums.{IsSumOver}
 use Rattle.pc_rollup.specs.Totals.{amount_at}
-use Rattle.pc_rollup.specs.inside.Totals.{place_of, amount_of, AreTotalsOf}
-use Rattle.pc_rollup.proofs.SumLaws.{IsSumOver-same, unsigned_abs-add}
-use Rattle.pc_rollup.proofs.WholeLaws.{lines_sum}
-use Rattle.pc_rollup.specs.figures.Columns.{AreOnTree, AreItemSums, AmountColumn, IsColumn, IsLevelSum, AreLevelSums, AddUpTo}
-use Rattle.pc_rollup.specs.inside.figures.Columns.{IsTotal, IsWhole}
+use Rattle.pc_rollup.specs.inside.Totals.{place_of, amount_of, AreTotalsOf, IsRolledUp}
+use Rattle.pc_rollup.proofs.SumLaws.{IsSumOver-same}
+use Rattle.pc_wbs.specs.Preorder.{IsPreorder}
+use Rattle.pc_rollup.proofs.WholeLaws.{first_is_top, lines_of_level, lines_sum, some_item, whole_sum}
+use Rattle.pc_rollup.specs.figures.Columns.{AreOnTree, AreItemSums, IsLevelSum, AreLevelSums}
+use Rattle.pc_rollup.specs.inside.figures.Columns.{IsTotal}
 use Rattle.pc_rollup.proofs.lemmas.figures.PushLaws.{each_more}
 use Rattle.pc_rollup.specs.inside.figures.ColumnParts.{ArePlaced}
 
@@ -54,30 +54,6 @@ item_sums_alike tree accounts f g totals same sums = record {
   one_each = sums.one_each;
   each = λ y lt. IsSumOver-alike (λ a. IsBelow tree (item_of accounts a) y) (length accounts) f g (amount_at totals y) same (sums.each y lt);
 }
-
--- a sum over a list is no greater than the sum of the list's magnitudes
-sum_bound : (P : ℕ → Type 0) (amounts : List ℤ) (n : ℕ) (t : ℤ) → n ≤ length amounts → IsSumOver P n (amount_at amounts) t → unsigned_abs t ≤ sum_by unsigned_abs (take n amounts)
-sum_bound P amounts zero t le is = omega (arith, ap unsigned_abs is)
-sum_bound P amounts (suc n) t le (inl (p, (r, (over, e)))) =
-    let next : suc n ≡ n + 1 = omega arith in
-    omega (
-      arith,
-      sum_bound P amounts n r (omega arith) over,
-      ap unsigned_abs e,
-      unsigned_abs-add r (amount_at amounts n),
-      sum_by_more unsigned_abs amounts n (pos 0) (omega arith),
-      ap (λ (k : ℕ). sum_by unsigned_abs (take k amounts)) next,
-    )
-sum_bound P amounts (suc n) t le (inr (none, over)) =
-    let next : suc n ≡ n + 1 = omega arith in
-    omega (arith, sum_bound P amounts n t (omega arith) over, sum_by_more unsigned_abs amounts n (pos 0) (omega arith), ap (λ (k : ℕ). sum_by unsigned_abs (take k amounts)) next)
-
--- nor is what an item has
-pub item_sum_bound : (tree : List ItemRow) (accounts : List AcctRow) (amounts totals : List ℤ) (y : ℕ) → length amounts ≡ length accounts →
-    AreItemSums tree accounts (amount_at amounts) totals → y < length tree → unsigned_abs (amount_at totals y) ≤ sum_by unsigned_abs amounts
-item_sum_bound tree accounts amounts totals y one_each sums lt =
-    let whole : take (length accounts) amounts ≡ amounts = ap (λ (k : ℕ). take k amounts) (sym one_each) ∙ take-length amounts in
-    omega (arith, sum_bound (λ a. IsBelow tree (item_of accounts a) y) amounts (length accounts) (amount_at totals y) (omega arith) (sums.each y lt), ap (sum_by unsigned_abs) whole)
 
 -- the lines of a level have what all accounts have, each account once
 pub lines_are_whole : (tree : List ItemRow) (accounts : List AcctRow) (amount : ℕ → ℤ) (totals : List ℤ) (level : ℕ)
@@ -129,34 +105,20 @@ placed_more accounts amounts n placed more next so_far within pushed is =
       );
     })
 
--- the sums of the first n levels
-pub record AreSumsTo (tree : List ItemRow) (totals : List ℤ) (n : ℕ) (sums : List ℤ) : Type 0 where
-  pub one_each : length sums ≡ n
-  pub each : (k : ℕ) → k < n → IsLevelSum tree totals (k + 1) (amount_at sums k)
+-- each level has what the top has, where the totals are rolled up
+level_is_whole : (tree : List ItemRow) (order : List ℕ) (k : ℕ) (totals : List ℤ) (sum : ℤ) → AreInRange tree → IsTree tree → IsPreorder tree order →
+    IsRolledUp tree totals → sum ≡ amount_at totals (slice_index order 0) → IsLevelSum tree totals (k + 1) sum
+level_is_whole tree order k totals sum ranged sound preorder (amounts, rolled) is =
+    let (lines, are) = lines_of_level tree order (k + 1) totals sound preorder in
+    let top = first_is_top tree order preorder (some_item tree order sound preorder) in
+    (lines, ((order, (preorder, are)), is ∙ sym (whole_sum tree order (k + 1) (slice_index order 0) amounts totals lines ranged sound preorder (omega arith) are rolled top)))
 
--- one level more
-pub sums_more : (tree : List ItemRow) (totals : List ℤ) (n : ℕ) (sums more : List ℤ) (next : ℤ) → AreSumsTo tree totals n sums →
-    more ≡ sums ++ next ∷ [] → IsLevelSum tree totals (n + 1) next → AreSumsTo tree totals (n + 1) more
-sums_more tree totals n sums more next so_far pushed is =
-    subst (AreSumsTo tree totals (n + 1)) (sym pushed) (record {
-      one_each = omega (arith, length_push sums next, so_far.one_each);
-      each = each_more (λ k z. IsLevelSum tree totals (k + 1) z) sums next (pos 0) n so_far.one_each so_far.each is;
-    })
-
--- the sum of the lines so far and the next one
-pub sum_of-more : (lines : List LevelLine) (i : ℕ) → i < length lines → sum_of (take (i + 1) lines) ≡ sum_of (take i lines) +ℤ (line_at lines i).amount
-sum_of-more lines i lt = fold_more (λ (sum : ℤ) (line : LevelLine). sum +ℤ line.amount) (pos 0) lines i (record { item = 0; amount = pos 0 }) lt
-
--- a column of amounts is one of other amounts of the same value
-pub column_alike : (tree : List ItemRow) (accounts : List AcctRow) (f g : ℕ → ℤ) (column : AmountColumn) →
-    ((a : ℕ) → a < length accounts → f a ≡ g a) → IsColumn tree accounts f column → IsColumn tree accounts g column
-column_alike tree accounts f g column same is =
-    record { items = item_sums_alike tree accounts f g column.items same is.items; levels = is.levels }
-
--- where all accounts together have a sum, the lines of each level add up to it
-pub adds_up : (tree : List ItemRow) (accounts : List AcctRow) (f g : ℕ → ℤ) (sum : ℤ) (column : AmountColumn) →
-    ((a : ℕ) → a < length accounts → f a ≡ g a) → ((t : ℤ) → IsTotal accounts g t → t ≡ sum) → IsColumn tree accounts f column →
-    IsWhole accounts f column → AddUpTo tree sum column
-adds_up tree accounts f g sum column same total is whole = λ k lt.
-    let e = total (amount_at column.levels k) (IsSumOver-alike (λ a. a < length accounts) (length accounts) f g (amount_at column.levels k) same (whole k lt)) in
-    (subst (λ (z : ℤ). IsLevelSum tree column.items (k + 1) z) e (is.levels.each k lt), e)
+pub levels_of_top : (tree : List ItemRow) (order : List ℕ) (totals sums : List ℤ) (depth : ℕ) (sum : ℤ) → AreInRange tree → IsTree tree → IsPreorder tree order →
+    IsRolledUp tree totals → sum ≡ amount_at totals (slice_index order 0) → IsDepth tree depth → sums ≡ replicate depth sum → AreLevelSums tree totals sums
+levels_of_top tree order totals sums depth sum ranged sound preorder rolled is deep filled =
+    let count : length sums ≡ depth = ap length filled ∙ length-replicate depth sum in
+    record {
+      depth = subst (IsDepth tree) (sym count) deep;
+      each = λ k lt. level_is_whole tree order k totals (amount_at sums k) ranged sound preorder rolled
+          (ap (λ (xs : List ℤ). amount_at xs k) filled ∙ (get_or-replicate depth k sum (pos 0) (omega (arith, count)) ∙ is));
+    }

@@ -6,12 +6,12 @@ use Rattle.std.proofs.lemmas.Bool.{cases_eq, cases_lt}
 use Rattle.std.proofs.lemmas.List.{length_push, get_or_past}
 use Rattle.std.proofs.lemmas.List.Sums.{sum_by_push}
 use Rattle.pc_model.specs.declared.limits.TheConstants.{MAX_ACCOUNTS, MAX_COST}
-use Rattle.pc_accounts.specs.declared.rows.AcctRow.{AcctRow}
+use Rattle.pc_accounts.specs.declared.book.AcctRow.{AcctRow}
 use Rattle.pc_accounts.specs.declared.entry.Entry.{Entry}
 use Rattle.pc_accounts.specs.Amounts.{item_of}
 use Rattle.pc_accounts.specs.Entries.{entry_at, value_of}
 use Rattle.pc_rollup.specs.Totals.{amount_at}
-use Rattle.pc_times.specs.declared.state.ActState.{ActState}
+use Rattle.pc_times.specs.declared.forecasts.ActState.{ActState}
 use Rattle.pc_times.specs.Forecast.{state_at}
 use Rattle.pc_rollup.specs.figures.Packages.{IsFinished, IsFinishedPackage, IsValueOf, AreValues}
 use Rattle.pc_rollup.specs.inside.figures.Packages.{IsProgress, progress_at, AreProgress}

@@ -1,14 +1,14 @@
 -- What an outlook is made from.
-use Rattle.std.specs.Prelude.{◌≡◌, ◌⊎◌, ℕ, ◌+◌, ◌*◌, ◌<◌, ◌≤◌, ◌^◌, Bool, false, IsTrue, ◌↔◌, ℤ, pos, ◌+ℤ◌, ◌-ℤ◌, unsigned_abs, List, length, slice_index, slice_index_or}
-use Rattle.pc_model.specs.declared.limits.TheConstants.{MAX_ACCOUNTS, MAX_COST}
-use Rattle.pc_wbs.specs.declared.row.ItemRow.{ItemRow}
+use Rattle.std.specs.Prelude.{◌≡◌, ◌⊎◌, ℕ, ◌<◌, ◌≤◌, ◌^◌, Bool, false, IsTrue, ◌↔◌, ℤ, pos, ◌+ℤ◌, ◌-ℤ◌, unsigned_abs, List, length, slice_index, slice_index_or}
+use Rattle.pc_model.specs.declared.limits.TheConstants.{MAX_COST}
+use Rattle.pc_wbs.specs.declared.tree.ItemRow.{ItemRow}
 use Rattle.pc_accounts.specs.declared.entry.Entry.{Entry}
-use Rattle.pc_accounts.specs.declared.rows.AcctRow.{AcctRow}
+use Rattle.pc_accounts.specs.declared.book.AcctRow.{AcctRow}
 use Rattle.pc_accounts.specs.Amounts.{item_of}
 use Rattle.pc_rollup.specs.declared.totals.Placed.{Placed}
 use Rattle.pc_rollup.specs.Totals.{amount_at}
 use Rattle.pc_rollup.specs.inside.Totals.{placed_at}
-use Rattle.pc_rollup.specs.declared.figures.figures.Figure.TheVariants.{Budget}
+use Rattle.pc_rollup.specs.declared.figures.column.Figure.TheVariants.{Budget}
 use Rattle.pc_rollup.specs.declared.figures.outlook.OutlookAmounts.{OutlookAmounts}
 use Rattle.pc_rollup.specs.figures.Figures.{figure_at}
 use Rattle.pc_rollup.specs.figures.Outlook.{HasActivity, IsRest, IsWork, amounts_at}

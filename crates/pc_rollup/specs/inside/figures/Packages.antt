@@ -1,7 +1,7 @@
 -- Which packages are finished, and what the work of each account is worth.
 -- Here is what no clause of a top call and no law reaches.
 use Rattle.std.specs.Prelude.{◌≡◌, ℕ, ◌<◌, Bool, true, false, List, length, slice_index, slice_index_or, Option, Some, None}
-use Rattle.pc_times.specs.declared.state.ActState.{ActState}
+use Rattle.pc_times.specs.declared.forecasts.ActState.{ActState}
 use Rattle.pc_times.specs.Forecast.{state_at}
 use Rattle.pc_rollup.specs.figures.Packages.{IsFinished}
 

@@ -13,10 +13,10 @@ pub returns-in-Ok-clause-none : goal.returns-in-Ok-clause-none
 returns-in-Ok-clause-none g c = not_one_word (λ one. absurd (omega (arith, one, c.if-words-ne1.true))) c.in-Ok.ensures.ok refl
 
 pub returns-in-Ok-clause-stops : goal.returns-in-Ok-clause-stops
-returns-in-Ok-clause-stops g c = IsReadWithin_none longest_deck STREAM_ROOM g.D.Source.left g.D.Source.pulls c.args.deck.now
+returns-in-Ok-clause-stops g c = IsReadWithin_none longest_deck STREAM_ROOM g.D.Source.left g.D.Source.faults g.D.Source.pulls c.args.deck.now
 
 pub returns-in-Err-clause-stops : goal.returns-in-Err-clause-stops
-returns-in-Err-clause-stops g c = IsReadWithin_none longest_deck STREAM_ROOM g.D.Source.left g.D.Source.pulls c.args.deck.now
+returns-in-Err-clause-stops g c = IsReadWithin_none longest_deck STREAM_ROOM g.D.Source.left g.D.Source.faults g.D.Source.pulls c.args.deck.now
 
 pub returns-in-Err-clause-none : goal.returns-in-Err-clause-none
 returns-in-Err-clause-none g c = usage_cut (λ one. absurd (omega (arith, one, c.if-words-ne1.true))) c.in-Err.ensures.err refl

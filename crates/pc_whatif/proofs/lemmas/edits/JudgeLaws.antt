@@ -8,7 +8,7 @@ use Rattle.pc_crash.specs.Priced.{PricedNetwork}
 use Rattle.pc_project.specs.declared.estimates.Estimates.{Estimates}
 use Rattle.pc_whatif.specs.declared.edits.ask.Edit.{Edit}
 use Rattle.pc_whatif.specs.declared.edits.ask.Trial.{Trial}
-use Rattle.pc_whatif.specs.declared.edits.further.Further.{Further}
+use Rattle.pc_whatif.specs.declared.edits.judging.Further.{Further}
 use Rattle.pc_whatif.specs.declared.edits.reason.Reason.{Reason}
 use Rattle.pc_whatif.specs.declared.edits.reason.Reason.TheVariants.{UnknownActivity}
 use Rattle.pc_whatif.specs.edits.Plans.{plan_with, term_with, term_tried, estimates_with, estimates_at}

@@ -4,11 +4,11 @@ use Rattle.std.specs.Prelude.{sum_by, slice_index}
 use Rattle.std.proofs.lemmas.List.{length-set, get_or-set_same, get_or-set_other}
 use Rattle.std.proofs.lemmas.List.Sums.{sum_by-cons}
 use Rattle.std.proofs.lemmas.Bool.{cases_eq}
-use Rattle.pc_cells.specs.declared.span.Span.{Span}
+use Rattle.pc_cells.specs.declared.region.Span.{Span}
 use Rattle.pc_cells.specs.Spans.{Cells}
 use Rattle.pc_cells.specs.inside.Spans.{span_at, with_span, free_of, IsSpan}
 use Rattle.pc_cells.proofs.LiveLaws.{live-set}
-use Rattle.pc_whatif.specs.declared.trials.spans.Spans.{Spans}
+use Rattle.pc_whatif.specs.declared.trials.region.Spans.{Spans}
 use Rattle.pc_whatif.specs.inside.trials.Laid.{AreAtMost, IsLaidIn, list_of}
 
 -- another list of its length in a span: all spans are together as long as before

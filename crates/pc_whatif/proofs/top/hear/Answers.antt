@@ -18,10 +18,10 @@ pub returns-in_default-begin-clause-hearing : goal.returns-in_default-begin-clau
 returns-in_default-begin-clause-hearing g c = no_room refl refl
 
 pub returns-in_default-clause-edits_stop : goal.returns-in_default-clause-edits_stop
-returns-in_default-clause-edits_stop g c = none_taken_of _ _ _ _ refl
+returns-in_default-clause-edits_stop g c = none_taken_of _ _ _ _ _ refl
 
 pub returns-in_default-begin-clause-edits_stop : goal.returns-in_default-begin-clause-edits_stop
-returns-in_default-begin-clause-edits_stop g c = none_taken_of _ _ _ _ refl
+returns-in_default-begin-clause-edits_stop g c = none_taken_of _ _ _ _ _ refl
 
 pub returns-clause-edits_stop : goal.returns-clause-edits_stop
 returns-clause-edits_stop g c = c.talk.ensures.within

@@ -15,4 +15,4 @@ pub returns-in-Ok-clause-edits_stop : goal.returns-in-Ok-clause-edits_stop
 returns-in-Ok-clause-edits_stop g c = c.hear.ensures.edits_stop
 
 pub returns-in-Err-clause-edits_stop : goal.returns-in-Err-clause-edits_stop
-returns-in-Err-clause-edits_stop g c = none_taken_of _ _ _ _ refl
+returns-in-Err-clause-edits_stop g c = none_taken_of _ _ _ _ _ refl

@@ -4,7 +4,7 @@ use Rattle.pc_model.specs.declared.PieceRow.{PieceRow}
 use Rattle.pc_model.specs.declared.Term.{Term}
 use Rattle.pc_model.specs.Pieces.{units_of}
 use Rattle.pc_project.specs.declared.estimates.Estimates.{Estimates}
-use Rattle.pc_whatif.specs.declared.edits.further.Further.{Further}
+use Rattle.pc_whatif.specs.declared.edits.judging.Further.{Further}
 use Rattle.pc_whatif.specs.declared.edits.reason.Reason.{Reason}
 use Rattle.pc_whatif.specs.declared.edits.reason.Reason.TheVariants.{OverLimit, CrashAboveNormal, EstimatesOutOfOrder, PieceFault}
 use Rattle.pc_whatif.specs.edits.Refusal.{are_disordered, is_crash_above}

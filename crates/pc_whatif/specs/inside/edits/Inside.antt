@@ -8,8 +8,8 @@ use Rattle.pc_crash.specs.inside.Priced.{AreNames}
 use Rattle.pc_project.specs.declared.estimates.Estimates.{Estimates}
 use Rattle.pc_whatif.specs.declared.edits.ask.Change.{Change}
 use Rattle.pc_whatif.specs.declared.edits.ask.Change.TheVariants.{Estimate, Normal, Crash, Slope}
-use Rattle.pc_whatif.specs.declared.edits.kept.KeptEdit.{KeptEdit}
-use Rattle.pc_whatif.specs.declared.edits.trying.ActTerm.{ActTerm}
+use Rattle.pc_whatif.specs.declared.edits.edits.KeptEdit.{KeptEdit}
+use Rattle.pc_whatif.specs.declared.edits.edits.ActTerm.{ActTerm}
 use Rattle.pc_whatif.specs.declared.edits.edits.Edits.TheInside.{Inside}
 use Rattle.pc_whatif.specs.declared.edits.edits.TheConstants.{MAX_KEPT}
 use Rattle.pc_whatif.specs.edits.Plans.{Plan, plan_with}

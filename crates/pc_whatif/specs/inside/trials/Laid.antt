@@ -9,7 +9,7 @@ use Rattle.pc_times.specs.Times.{AreEarly}
 use Rattle.pc_times.specs.inside.Times.{AreTails}
 use Rattle.pc_times.specs.declared.TheConstants.{MAX_LENGTH, MAX_TIME}
 use Rattle.pc_whatif.specs.declared.trials.region.SessionRegion.TheInside.{Inside}
-use Rattle.pc_whatif.specs.declared.trials.spans.Spans.{Spans}
+use Rattle.pc_whatif.specs.declared.trials.region.Spans.{Spans}
 use Rattle.pc_whatif.specs.inside.trials.SessionRegion.{SessionRegion}
 
 -- the spans are the first five of a region

@@ -27,7 +27,7 @@ returns-in-Some-clause-none g c =
     (subst (λ (form : Form). IfErr c.bench_project.result (IsNoProjectBy (IsFaultAs (sort_of form)) (bench_deck_text n))) (sym c.in-Some.ensures.own) c.bench_project.ensures.none)
 
 pub returns-in-Some-clause-stops : goal.returns-in-Some-clause-stops
-returns-in-Some-clause-stops g c = IsReadWithin_none longest_deck STREAM_ROOM g.S.Source.left g.S.Source.pulls c.args.source.now
+returns-in-Some-clause-stops g c = IsReadWithin_none longest_deck STREAM_ROOM g.S.Source.left g.S.Source.faults g.S.Source.pulls c.args.source.now
 
 pub returns-in-None-clause-project : goal.returns-in-None-clause-project
 returns-in-None-clause-project g c =

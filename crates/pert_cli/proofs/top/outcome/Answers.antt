@@ -49,10 +49,10 @@ pub project_for-requires : goal.project_for-requires
 project_for-requires g c = c.in-Some.ensures.form.numbered
 
 pub returns-in-Ok-clause-stops : goal.returns-in-Ok-clause-stops
-returns-in-Ok-clause-stops g c = IsReadWithin_none longest_deck STREAM_ROOM g.S.Source.left g.S.Source.pulls c.args.source.now
+returns-in-Ok-clause-stops g c = IsReadWithin_none longest_deck STREAM_ROOM g.S.Source.left g.S.Source.faults g.S.Source.pulls c.args.source.now
 
 pub returns-in-Err-clause-stops : goal.returns-in-Err-clause-stops
-returns-in-Err-clause-stops g c = IsReadWithin_none longest_deck STREAM_ROOM g.S.Source.left g.S.Source.pulls c.args.source.now
+returns-in-Err-clause-stops g c = IsReadWithin_none longest_deck STREAM_ROOM g.S.Source.left g.S.Source.faults g.S.Source.pulls c.args.source.now
 
 pub answer-requires : goal.answer-requires
 answer-requires g c = c.in-Some.ensures.form.numbered

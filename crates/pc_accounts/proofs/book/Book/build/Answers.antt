@@ -1,5 +1,5 @@
 use Rattle.std.proofs.Common.{◌∙◌, ℕ, ℤ, List, length, Option, ap, subst, arith}
-use Rattle.pc_accounts.specs.declared.rows.MoneyRow.{MoneyRow}
+use Rattle.pc_accounts.specs.declared.book.MoneyRow.{MoneyRow}
 use Rattle.pc_accounts.specs.inside.Parts.{AreKnown, AreLatest, LatestBelow}
 use Rattle.pc_accounts.proofs.AmountLaws.{entries_of}
 use Rattle.pc_accounts.proofs.WholeLaws.{entries_are_project}

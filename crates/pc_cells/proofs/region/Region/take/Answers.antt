@@ -1,7 +1,7 @@
 use Rattle.std.proofs.Common.{List, ◌≡◌, ◌+◌, ◌-◌, ℕ, arith, ap, ◌∙◌, refl}
 use Rattle.std.specs.Vec.{with_items, with_item}
 use Rattle.pc_cells.specs.declared.region.Region.TheInside.{Inside}
-use Rattle.pc_cells.specs.declared.span.RegionFull.{RegionFull}
+use Rattle.pc_cells.specs.declared.region.RegionFull.{RegionFull}
 use Rattle.pc_cells.specs.inside.Spans.{free_of}
 use Rattle.pc_cells.proofs.RegionLaws.{region-count, region-room, region-capacity, region-end, region-free, vector-filled, starts-room, laid-taken, region-taken, span-taken}
 use Rattle.pc_cells.proofs.region.Region.take.Goals as goal

@@ -1,5 +1,5 @@
 use Rattle.std.proofs.Common.{◌+◌, ap, arith}
-use Rattle.pc_curve.specs.declared.bench.activity.BenchActivity.{BenchActivity}
+use Rattle.pc_curve.specs.declared.bench.deck.BenchActivity.{BenchActivity}
 use Rattle.pc_curve.proofs.lemmas.bench.ActivityLaws.{one-card-more, cost-small, one-cost-more}
 use Rattle.pc_curve.proofs.bench.deck.write_activities.Goals as goal
 

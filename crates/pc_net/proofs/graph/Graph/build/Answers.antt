@@ -1,5 +1,5 @@
 use Rattle.std.proofs.Common.{◌<◌, length, arith}
-use Rattle.pc_net.specs.declared.side.Side.TheVariants.{Begins, Ends}
+use Rattle.pc_net.specs.declared.graph.Side.TheVariants.{Begins, Ends}
 use Rattle.pc_net.proofs.SideLaws.{events_of_at, length-events_of}
 use Rattle.pc_net.proofs.graph.Graph.build.Goals as goal
 

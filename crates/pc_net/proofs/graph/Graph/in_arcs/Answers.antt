@@ -1,6 +1,6 @@
 use Rattle.std.proofs.Common.{◌<◌, sym, subst}
 use Rattle.pc_model.specs.Network.{Network}
-use Rattle.pc_net.specs.declared.side.Side.TheVariants.{Ends}
+use Rattle.pc_net.specs.declared.graph.Side.TheVariants.{Ends}
 use Rattle.pc_net.proofs.ListingLaws.{part_is_listed}
 use Rattle.pc_net.proofs.graph.Graph.in_arcs.Goals as goal
 

@@ -1,6 +1,6 @@
 use Rattle.std.proofs.Common.{◌<◌, sym, subst}
 use Rattle.pc_model.specs.Network.{Network}
-use Rattle.pc_net.specs.declared.side.Side.TheVariants.{Begins}
+use Rattle.pc_net.specs.declared.graph.Side.TheVariants.{Begins}
 use Rattle.pc_net.proofs.ListingLaws.{part_is_listed}
 use Rattle.pc_net.proofs.graph.Graph.out_arcs.Goals as goal
 

@@ -5,8 +5,8 @@ use Rattle.pc_rollup.proofs.lemmas.figures.PushLaws.{if_answered}
 use Rattle.pc_rollup.proofs.lemmas.figures.SumLaws.{item_sums_alike}
 use Rattle.pc_rollup.proofs.figures.column.figure_sums.Goals as goal
 
-pub returns : goal.returns
-returns c =
+pub returns-clause-sums : goal.returns-clause-sums
+returns-clause-sums c =
     let same : (a : ℕ) → a < length c.args.accounts.now →
     amount_at c.deref.result.now a ≡ figure_at c.args.figure c.args.entries.now a =
     λ a lt. rw c.deref.ensures.value (c.in_ok-amounts.ensures.amounts.each a (omega (arith, c.requires.one_each))) in

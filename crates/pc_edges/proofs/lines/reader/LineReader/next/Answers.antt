@@ -25,7 +25,7 @@ pub loop-self-init : goal.loop-self-init
 loop-self-init g c =
     let same = c.begin_line.ensures in
     record {
-      under = λ lines bytes h. begins_under _ _ _ _ c.begin_line.new.self h same;
+      under = λ lines bytes h. begins_under _ _ _ _ _ c.begin_line.new.self h same;
       unpulled = λ has. (refl, ap (λ (r : Reading). r.ahead) same);
       less = omega (arith, ap (λ (r : Reading). length r.ahead) same, ap (λ (r : Reading). r.taken) same);
       no_fault = refl;
@@ -93,7 +93,7 @@ loop-self-preserved g c =
     record {
       under = λ lines bytes h.
           fills_under _ c.fill.new.self c.in-Ok.n (goes_on_under c.take_line.new.self (c.loop-self.invariant.under lines bytes h) took) took.nothing fits filled c.fill.ensures.once
-          (omega (arith, c.if-n-eq0.false));
+          c.in-Ok.ensures.no_fault (omega (arith, c.if-n-eq0.false));
       unpulled = λ has. absurd (open_lacks _ (subst IsOpen ((c.loop-self.invariant.unpulled has).1) took.no_end) has);
       less = omega (arith, first, second, c.loop-self.invariant.less);
       no_fault = c.in-Ok.ensures.no_fault ∙ c.loop-self.invariant.no_fault;

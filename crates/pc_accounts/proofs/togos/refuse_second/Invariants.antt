@@ -1,5 +1,0 @@
-use Rattle.pc_accounts.proofs.SecondLaws.{IsSeen}
-use Rattle.pc_accounts.proofs.togos.refuse_second.Given as goal
-
-abbrev pub invariant-loop-second : goal.invariant-loop-second
-invariant-loop-second l = IsSeen l.togos l.second l.seen

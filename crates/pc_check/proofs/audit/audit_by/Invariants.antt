@@ -1,0 +1,11 @@
+use Rattle.pc_check.specs.inside.Auditing.{bytes_left}
+use Rattle.pc_check.proofs.SourceLaws.{IsPulling}
+use Rattle.pc_check.proofs.audit.audit_by.Given as goal
+
+abbrev pub invariant-loop-n : goal.invariant-loop-n
+invariant-loop-n g l =
+    let s = g.C.Source in
+    IsPulling l.fn.audit l.audit (s.left l.fn.source) (s.left l.source) (s.faults l.fn.source) (s.faults l.source) (s.pulls l.fn.source) (s.pulls l.source)
+
+abbrev pub decreases-loop-n : goal.decreases-loop-n
+decreases-loop-n g l = bytes_left l.audit

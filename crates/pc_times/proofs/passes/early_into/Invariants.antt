@@ -1,5 +1,0 @@
-use Rattle.pc_times.proofs.TimesLaws.{AreEarlyTo}
-use Rattle.pc_times.proofs.passes.early_into.Given as goal
-
-abbrev pub invariant-loop-event : goal.invariant-loop-event
-invariant-loop-event l = AreEarlyTo l.net l.lengths l.times l.event-items l.event-index

@@ -1,5 +1,0 @@
-use Rattle.pc_times.proofs.TimesLaws.{IsDepartureOf}
-use Rattle.pc_times.proofs.passes.longest_departure.Given as goal
-
-abbrev pub invariant-loop-a : goal.invariant-loop-a
-invariant-loop-a l = IsDepartureOf l.net l.lengths l.tails l.a-items l.a-index l.longest
