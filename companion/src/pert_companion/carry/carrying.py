@@ -1,0 +1,235 @@
+"""From a plan to its deck and side file."""
+
+from dataclasses import dataclass, replace
+
+from pert_companion.cards import ProjectCard
+from pert_companion.carry import loads, outline, units
+from pert_companion.carry.codes import Codes, one_line, shortened, task_codes, title
+from pert_companion.carry.kept import side_file, side_losses
+from pert_companion.carry.model import Node
+from pert_companion.carry.moments import resolve
+from pert_companion.carry.money import Money, accounts, charges
+from pert_companion.carry.network import Network
+from pert_companion.carry.order import find_early_dates, in_order
+from pert_companion.carry.progress import Statuses, Times, has_progress
+from pert_companion.carry.ties import Ties
+from pert_companion.deck import Deck
+from pert_companion.errors import InputError
+from pert_companion.losses import Loss, LossKind
+from pert_companion.plan import Plan, Task
+from pert_companion.sidefile import SideFile
+
+LIMITS = {"WBS": 9_999, "RES": 1_000, "LOAD": 40_000, "TASK": 4_000, "AFTER": 8_000}
+"""The most cards of each kind that a deck of tasks has."""
+MAX_BUDGET = 10**12
+
+
+@dataclass(frozen=True)
+class CarryOptions:
+    """How a plan becomes a deck."""
+
+    unit: str = "auto"
+    """`auto`, `days`, `hours`, or a number of minutes: what the deck counts durations in."""
+    cents: bool = False
+    """Whether the deck has cents instead of whole units of the currency."""
+    progress: bool = True
+    """Whether progress is carried over."""
+
+
+@dataclass(frozen=True)
+class Carried:
+    """A deck, its side file, and what neither of them says."""
+
+    deck: Deck
+    data: bytes
+    """The bytes of the deck, which the side file has the checksum of."""
+    side: SideFile
+    losses: tuple[Loss, ...]
+    side_losses: tuple[Loss, ...]
+    """What the side file says and the deck does not: lost if no side file is written."""
+    notes: tuple[str, ...]
+
+
+def carry(plan: Plan, options: CarryOptions = CarryOptions(), deck_name: str = "") -> Carried:
+    """Returns the deck and the side file of a plan, with what is lost.
+
+    `deck_name` is the name of the deck's file for the side file. Raises `InputError` if the plan
+    has no task, links in a circle, progress without a data date, or more than a deck can have.
+    """
+    _check_days(plan)
+    return _Carrier(plan, options).carried(deck_name)
+
+
+class _Carrier:
+    """Takes the steps from a plan to its deck; each adds its losses and notes."""
+
+    def __init__(self, plan: Plan, options: CarryOptions) -> None:
+        self.plan = plan
+        self.options = options
+        self.losses: list[Loss] = []
+        self.notes: list[str] = []
+        self.codes = Codes()
+        self.outline = outline.build(plan)
+        self.losses += self.outline.losses
+        self.money = Money(100 if options.cents else 1, self.losses)
+        self.nodes = self._nodes()
+        self.all_nodes: list[Node] = list(self.nodes.values())
+        self.order: list[Node] = []
+        self.unit_minutes = plan.calendar.day_minutes
+        self.unit_name = "days"
+
+    def carried(self, deck_name: str) -> Carried:
+        """Returns the deck, the side file and the losses."""
+        self._tie()
+        self._set_numbers()
+        self.losses += resolve(self.order)
+        calendar = self.plan.calendar
+        network = Network(self.codes, self.unit_name, self.unit_minutes, calendar)
+        network.build(self.all_nodes, self.plan.start)
+        deck = self._with_progress(self._deck(network), network)
+        _check_size(deck, network)
+        data = deck.to_bytes()
+        side = side_file(self.plan, self.nodes, network, self.outline.groups, self.unit_minutes)
+        side = replace(side, deck_name=deck_name, money_scale=self.money.scale).fitting(data)
+        kept, lost = side_losses(self.plan, self.nodes)
+        return Carried(deck, data, side, (*self.losses, *lost), kept, tuple(self.notes))
+
+    def _nodes(self) -> dict[str, Node]:
+        """Returns a node for each task by uid, with its code and item."""
+        found, notes = task_codes(self.plan, self.codes)
+        self.notes += notes
+        nodes = {}
+        for task in self.plan.tasks():
+            if task.uid in nodes:
+                raise InputError(f"{task.where}: a second task has the id {task.uid!r}")
+            item = self.outline.item_of[task.parent]
+            name = one_line(task.name)
+            nodes[task.uid] = Node(found[task.uid], item, name, task.where, task.minutes, task)
+            if task.calendar is not None and task.calendar != self.plan.calendar.name:
+                why = f"the deck has one calendar, {self.plan.calendar.name!r}, which is used"
+                self._lose(LossKind.CALENDAR, task, "calendar", task.calendar, why)
+        return nodes
+
+    def _tie(self) -> None:
+        """Adds the ties of links and constraints, and puts all nodes into their order."""
+        plan = self.plan
+        items = {group.uid: group.code for group in self.outline.groups}
+        ties = Ties(plan, self.nodes, self.codes, items)
+        ties.add_links()
+        ties.add_constraints()
+        self.losses += ties.losses
+        ends = ties.milestones
+        self.all_nodes += [ends[group.uid] for group in plan.groups() if group.uid in ends]
+        for place, node in enumerate(self.all_nodes):
+            node.place = place
+        self.order = in_order(self.all_nodes)
+        origin = plan.calendar.position(plan.calendar.morning(plan.start))
+        elapsed = find_early_dates(self.order, plan.calendar, origin)
+        if elapsed:
+            number = "1 elapsed lag is" if len(elapsed) == 1 else f"{len(elapsed)} elapsed lags are"
+            self.notes.append(f"{number} counted in the working time of its normal dates")
+
+    def _set_numbers(self) -> None:
+        """Chooses the unit, and gives all nodes their durations, costs and lags in it."""
+        calendar = self.plan.calendar
+        self.unit_minutes = units.minutes_of_unit(self.options.unit, calendar, self.all_nodes)
+        self.unit_name = units.unit_name(self.unit_minutes, calendar)
+        rounding = units.Rounding(self.unit_minutes, self.unit_name, self.losses)
+        for node in self.all_nodes:
+            rounding.set_durations(node)
+            self.money.set_cost(node, calendar, rounding)
+            for tie in node.starts + node.finishes:
+                rounding.set_lag(node, tie)
+        if self.unit_minutes != calendar.day_minutes:
+            self.notes.append(f"durations are counted in {self.unit_name}")
+
+    def _deck(self, network: Network) -> Deck:
+        """Returns the deck without progress."""
+        plan = self.plan
+        used = loads.build(plan, self.nodes, network)
+        self.losses += used.losses
+        code = Codes().make(shortened(plan.name))
+        name = title(plan.name)
+        return Deck(
+            project=ProjectCard(code, "start", "end", plan.start, 1, None, name, 2),
+            items=tuple(self.outline.items),
+            tasks=network.tasks(),
+            afters=network.afters(),
+            accounts=accounts(self.all_nodes),
+            resources=used.resources,
+            loads=used.loads,
+        )
+
+    def _with_progress(self, deck: Deck, network: Network) -> Deck:
+        """Returns the deck with the cards of progress, if the plan has a data date."""
+        plan = self.plan
+        begun = [task for task in plan.tasks() if has_progress(task)]
+        if not self.options.progress:
+            self.notes += ["progress is not carried over, as --no-progress says"] if begun else []
+            return deck
+        if plan.data_date is None:
+            if begun:
+                raise InputError(
+                    f"{begun[0].where}, task {begun[0].name!r} has progress: say the data date, the"
+                    " last day that it is about, with --as-of YYYY-MM-DD"
+                )
+            return deck
+        times = Times(plan.calendar, plan.start, plan.data_date, self.unit_minutes)
+        statuses = Statuses(times, network)
+        statuses.build(self.order, network.followers(self.all_nodes))
+        charged, to_go = charges(self.all_nodes, times.as_of, self.money)
+        self.losses += statuses.losses
+        self._note_pace(statuses.off_pace())
+        if to_go and not charged:
+            self.notes.append("there are no actual costs: reports take nothing to be spent")
+        return replace(
+            deck, as_of=times.as_of, statuses=statuses.cards(), charges=charged, to_go=to_go
+        )
+
+    def _note_pace(self, tasks: list[tuple[Task, int]]) -> None:
+        """Notes that remaining durations are in the side file alone."""
+        if tasks:
+            task, remaining = tasks[0]
+            days = remaining / self.plan.calendar.day_minutes
+            number = "1 task is" if len(tasks) == 1 else f"{len(tasks)} tasks are"
+            self.notes.append(
+                f"{number} ahead of or behind the normal duration, first: {task.where}"
+                f" {task.name}, {days:.4g} days remain; pert-remaining forecasts with that"
+            )
+
+    def _lose(self, kind: LossKind, task: Task, name: str, text: str, why: str) -> None:
+        self.losses.append(Loss(kind, task.where, task.name, name, text, why))
+
+
+def _check_days(plan: Plan) -> None:
+    """Refuses a plan without a task, and days that no deck has."""
+    if not any(True for _ in plan.tasks()):
+        raise InputError("there is no task")
+    for what, day in (("first day", plan.start), ("data date", plan.data_date)):
+        if day is not None and not 1900 <= day.year <= 2198:
+            raise InputError(f"the {what} {day} is not in the years 1900 to 2198")
+    if plan.data_date is not None and plan.data_date < plan.start:
+        raise InputError(f"the data date {plan.data_date} is before the first day {plan.start}")
+
+
+def _check_size(deck: Deck, network: Network) -> None:
+    """Raises `InputError` that says why a plan is more than a deck can have."""
+    counts = {
+        "WBS": len(deck.items),
+        "RES": len(deck.resources),
+        "LOAD": len(deck.loads),
+        "TASK": len(deck.tasks),
+        "AFTER": len(deck.afters),
+    }
+    for kind, most in LIMITS.items():
+        if counts[kind] > most:
+            raise InputError(
+                f"the plan needs {counts[kind]} {kind} cards, and a deck has at most {most}"
+                f" ({network.counts()}); carry over a part of the plan"
+            )
+    for account in deck.accounts:
+        if account.budget > MAX_BUDGET:
+            raise InputError(
+                f"the costs of item {account.item} add up to {account.budget}, and a deck has"
+                f" amounts up to {MAX_BUDGET}"
+            )

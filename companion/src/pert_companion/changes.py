@@ -1,0 +1,405 @@
+"""What differs between two states of a project, task by task, and what of the past was restated.
+
+Tasks are matched by source id, then by code. Texts are for people: durations in planner's days,
+finishes as the last day of work, amounts in the unit of money of the comparison.
+"""
+
+from collections.abc import Callable, Iterator, Mapping
+from dataclasses import dataclass
+from datetime import date, datetime
+from decimal import Decimal
+from enum import Enum
+from fractions import Fraction
+
+from pert_companion.cards import ActivityCard, PieceCard, TaskCard
+from pert_companion.deck import Deck
+from pert_companion.matching import Matching
+from pert_companion.opening import OpenPlan
+from pert_companion.predecessors import RealLink, real_links
+from pert_companion.sidefile import SideTask
+from pert_companion.writers.csv_file import days_text
+
+
+class ChangeKind(Enum):
+    """What differs between two states of a task or account."""
+
+    NEW = "new"
+    GONE = "gone"
+    NAME = "name"
+    NORMAL = "normal duration"
+    CRASH = "shortest duration"
+    ESTIMATES = "estimates"
+    COST = "cost"
+    SLOPE = "cost of a day less"
+    LINKS = "links"
+    PACKAGE = "package"
+    STATUS = "status"
+    BUDGET = "budget"
+    RESOURCES = "resources"
+
+
+@dataclass(frozen=True)
+class Change:
+    """One difference between an older and a newer state, as texts for people."""
+
+    kind: ChangeKind
+    code: str
+    """The code in the newer state, or in the older one if it is gone; of a task or account."""
+    name: str
+    old: str
+    new: str
+
+
+@dataclass(frozen=True)
+class Restated:
+    """Something of the time before the older as-of date that the newer state says differently."""
+
+    subject: str
+    """The task or account."""
+    name: str
+    what: str
+    """`start`, `finish`, `percent complete`, `charges` or `amount to go`."""
+    old: str
+    new: str
+    day: date
+    """The day that it is about: a first or last day of work, or a day of money."""
+
+
+@dataclass(frozen=True)
+class Side:
+    """One of the two states, with its amounts brought to the common unit of money."""
+
+    plan: OpenPlan
+    factor: int
+    """How many units of money of the comparison one of the deck is."""
+
+    def amount(self, amount: int) -> int:
+        """Returns an amount of the deck in units of the comparison."""
+        return amount * self.factor
+
+
+def task_changes(old: Side, new: Side, matching: Matching) -> tuple[Change, ...]:
+    """Returns the differences between two states, by kind, then in the order of the newer state."""
+    before, after = _Facts(old), _Facts(new)
+    names = {older.code: newer.code for older, newer in matching.pairs}
+    found = [Change(ChangeKind.NEW, t.code, t.name, "", after.brief(t)) for t in matching.new]
+    found += [Change(ChangeKind.GONE, t.code, t.name, before.brief(t), "") for t in matching.gone]
+    for older, newer in matching.pairs:
+        found.extend(_differences(before, after, older, newer, names))
+    found.extend(_budget_changes(old, new))
+    order = {kind: at for at, kind in enumerate(ChangeKind)}
+    return tuple(sorted(found, key=lambda change: order[change.kind]))
+
+
+def _differences(
+    before: "_Facts", after: "_Facts", older: SideTask, newer: SideTask, names: Mapping[str, str]
+) -> Iterator[Change]:
+    for kind, text in _TEXTS.items():
+        old, new = text(before, older), text(after, newer)
+        if old != new:
+            yield Change(kind, newer.code, newer.name, old, new)
+    old_links = before.links(older, names)
+    new_links = after.links(newer, {})
+    if set(old_links) != set(new_links):
+        gone = [link for link in old_links if link not in new_links]
+        come = [link for link in new_links if link not in old_links]
+        yield Change(ChangeKind.LINKS, newer.code, newer.name, ", ".join(gone), ", ".join(come))
+
+
+class _Facts:
+    """The texts of one state, by task."""
+
+    def __init__(self, side: Side) -> None:
+        self.state = side
+        self.side = side.plan.side
+        deck = side.plan.deck
+        self.cards: dict[str, TaskCard | ActivityCard] = {card.code: card for card in deck.work}
+        self.pieces: dict[str, list[PieceCard]] = {}
+        for piece in deck.pieces:
+            self.pieces.setdefault(piece.activity, []).append(piece)
+        self.all_links = real_links(deck, self.side)
+        self.started = status_days(deck, "S")
+        self.finished = status_days(deck, "F")
+        self.resources = _quantities(deck)
+
+    def parts(self, task: SideTask) -> list[TaskCard | ActivityCard]:
+        """Returns the cards of the work of a task."""
+        return [self.cards[part] for part in task.parts]
+
+    def days(self, units: int) -> str:
+        """Returns a duration in planner's days."""
+        return days_text(units * self.side.unit_minutes, self.side.calendar.day_minutes)
+
+    def name(self, task: SideTask) -> str:
+        """Returns the name."""
+        return task.name
+
+    def normal(self, task: SideTask) -> str:
+        """Returns the normal duration."""
+        return self.days(sum(card.normal for card in self.parts(task)))
+
+    def crash(self, task: SideTask) -> str:
+        """Returns the shortest duration."""
+        return self.days(sum(card.crash for card in self.parts(task)))
+
+    def estimates(self, task: SideTask) -> str:
+        """Returns the three estimates, or nothing if they are the normal duration."""
+        parts = self.parts(task)
+        if all({c.optimistic, c.likely, c.pessimistic} == {c.normal} for c in parts):
+            return ""
+        optimistic = self.days(sum(card.optimistic for card in parts))
+        likely = self.days(sum(card.likely for card in parts))
+        pessimistic = self.days(sum(card.pessimistic for card in parts))
+        return f"{optimistic} {likely} {pessimistic}"
+
+    def cost(self, task: SideTask) -> str:
+        """Returns the cost at the normal duration."""
+        return str(self.state.amount(sum(card.cost for card in self.parts(task))))
+
+    def slope(self, task: SideTask) -> str:
+        """Returns what a day less costs, with the further pieces; nothing if it cannot be had."""
+        texts = []
+        for card in self.parts(task):
+            if card.normal > card.crash:
+                texts.append(self.price(card.slope))
+            for piece in self.pieces.get(card.code, []):
+                texts.append(f"then {self.price(piece.slope)} for {self.days(piece.units)}")
+        return ", ".join(dict.fromkeys(texts))
+
+    def price(self, slope: int) -> str:
+        """Returns the price of a planner's day from that of a unit, with at most two decimals."""
+        day = Fraction(self.state.amount(slope) * self.side.calendar.day_minutes)
+        return days_text(round(day), self.side.unit_minutes)
+
+    def package(self, task: SideTask) -> str:
+        """Returns the names of the groups above it."""
+        return " / ".join(task.outline)
+
+    def status(self, task: SideTask) -> str:
+        """Returns how far it is, with its days and its percent."""
+        started, finished = self.first_day(task), self.end_day(task)
+        if finished is not None:
+            return f"finished {finished}"
+        if started is None:
+            return "waiting"
+        percent = "" if task.percent is None else f", {percent_text(task.percent)}"
+        return f"begun {started}{percent}"
+
+    def first_day(self, task: SideTask) -> date | None:
+        """Returns the day on which it began, or None while it waits."""
+        started = self.started.get(task.parts[0])
+        return None if started is None else task.actual_start or started
+
+    def end_day(self, task: SideTask) -> date | None:
+        """Returns the last day of work of a finished task, whose deck date is a morning."""
+        finished = self.finished.get(task.parts[-1])
+        if finished is None or task.actual_finish is not None:
+            return task.actual_finish if finished is not None else None
+        calendar = self.side.calendar
+        morning = datetime(finished.year, finished.month, finished.day)
+        return calendar.end_at(calendar.position(morning)).date()
+
+    def resource_text(self, task: SideTask) -> str:
+        """Returns what it uses of each resource in all."""
+        sums: dict[str, int] = {}
+        for part in task.parts:
+            for name, quantity in self.resources.get(part, []):
+                sums[name] = sums.get(name, 0) + quantity
+        return ", ".join(f"{name} {sums[name]}" for name in sorted(sums))
+
+    def links(self, task: SideTask, names: Mapping[str, str]) -> list[str]:
+        """Returns its links, the predecessors by the names of the other state."""
+        return [self.link_text(link, names) for link in self.all_links.get(task.code, [])]
+
+    def link_text(self, link: RealLink, names: Mapping[str, str]) -> str:
+        """Returns a link as planners write it, its lag in days."""
+        lag = self.lag_text(link.lag)
+        kind = link.kind.value if lag or link.kind.value != "FS" else ""
+        return f"{names.get(link.predecessor, link.predecessor)}{kind}{lag}"
+
+    def lag_text(self, lag: int) -> str:
+        """Returns a lag in days with its sign, or an empty text if there is none."""
+        if lag == 0:
+            return ""
+        sign = "+" if lag > 0 else ""
+        return f"{sign}{self.days(lag)}d"
+
+    def brief(self, task: SideTask) -> str:
+        """Returns what a new or gone task is: its duration and cost."""
+        return f"{self.normal(task)} days, cost {self.cost(task)}"
+
+
+_TEXTS: dict[ChangeKind, Callable[[_Facts, SideTask], str]] = {
+    ChangeKind.NAME: _Facts.name,
+    ChangeKind.NORMAL: _Facts.normal,
+    ChangeKind.CRASH: _Facts.crash,
+    ChangeKind.ESTIMATES: _Facts.estimates,
+    ChangeKind.COST: _Facts.cost,
+    ChangeKind.SLOPE: _Facts.slope,
+    ChangeKind.PACKAGE: _Facts.package,
+    ChangeKind.STATUS: _Facts.status,
+    ChangeKind.RESOURCES: _Facts.resource_text,
+}
+
+
+def status_days(deck: Deck, letter: str) -> dict[str, date]:
+    """Returns the dates of the STATUS cards with a letter, by activity."""
+    return {card.activity: card.day for card in deck.statuses if card.letter == letter}
+
+
+def _quantities(deck: Deck) -> dict[str, list[tuple[str, int]]]:
+    titles = {resource.code: resource.title or resource.code for resource in deck.resources}
+    found: dict[str, list[tuple[str, int]]] = {}
+    for load in deck.loads:
+        found.setdefault(load.activity, []).append((titles[load.resource], load.quantity))
+    return found
+
+
+def _budget_changes(old: Side, new: Side) -> Iterator[Change]:
+    """Yields the changed budgets of packages without tasks; other budgets are costs of tasks."""
+    before, after = _free_budgets(old), _free_budgets(new)
+    for code in [*after, *(code for code in before if code not in after)]:
+        was, is_now = before.get(code), after.get(code)
+        if was != is_now:
+            yield Change(ChangeKind.BUDGET, code, _title(old, new, code), _text(was), _text(is_now))
+
+
+def _free_budgets(side: Side) -> dict[str, int]:
+    """Returns the budgets of the accounts of packages without activities."""
+    deck = side.plan.deck
+    measured = {card.item for card in deck.work}
+    return {a.code: side.amount(a.budget) for a in deck.accounts if a.item not in measured}
+
+
+def _title(old: Side, new: Side, code: str) -> str:
+    """Returns the title of an account, as the newer state has it."""
+    titles = {account.code: account.title for account in old.plan.deck.accounts}
+    titles.update({account.code: account.title for account in new.plan.deck.accounts})
+    return titles[code]
+
+
+def _text(amount: int | None) -> str:
+    return "" if amount is None else str(amount)
+
+
+def restatements(old: Side, new: Side, matching: Matching) -> tuple[Restated, ...]:
+    """Returns what the newer state says differently of the time up to the older as-of date."""
+    found = list(_restated_statuses(_Facts(old), _Facts(new), matching))
+    found.extend(_restated_percents(old.plan, matching))
+    found.extend(_restated_money(old, new))
+    return tuple(found)
+
+
+def _restated_statuses(before: "_Facts", after: "_Facts", matching: Matching) -> Iterator[Restated]:
+    """Yields starts and finishes that moved, went or came in the time before the older as-of date.
+
+    A start on the as-of date itself is no past yet; a finish on it was the evening before.
+    """
+    as_of = before.state.plan.deck.as_of_day
+    for older, newer in matching.pairs:
+        start = before.started.get(older.parts[0]), after.started.get(newer.parts[0])
+        if start[0] != start[1] and min(filter(None, start)) < as_of:
+            days = before.first_day(older), after.first_day(newer)
+            yield _restated_day(newer, "start", days)
+        finish = before.finished.get(older.parts[-1]), after.finished.get(newer.parts[-1])
+        if finish[0] != finish[1] and min(filter(None, finish)) <= as_of:
+            days = before.end_day(older), after.end_day(newer)
+            yield _restated_day(newer, "finish", days)
+
+
+def _restated_day(task: SideTask, what: str, days: tuple[date | None, date | None]) -> Restated:
+    day = days[0] or days[1]
+    assert day is not None
+    return Restated(task.code, task.name, what, _or_none(days[0]), _or_none(days[1]), day)
+
+
+def _restated_percents(old: OpenPlan, matching: Matching) -> Iterator[Restated]:
+    day = old.side.data_date or old.deck.as_of_day
+    for older, newer in matching.pairs:
+        percent = newer.percent or Decimal(0)
+        if older.percent is not None and percent < older.percent:
+            was, is_now = percent_text(older.percent), percent_text(percent)
+            yield Restated(newer.code, newer.name, "percent complete", was, is_now, day)
+
+
+def percent_text(percent: Decimal) -> str:
+    """Returns a percent without zeros at its end, as `62.5 %`."""
+    return f"{percent.normalize():f} %"
+
+
+def _or_none(value: object) -> str:
+    return "none" if value is None else str(value)
+
+
+def has_only_totals(deck: Deck) -> bool:
+    """Says whether all charges up to the as-of date are dated on it, so that only sums are known.
+
+    `pert-import` dates the actual costs of a file so, since the file does not say when they arose.
+    """
+    days = {charge.day for charge in deck.charges if charge.day <= deck.as_of_day}
+    return days == {deck.as_of_day}
+
+
+def has_dated_to_go(deck: Deck) -> bool:
+    """Says whether amounts to go have days of their own, and not all that of the as-of date."""
+    return any(card.day != deck.as_of_day for card in deck.to_go)
+
+
+def _restated_money(old: Side, new: Side) -> Iterator[Restated]:
+    as_of = old.plan.deck.as_of_day
+    titles = {account.code: account.title for account in new.plan.deck.accounts}
+    titles.update({account.code: account.title for account in old.plan.deck.accounts})
+    if has_only_totals(old.plan.deck) or has_only_totals(new.plan.deck):
+        yield from _restated_totals(old, new, titles)
+    else:
+        before, after = _charges(old, as_of), _charges(new, as_of)
+        yield from _restated_amounts(before, after, titles, "charges")
+    if has_dated_to_go(old.plan.deck) and has_dated_to_go(new.plan.deck):
+        before, after = _to_go(old, as_of), _to_go(new, as_of)
+        yield from _restated_amounts(before, after, titles, "amount to go")
+
+
+def _restated_totals(old: Side, new: Side, titles: Mapping[str, str]) -> Iterator[Restated]:
+    """Yields the accounts that had spent more than they have now, where days are not known."""
+    as_of = old.plan.deck.as_of_day
+    day = old.plan.side.data_date or as_of
+    before = _totals(old, as_of)
+    after = _totals(new, new.plan.deck.as_of_day)
+    for code, amount in before.items():
+        if after.get(code, 0) < amount:
+            now = str(after.get(code, 0))
+            yield Restated(code, titles[code], "charges", str(amount), now, day)
+
+
+_Dated = dict[tuple[str, date], int]
+
+
+def _restated_amounts(
+    before: _Dated, after: _Dated, titles: Mapping[str, str], what: str
+) -> Iterator[Restated]:
+    for key in sorted(before.keys() | after.keys(), key=lambda key: (key[1], key[0])):
+        was, is_now = before.get(key), after.get(key)
+        if was != is_now:
+            texts = _or_none(was), _or_none(is_now)
+            yield Restated(key[0], titles[key[0]], what, texts[0], texts[1], key[1])
+
+
+def _charges(side: Side, last: date) -> _Dated:
+    found: _Dated = {}
+    for charge in side.plan.deck.charges:
+        if charge.day <= last:
+            key = (charge.account, charge.day)
+            found[key] = found.get(key, 0) + side.amount(charge.amount)
+    return found
+
+
+def _totals(side: Side, last: date) -> dict[str, int]:
+    found: dict[str, int] = {}
+    for (code, _), amount in _charges(side, last).items():
+        found[code] = found.get(code, 0) + amount
+    return found
+
+
+def _to_go(side: Side, last: date) -> _Dated:
+    cards = side.plan.deck.to_go
+    return {(c.account, c.day): side.amount(c.amount) for c in cards if c.day <= last}

@@ -1,0 +1,1 @@
+"""The commands: each module parses its words and calls one function."""

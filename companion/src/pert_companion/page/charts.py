@@ -1,0 +1,144 @@
+"""Where things are in charts: round ticks, places in per cent, and labels that have room.
+
+A chart is as wide as its place on the page and as high as it says, in pixels. Places are texts of
+per cent or of pixels, rounded, from exact fractions.
+"""
+
+from collections.abc import Sequence
+from dataclasses import dataclass
+from datetime import date, timedelta
+from fractions import Fraction
+
+from pert_companion.page.view import Tick
+from pert_companion.page.words import MONTHS
+
+BOX = 1000
+"""Points of lines are in a box of so many units on each side."""
+LETTER = 7.2
+"""About the width of a letter of labels, in pixels."""
+ROUND_STEPS = (1, 2, 5)
+
+
+def percent(part: Fraction | int, whole: Fraction | int) -> str:
+    """Returns a share in per cent with two digits: `12.34%`."""
+    return f"{_rounded(Fraction(part, 1) * 10000 / whole if whole else Fraction(0), 2)}%"
+
+
+def _rounded(hundredths: Fraction, digits: int) -> str:
+    number = round(hundredths)
+    sign = "-" if number < 0 else ""
+    text = f"{abs(number):03d}"
+    return sign + f"{text[:-digits]}.{text[-digits:]}".rstrip("0").rstrip(".")
+
+
+def pixels(share: Fraction, height: int) -> str:
+    """Returns a share of a height, from the bottom, as pixels from the top with one digit."""
+    return _rounded((1 - share) * height * 100, 2)
+
+
+@dataclass(frozen=True)
+class Scale:
+    """An axis from a least to a greatest number."""
+
+    least: int
+    most: int
+
+    def share(self, number: Fraction | int) -> Fraction:
+        """Returns where a number is, from 0 to 1."""
+        if self.most == self.least:
+            return Fraction(0)
+        return Fraction(number - self.least) / (self.most - self.least)
+
+
+def round_scale(least: int, most: int, count: int = 4) -> tuple[Scale, list[int]]:
+    """Returns a scale from round numbers to round numbers, and its about `count` ticks."""
+    span = max(1, most - least)
+    step = _round_step(span, count)
+    low = least - least % step
+    ticks = [low]
+    while ticks[-1] < most or len(ticks) < 2:
+        ticks.append(ticks[-1] + step)
+    return Scale(low, ticks[-1]), ticks
+
+
+def _round_step(span: int, count: int) -> int:
+    power = 1
+    while True:
+        for step in ROUND_STEPS:
+            if step * power * count >= span:
+                return step * power
+        power *= 10
+
+
+def y_axis(height: int, texts: Sequence[str]) -> tuple[Tick, ...]:
+    """Returns ticks at the places of evenly spread texts from the bottom to the top."""
+    steps = max(1, len(texts) - 1)
+    return tuple(
+        Tick(pixels(Fraction(place, steps), height), text, "end")
+        for place, text in enumerate(texts)
+    )
+
+
+def margin_for(texts: Sequence[str]) -> int:
+    """Returns the pixels that labels need."""
+    return 12 + round(LETTER * max((len(text) for text in texts), default=0))
+
+
+def anchor(share: Fraction) -> str:
+    """Returns how a label at a place of the width is anchored, so that it is not clipped."""
+    if share < Fraction(1, 20):
+        return "start"
+    return "end" if share > Fraction(19, 20) else "middle"
+
+
+def date_ticks(first: date, days: int) -> list[tuple[int, str, bool]]:
+    """Returns days after the first one for an axis of dates, with labels; minor ones have none.
+
+    Ticks are Mondays, or first days of months, or of years, so that there are at most about 12.
+    """
+    if days <= 84:
+        return _weeks(first, days)
+    if days <= 366 * 5:
+        return _months(first, days)
+    return _years(first, days)
+
+
+def _weeks(first: date, days: int) -> list[tuple[int, str, bool]]:
+    ticks: list[tuple[int, str, bool]] = []
+    at = (7 - first.weekday()) % 7
+    step = 7 if days <= 56 else 14
+    for number, offset in enumerate(range(at, days + 1, step)):
+        day = first + timedelta(days=offset)
+        ticks.append((offset, f"{day.day} {MONTHS[day.month - 1]}", number % 2 == 1))
+    return ticks
+
+
+def _months(first: date, days: int) -> list[tuple[int, str, bool]]:
+    step = next(s for s in (1, 2, 3, 6, 12) if days <= 31 * 12 * s or s == 12)
+    ticks: list[tuple[int, str, bool]] = []
+    month = first.month - 1 + (0 if first.day == 1 else 1)
+    number = 0
+    while True:
+        year = first.year + month // 12
+        if year > 9999:
+            return ticks
+        offset = (date(year, month % 12 + 1, 1) - first).days
+        if offset > days:
+            return ticks
+        if (month % 12) % step == 0:
+            label = MONTHS[month % 12]
+            named = label if month % 12 and number else f"{label} {year}"
+            ticks.append((offset, named, number % 2 == 1))
+            number += 1
+        month += 1
+
+
+def _years(first: date, days: int) -> list[tuple[int, str, bool]]:
+    last = min(9999, first.year + days // 365 + 1)
+    step = _round_step(last - first.year, 10)
+    ticks: list[tuple[int, str, bool]] = []
+    for year in range(first.year + 1, last + 1):
+        offset = (date(year, 1, 1) - first).days
+        if year % step == 0 and offset <= days:
+            ticks.append((offset, str(year), len(ticks) % 2 == 1))
+    return ticks

@@ -1,0 +1,266 @@
+"""The sections of money: cost by item, earned value, and load by period."""
+
+from collections.abc import Iterator
+from dataclasses import dataclass, replace
+from datetime import date
+from fractions import Fraction
+from itertools import chain
+
+from pert_companion import results
+from pert_companion.earned_value import EarnedValue, Figures
+from pert_companion.money import MoneyPoint
+from pert_companion.page import charts
+from pert_companion.page.chooser import box_points
+from pert_companion.page.clock import Clock
+from pert_companion.page.gathering import Gathered, load_day_minutes
+from pert_companion.page.view import (
+    Chart,
+    Column,
+    Dot,
+    FigureBook,
+    Line,
+    Row,
+    Series,
+    Table,
+    Tick,
+    plain,
+    title,
+)
+from pert_companion.page.words import MONTHS, day_text, number_text, shown
+from pert_companion.writers import figures
+
+COLUMN_HEIGHT = 110
+MONEY_HEIGHT = 220
+MOST_RESOURCES = 24
+
+
+@dataclass(frozen=True)
+class NamedChart:
+    """A chart under the name of what it shows."""
+
+    name: Line
+    chart: Chart
+
+
+@dataclass(frozen=True)
+class Load:
+    """What is spent, and used of each resource, in each period."""
+
+    charts: tuple[NamedChart, ...]
+    left_out: int
+    """Resources without a chart."""
+    period: str
+    table: Table
+
+
+def item_names(gathered: Gathered) -> dict[str, str]:
+    """Returns the titles of items by code."""
+    return {item.code: item.title for item in gathered.status.plan.deck.items}
+
+
+def item_name(code: str, names: dict[str, str]) -> Line:
+    """Returns the code and the title of an item."""
+    text = shown(names.get(code, ""))
+    return (*plain(f"{code} "), *title(text)) if text else plain(code)
+
+
+def summary_table(gathered: Gathered, book: FigureBook) -> Table | None:
+    """Returns the cost by item, or None without accounts."""
+    summary = gathered.status.summary
+    if summary is None:
+        return None
+    names = item_names(gathered)
+    rows = []
+    for code, row in summary.items():
+        amounts = (row.budget, row.actual, row.to_go, row.latest, row.overrun)
+        cells = tuple(plain(book.words.digits(amount)) for amount in amounts)
+        rows.append(Row(item_name(code, names), cells, row.level - 1, row.level == 1))
+    heads = ("Item", "Budget", "Spent", "To go", "Latest estimate", "Overrun")
+    return Table("Cost by item", heads, tuple(rows))
+
+
+def earned_table(gathered: Gathered, book: FigureBook) -> Table | None:
+    """Returns the earned value by package, or None without status."""
+    earned = gathered.earned
+    if earned is None:
+        return None
+    rows = []
+    for package in earned.packages:
+        name = item_name(package.code, {package.code: package.title})
+        if not package.is_measured:
+            spent = plain(book.words.digits(package.figures.ac))
+            dash = plain("\u2013")
+            rows.append(Row(name, (dash, dash, spent, dash, dash, dash)))
+            continue
+        rows.append(Row(name, tuple(_earned_cells(package.figures, book))))
+    cells = tuple(_earned_cells(earned.total, book))
+    rows.append(Row(plain("All measured packages"), cells, is_sum=True))
+    heads = ("Package", "Planned (PV)", "Earned (EV)", "Spent (AC)", "CPI", "SPI", "CV")
+    return Table("Earned value by package", heads, tuple(rows))
+
+
+def _earned_cells(of: Figures, book: FigureBook) -> Iterator[Line]:
+    for amount in (of.pv, of.ev, of.ac):
+        yield plain(book.words.digits(amount))
+    yield plain(ratio_text(of.cpi))
+    yield plain(ratio_text(of.spi))
+    yield plain(book.words.digits(of.ev - of.ac))
+
+
+def ratio_text(ratio: Fraction | None) -> str:
+    """Returns a ratio with two digits, or a dash."""
+    return "\u2013" if ratio is None else figures.ratio_text(ratio, 2)
+
+
+def earned_forecasts(earned: EarnedValue, book: FigureBook) -> tuple[tuple[str, str], ...]:
+    """Returns what the ratios say about the end, as names and texts."""
+    total, money = earned.total, book.words.money
+    found = [("BAC, budget at completion", money(round(total.bac)))]
+    for name, amount in (
+        ("EAC if the rest costs what was planned", total.eac_by_plan),
+        ("EAC if the rest costs as the work so far (BAC / CPI)", total.eac_by_cpi),
+        ("EAC if cost and time go on as they did", total.eac_by_both),
+    ):
+        found.append((name, "\u2013" if amount is None else money(round(amount))))
+    found.append(("TCPI, the CPI that the rest needs", ratio_text(total.tcpi)))
+    units = book.words.unit
+    variance = earned.schedule_variance
+    tenths = round(variance * 10)
+    sign = "\u2212" if tenths < 0 else ""
+    text = f"{sign}{abs(tenths) // 10}.{abs(tenths) % 10} {units}s"
+    found.append(("SV(t), earned schedule less time passed", text))
+    found.append(("SPI(t)", ratio_text(earned.spi_of_time)))
+    return tuple(found)
+
+
+def money_chart(gathered: Gathered, book: FigureBook) -> Chart | None:
+    """Returns planned, spent, earned and forecast money over time, or None without any."""
+    money = gathered.money
+    if money is None:
+        return None
+    lines = [
+        ("planned", "planned", money.planned),
+        ("spent", "spent", money.spent),
+        ("forecast", "forecast to the latest estimate", money.forecast),
+    ]
+    points = list(chain.from_iterable(line for _, _, line in lines))
+    first = min(point.day for point in points)
+    x = charts.Scale(0, max(1, max((point.day - first).days for point in points)))
+    earned = None if gathered.earned is None else gathered.earned.total.ev
+    amounts = [point.amount for point in points] + [earned or 0]
+    scale, ticks = charts.round_scale(0, max(amounts))
+    words = replace(book.words, money_scale=money.money_scale)
+    texts = [words.digits(tick) for tick in ticks]
+    now = x.share((gathered.status.plan.deck.as_of_day - first).days)
+    dots = [_spent_dot(point, first, x, scale) for point in money.spent]
+    if earned is not None:
+        height = charts.pixels(scale.share(earned), MONEY_HEIGHT)
+        dots.append(Dot("earned", charts.percent(now, 1), height, f"earned {words.digits(earned)}"))
+    return Chart(
+        "Planned, spent, earned and forecast money",
+        MONEY_HEIGHT,
+        charts.margin_for(texts),
+        tuple(_day_ticks(first, x)),
+        charts.y_axis(MONEY_HEIGHT, texts),
+        tuple(_series(name, label, line, first, (x, scale)) for name, label, line in lines),
+        tuple(dots),
+        verticals=(Tick(charts.percent(now, 1), "as of", charts.anchor(now)),),
+        x_label="earned so far (a ring), by work done",
+    )
+
+
+def _series(
+    name: str,
+    label: str,
+    line: tuple[MoneyPoint, ...],
+    first: date,
+    axes: tuple[charts.Scale, charts.Scale],
+) -> Series:
+    points = [((point.day - first).days, point.amount) for point in line]
+    return Series(name, label, box_points(points, *axes))
+
+
+def _spent_dot(point: MoneyPoint, first: date, x: charts.Scale, y: charts.Scale) -> Dot:
+    at = charts.percent(x.share((point.day - first).days), 1)
+    return Dot("spent", at, charts.pixels(y.share(point.amount), MONEY_HEIGHT))
+
+
+def _day_ticks(first: date, x: charts.Scale) -> Iterator[Tick]:
+    for offset, label, is_minor in charts.date_ticks(first, x.most):
+        share = x.share(offset)
+        yield Tick(charts.percent(share, 1), label, charts.anchor(share), is_minor)
+
+
+def load(gathered: Gathered, book: FigureBook) -> Load | None:
+    """Returns the load by period, or None if there are too many periods."""
+    found = gathered.load
+    if found is None:
+        return None
+    status = gathered.status
+    top = next(code for code, _ in results.preorder(status.network))
+    shown_resources = status.network.resources[:MOST_RESOURCES]
+    starts = period_starts(gathered, found.periods)
+    money = found.items[top]
+    named = [NamedChart(plain("Cost"), columns(money, found.periods, starts, book, True))]
+    for card in shown_resources:
+        amounts = found.resources[card.code]
+        chart = columns(amounts, found.periods, starts, book, False)
+        named.append(NamedChart(title(shown(card.title or card.code)), chart))
+    rows = []
+    listed = shown_resources[:6]
+    for period in range(found.periods):
+        cells = [plain(book.words.digits(money.get(period, 0)))]
+        cells.extend(plain(number_text(found.resources[c.code].get(period, 0))) for c in listed)
+        rows.append(Row(plain(starts[period]), tuple(cells)))
+    heads = ("Period from", "Cost", *(shown(card.title or card.code) for card in listed))
+    table = Table("Load by period", heads, tuple(rows))
+    return Load(
+        tuple(named),
+        len(status.network.resources) - len(shown_resources),
+        f"{gathered.period} days of the deck" if gathered.period > 1 else "one day of the deck",
+        table,
+    )
+
+
+def period_starts(gathered: Gathered, periods: int) -> list[str]:
+    """Returns the day on which each period begins."""
+    status = gathered.status
+    minutes = load_day_minutes(status.side, status.deck)
+    clock = Clock(replace(status.side, unit_minutes=minutes))
+    return [day_text(clock.begin(period * gathered.period)) for period in range(periods)]
+
+
+def columns(
+    amounts: dict[int, int], periods: int, starts: list[str], book: FigureBook, is_money: bool
+) -> Chart:
+    """Returns a chart with a column for each period."""
+    write = book.words.digits if is_money else number_text
+    scale, ticks = charts.round_scale(0, max([1, *amounts.values()]), 3)
+    texts = [write(tick) for tick in ticks]
+    width = Fraction(100, max(1, periods))
+    drawn = []
+    for period, amount in sorted(amounts.items()):
+        share = scale.share(amount)
+        top = charts.pixels(share, COLUMN_HEIGHT)
+        height = charts.pixels(1 - share, COLUMN_HEIGHT)
+        x = charts.percent((period + Fraction(1, 10)) * width, 100)
+        label = f"{starts[period]}: {write(amount)}"
+        drawn.append(Column(x, charts.percent(width * 4 / 5, 100), top, height, label))
+    return Chart(
+        "Columns by period",
+        COLUMN_HEIGHT,
+        charts.margin_for(texts),
+        tuple(_period_ticks(starts, periods)),
+        charts.y_axis(COLUMN_HEIGHT, texts),
+        columns=tuple(drawn),
+    )
+
+
+def _period_ticks(starts: list[str], periods: int) -> Iterator[Tick]:
+    step = max(1, -(-periods // 6))
+    for number, period in enumerate(range(0, periods, step)):
+        day = " ".join(starts[period].split(" ")[:2])
+        at = charts.percent(Fraction(period, periods), 1)
+        yield Tick(
+            at, day if day.split(" ")[-1] in MONTHS else starts[period], "start", number % 2 == 1
+        )

@@ -1,0 +1,424 @@
+// Draws the chosen length of a report page, and says in its badge what check.js and figures.js found. Schedules, costs and prices are those of the
+// certificate in the page, read by certificate.js. Nothing is loaded or sent.
+"use strict";
+
+// ---- The badge: checked with PertCheck and PertFigures alone
+(() => {
+    const $ = (id) => document.getElementById(id);
+    const dataOf = (id) => JSON.parse($(id).textContent);
+
+    function say(text, tone) {
+        $("verdict").textContent = text;
+        $("badge").className = `badge ${tone}`;
+    }
+
+    // Returns the figures that the page shows as it was written, before anything is drawn: [number, text].
+    function shownFigures() {
+        return [...document.querySelectorAll("[data-figure]")].map((element) => [element.dataset.figure, element.textContent]);
+    }
+
+    // Returns what is wrong with the listed and the shown figures, or null.
+    function wrongFigure(answers, rows, shown) {
+        const name = (row) => row.slice(0, 3).filter((word) => word !== "").join(" ");
+        const listed = answers.findIndex((answer) => answer !== null);
+        if (listed >= 0) return `figure ${name(rows[listed])} is ${rows[listed][3]}, the certificate says ${answers[listed]}`;
+        const other = shown.find(([number, text]) => rows[Number(number)] === undefined || !PertFigures.shows(text, rows[Number(number)][3]));
+        return other === undefined ? null : `a shown figure, ${other[1].slice(0, 40)}, is not the listed one`;
+    }
+
+    async function check() {
+        const shown = shownFigures();
+        const deck = PertCheck.readDeck(new TextEncoder().encode(dataOf("pert-deck").text));
+        const figures = dataOf("pert-figures");
+        const reader = new PertFigures.Reader(deck, figures);
+        const checker = new PertCheck.Checker(deck);
+        const data = dataOf("pert-certificate");
+        let pausedAt = performance.now();
+        let [done, all] = [0, data.segments?.length || 1];
+        for (const text of PertCertificate.chunks(data)) {
+            if (!checker.take(text)) break;
+            reader.take(text);
+            done += 1;
+            if (performance.now() - pausedAt < 12) continue;
+            say(`checking here: ${Math.min(100, Math.round((100 * done) / all))} %`, "");
+            await new Promise((resume) => setTimeout(resume));
+            pausedAt = performance.now();
+        }
+        const answer = checker.end();
+        if (!answer.startsWith("certified")) return say(answer, "wrong");
+        const wrong = wrongFigure(reader.end(), figures.rows, shown);
+        if (wrong !== null) return say(`not consistent: ${wrong}`, "wrong");
+        return say(`consistent (checked here): ${answer}`, "right");
+    }
+
+    if ($("pert-certificate") === null) {
+        say("not checked here: the certificate is larger than a page can hold", "");
+    } else {
+        check().catch((error) => say(`not consistent: ${error.message}`, "wrong"));
+    }
+})();
+
+// ---- The choice of a length
+(() => {
+    const $ = (id) => document.getElementById(id);
+    if ($("pert-certificate") === null) return;
+    const view = JSON.parse($("pert-view").textContent);
+    const MONTHS = "Jan Feb Mar Apr May Jun Jul Aug Sep Oct Nov Dec".split(" ");
+    const DAY = 86400000;
+    const [WAITING, BEGUN, FINISHED] = [0, 1, 2];
+    let deck;
+    let curve;
+    let plan; // today's plan: nothing is shortened
+    try {
+        deck = PertCertificate.readDeck(JSON.parse($("pert-deck").textContent).text);
+        curve = PertCertificate.open(JSON.parse($("pert-certificate").textContent), deck);
+        plan = PertCertificate.readingAt(curve, curve.longest);
+    } catch {
+        return; // the badge says what is wrong
+    }
+
+    // ---- Words, as words.py has them
+    function grouped(digits) {
+        return digits.replace(/\B(?=(?:[0-9]{3})+$)/g, ",");
+    }
+
+    function money(amount) {
+        const digits = String(amount < 0n ? -amount : amount).padStart(view.decimals + 1, "0");
+        const whole = grouped(digits.slice(0, digits.length - view.decimals));
+        const part = view.decimals > 0 ? `.${digits.slice(-view.decimals)}` : "";
+        return `${amount < 0n ? "\u2212" : ""}${whole}${part}${view.currency ? `\u00a0${view.currency}` : ""}`;
+    }
+
+    function units(count) {
+        const number = grouped(String(count < 0n ? -count : count));
+        return `${number} ${view.unit}${number === "1" ? "" : "s"}`;
+    }
+
+    function dayText(time) {
+        if (time === null) return "\u2013";
+        const day = new Date(time);
+        return `${day.getUTCDate()} ${MONTHS[day.getUTCMonth()]} ${day.getUTCFullYear()}`;
+    }
+
+    // ---- Days, as clock.py has them: places of working minutes in runs of days
+    const firstDay = Date.parse(view.calendar.first);
+    const drawnFrom = Date.parse(view.drawing.first);
+    let minutes = 0;
+    const runs = view.calendar.runs.map(([offset, days, each]) => {
+        const run = { offset, each, from: minutes };
+        minutes += days * each;
+        return run;
+    });
+    const known = minutes;
+
+    // Returns the day that has a minute of work, counted from 0, or null if the page does not know it.
+    function dayWith(minute) {
+        if (minute >= known) return null;
+        let [low, high] = [0, runs.length - 1];
+        while (low < high) {
+            const middle = (low + high + 1) >> 1;
+            if (runs[middle].from <= minute) low = middle;
+            else high = middle - 1;
+        }
+        const { offset, each, from } = runs[low];
+        return firstDay + DAY * (offset + Math.floor((minute - from) / each));
+    }
+
+    const beginDay = (length) => dayWith(Number(length) * view.calendar.unit);
+    const endDay = (length) => dayWith(Math.max(0, Number(length) * view.calendar.unit - 1));
+
+    // ---- Times of a schedule: early and late times of events with its durations
+    const order = topological();
+
+    // Returns the activities so that each comes after all that end where it begins.
+    function topological() {
+        const waiting = deck.events.map(() => 0);
+        const leaving = deck.events.map(() => []);
+        deck.activities.forEach(({ from, to }, place) => {
+            waiting[to] += 1;
+            leaving[from].push(place);
+        });
+        const ready = deck.events.map((_, event) => event).filter((event) => waiting[event] === 0);
+        const found = [];
+        while (ready.length > 0) {
+            for (const place of leaving[ready.pop()]) {
+                found.push(place);
+                const { to } = deck.activities[place];
+                waiting[to] -= 1;
+                if (waiting[to] === 0) ready.push(to);
+            }
+        }
+        return found;
+    }
+
+    function timesOf(durations, length) {
+        const early = deck.events.map(() => 0);
+        const late = deck.events.map(() => length);
+        for (const place of order) {
+            const { from, to } = deck.activities[place];
+            early[to] = Math.max(early[to], early[from] + durations[place]);
+        }
+        for (let at = order.length - 1; at >= 0; at -= 1) {
+            const { from, to } = deck.activities[order[at]];
+            late[from] = Math.min(late[from], late[to] - durations[order[at]]);
+        }
+        return { early, late };
+    }
+
+    // ---- Costs
+    function extraOf(place, duration) {
+        const activity = deck.activities[place];
+        let shorter = activity.normal - duration;
+        let first = activity.normal - activity.crash;
+        for (const { units: each } of activity.pieces) first -= each;
+        let cost = 0n;
+        for (const { units: each, slope } of [{ units: first, slope: activity.slope }, ...activity.pieces]) {
+            const taken = shorter < each ? shorter : each;
+            cost += taken * slope;
+            shorter -= taken;
+        }
+        return cost;
+    }
+
+    function timeCosts(length) {
+        if (deck.terms === null) return null;
+        const { overhead, target, bonus, penalty } = deck.terms;
+        return {
+            overhead: overhead * length,
+            bonus: length < target ? bonus * (target - length) : 0n,
+            penalty: length > target ? penalty * (length - target) : 0n,
+        };
+    }
+
+    // ---- Tasks
+    const tasks = view.tasks.map(([parts, start, finish, state, name], place) => {
+        const row = $(`t${place}`);
+        const of = (selector) => row?.querySelector(selector) ?? null;
+        return {
+            parts,
+            start,
+            finish,
+            state,
+            name,
+            row,
+            startCell: of(".start"),
+            finishCell: of(".finish"),
+            slackCell: of(".slack"),
+            durationCell: of(".duration"),
+            bar: of("rect.bar"),
+            milestone: of("svg.milestone"),
+        };
+    });
+
+    const sum = (task, durations) => task.parts.reduce((total, part) => total + Number(durations[part]), 0);
+
+    // Returns when a task begins and ends, in units after the start, and its slack.
+    function spanOf(task, durations, { early, late }) {
+        const [first, last] = [task.parts[0], task.parts[task.parts.length - 1]];
+        const chosen = sum(task, durations);
+        let start = early[deck.activities[first].from];
+        let finish = early[deck.activities[last].from] + durations[last];
+        if (task.finish >= 0) {
+            finish = early[deck.activities[task.finish].from];
+            if (task.start < 0) start = finish - chosen;
+        }
+        const cards = [...task.parts, task.start, task.finish].filter((card) => card >= 0);
+        const slacks = cards.map((card) => late[deck.activities[card].to] - early[deck.activities[card].from] - durations[card]);
+        return { start, finish, chosen, slack: Math.min(...slacks) };
+    }
+
+    function place(days) {
+        return `${(100 * days) / view.drawing.days}%`;
+    }
+
+    function setText(element, text) {
+        if (element !== null && element.textContent !== text) element.textContent = text;
+    }
+
+    function drawTask(task, durations, times) {
+        if (task.row === null || task.state === FINISHED) return;
+        const { start, finish, chosen, slack } = spanOf(task, durations, times);
+        const begins = chosen > 0 ? beginDay(start) : endDay(start);
+        const ends = chosen > 0 ? endDay(finish) : begins;
+        if (task.state === WAITING) setText(task.startCell, dayText(begins));
+        setText(task.finishCell, dayText(ends));
+        setText(task.slackCell, grouped(String(slack)));
+        setText(task.durationCell, grouped(String(chosen)));
+        task.row.classList.toggle("critical", slack <= 0);
+        if (begins === null || ends === null) return;
+        const [left, right] = [(begins - drawnFrom) / DAY, (ends - drawnFrom) / DAY + 1];
+        task.bar?.setAttribute("x", place(left));
+        task.bar?.setAttribute("width", place(right - left));
+        task.milestone?.setAttribute("x", place(right));
+    }
+
+    // ---- What a schedule changes: a row for each task, made when it is first needed
+    const changedBody = $("changed").querySelector("tbody");
+
+    function cell(kind, className) {
+        const made = document.createElement(kind);
+        made.className = className;
+        return made;
+    }
+
+    // Returns the row of a task, in the order of tasks among the rows that there are.
+    function changedRow(place) {
+        const task = tasks[place];
+        if (task.changed !== undefined) return task.changed;
+        const row = document.createElement("tr");
+        const name = cell("th", "");
+        name.scope = "row";
+        name.append(Object.assign(document.createElement("bdi"), { textContent: task.name }));
+        const cells = ["normal", "before", "now", "extra"].map(() => cell("td", "number"));
+        row.append(name, ...cells);
+        const after = tasks.slice(place + 1).find((other) => other.changed !== undefined);
+        changedBody.insertBefore(row, after?.changed.row ?? null);
+        task.changed = { row, cells };
+        return task.changed;
+    }
+
+    // Draws the rows of tasks that differ from today's plan or from the stop before, and returns their durations.
+    function drawChangedRows(here, plan, stop) {
+        const rows = [];
+        tasks.forEach((task, place) => {
+            if (task.state === FINISHED) return;
+            const [now, normal, before] = [here, plan, stop].map((reading) => sum(task, reading.durations));
+            const isChanged = now !== normal || before !== normal;
+            if (!isChanged && task.changed === undefined) return;
+            const { row, cells } = changedRow(place);
+            row.hidden = !isChanged;
+            if (!isChanged) return;
+            const extra = task.parts.reduce((total, part) => total + extraOf(part, here.durations[part]), 0n);
+            const texts = [normal, before, now].map((count) => grouped(String(count)));
+            [...texts, money(extra)].forEach((text, at) => setText(cells[at], text));
+            row.classList.toggle("longer", now > before);
+            rows.push({ normal, before, now });
+        });
+        return rows;
+    }
+
+    function drawChanges(rows, stop) {
+        $("differences").hidden = false;
+        const shortened = rows.filter((row) => row.now < row.normal).length;
+        const count = `${shortened} task${shortened === 1 ? " is" : "s are"} shorter than in today\u2019s plan.`;
+        setText($("out-same"), rows.length === 0 ? "Nothing is shortened." : count);
+        $("changed").parentElement.hidden = rows.length === 0;
+        setText($("out-stop"), `At ${units(stop.length)}`);
+        const longer = rows.filter((row) => row.now > row.before).length;
+        const other = rows.filter((row) => row.now !== row.before).length;
+        const isMuch = longer > 0 || other > Math.max(3, tasks.length / 5);
+        $("out-warning").hidden = !isMuch;
+        if (isMuch) {
+            const again = longer > 0 ? `, and ${longer} of them ${longer === 1 ? "is" : "are"} longer again` : "";
+            const text = `Against ${units(stop.length)} this schedule changes ${other} task${other === 1 ? "" : "s"}${again}: it rearranges the work.`;
+            setText($("out-warning"), text);
+        }
+    }
+
+    // Returns the breakpoint above a length, or the longest one: the stop before it.
+    function stopBefore(length) {
+        const above = curve.breakpoints.filter((point) => point.length > length);
+        return above.length > 0 ? above[above.length - 1].length : curve.longest;
+    }
+
+    // ---- The chosen length
+    let chosen = BigInt(view.length);
+    let isAsked = false;
+
+    // Draws the chosen length. What a changed certificate has may be no schedule: then there is nothing to choose, and the badge says what is wrong.
+    function draw() {
+        isAsked = false;
+        try {
+            drawChosen();
+        } catch {
+            $("choose").hidden = true;
+        }
+    }
+
+    function drawChosen() {
+        const here = PertCertificate.readingAt(curve, chosen);
+        const stop = PertCertificate.readingAt(curve, stopBefore(chosen));
+        const durations = here.durations.map(Number);
+        const times = timesOf(durations, Number(chosen));
+        drawCosts(here);
+        for (const task of tasks) drawTask(task, durations, times);
+        drawChanges(drawChangedRows(here, plan, stop), stop);
+        drawMark(here);
+        drawStretch();
+    }
+
+    function drawCosts(here) {
+        const late = view.contract === null ? null : here.length - BigInt(view.contract.units);
+        const end = dayText(endDay(here.length));
+        let lateText = "";
+        if (late !== null && late === 0n) lateText = `on the ${view.contract.name}`;
+        else if (late !== null) lateText = `${units(late)} ${late > 0n ? "after" : "before"} the ${view.contract.name}`;
+        setText($("out-length"), grouped(String(here.length)));
+        setText($("out-unit"), here.length === 1n ? view.unit : `${view.unit}s`);
+        setText($("out-end"), end);
+        setText($("out-late"), lateText);
+        setText($("out-cost"), money(here.cost));
+        setText($("out-more"), money(here.cost - plan.cost));
+        setText($("out-next"), here.next === null ? "no length is shorter" : money(here.next));
+        const costs = timeCosts(here.length);
+        if (costs !== null) {
+            for (const key of ["overhead", "bonus", "penalty"]) setText($(`out-${key}`), money(costs[key]));
+            setText($("out-total"), money(here.cost + costs.overhead - costs.bonus + costs.penalty));
+        }
+        $("slider").setAttribute("aria-valuetext", `${units(here.length)}, ends on ${end}, costs ${money(here.cost)}`);
+    }
+
+    function drawMark(here) {
+        const dot = document.querySelector(".curve .dot.chosen");
+        const span = Number(curve.longest - curve.shortest) || 1;
+        dot?.setAttribute("cx", `${(100 * Number(here.length - curve.shortest)) / span}%`);
+        const { least, most, height } = view.chart;
+        dot?.setAttribute("cy", String(height * (1 - (Number(here.cost) - least) / (most - least))));
+    }
+
+    function drawStretch() {
+        const found = view.stretches.find(([lower, upper]) => chosen >= BigInt(lower) && chosen <= BigInt(upper));
+        $("out-stretch").hidden = found === undefined;
+        setText($("out-stretch"), found === undefined ? "" : found[2]);
+    }
+
+    // Chooses a length, and draws it with the next frame.
+    function choose(length, from) {
+        chosen = length < curve.shortest ? curve.shortest : length > curve.longest ? curve.longest : length;
+        if (from !== $("slider")) $("slider").value = String(chosen);
+        if (from !== $("number")) $("number").value = String(chosen);
+        if (!isAsked) requestAnimationFrame(draw);
+        isAsked = true;
+    }
+
+    function settle() {
+        history.replaceState(null, "", `#length=${chosen}`);
+        $("number").value = String(chosen);
+        setText($("said"), $("slider").getAttribute("aria-valuetext"));
+    }
+
+    function lengthOf(text) {
+        const found = /^(?:#length=)?([0-9]{1,18})$/.exec(text);
+        return found === null ? null : BigInt(found[1]);
+    }
+
+    for (const input of [$("slider"), $("number")]) {
+        input.addEventListener("input", () => {
+            const length = lengthOf(input.value);
+            if (length !== null && length >= curve.shortest && length <= curve.longest) choose(length, input);
+        });
+        input.addEventListener("change", () => {
+            choose(lengthOf(input.value) ?? chosen, null);
+            requestAnimationFrame(settle);
+        });
+    }
+    $("choose").addEventListener("submit", (event) => event.preventDefault());
+    addEventListener("hashchange", () => {
+        const length = lengthOf(location.hash);
+        if (length !== null) choose(length, null);
+    });
+    document.documentElement.classList.add("live");
+    $("choose").hidden = false;
+    chosen = lengthOf(location.hash) ?? chosen;
+    choose(chosen, null);
+})();

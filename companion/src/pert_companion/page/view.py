@@ -1,0 +1,194 @@
+"""What templates show: plain records of texts and places, without a decision left to make."""
+
+from dataclasses import dataclass, field
+
+from pert_companion.page.data import Figures
+from pert_companion.page.words import MINUS, Words, number_text
+
+
+@dataclass(frozen=True)
+class Piece:
+    """A part of a text. Parts with a figure are digits that the certificate gives."""
+
+    text: str
+    figure: int | None = None
+    is_title: bool = False
+    is_strong: bool = False
+
+
+Line = tuple[Piece, ...]
+"""A text in parts."""
+
+
+def plain(text: str) -> Line:
+    """Returns a text as one part."""
+    return (Piece(text),)
+
+
+def strong(text: str) -> Line:
+    """Returns a text that stands out."""
+    return (Piece(text, is_strong=True),)
+
+
+def title(text: str) -> Line:
+    """Returns a title of the deck, which keeps to its own direction."""
+    return (Piece(text, is_title=True),)
+
+
+@dataclass
+class FigureBook:
+    """The figures of the page that follow from the certificate, and how they are written."""
+
+    words: Words
+    figures: Figures = field(default_factory=Figures)
+
+    def money(self, what: str, value: int, length: int | None = None, code: str = "") -> Line:
+        """Returns an amount that is a figure of the certificate."""
+        row = self.figures.add(what, value, length, code)
+        number = Piece(self.words.digits(value), row)
+        if not self.words.currency:
+            return (number,)
+        return (number, Piece(f"\u00a0{self.words.currency}"))
+
+    def number(self, what: str, value: int, length: int | None = None, code: str = "") -> Line:
+        """Returns a number that is a figure of the certificate."""
+        return (Piece(number_text(value), self.figures.add(what, value, length, code)),)
+
+    def units(self, what: str, value: int, length: int | None = None, code: str = "") -> Line:
+        """Returns a length or duration with its unit."""
+        word = self.words.unit if abs(value) == 1 else f"{self.words.unit}s"
+        return (*self.number(what, value, length, code), Piece(f"\u00a0{word}"))
+
+
+@dataclass(frozen=True)
+class Tile:
+    """A key figure with its name and a note."""
+
+    name: str
+    value: Line
+    note: Line
+    tone: str = ""
+    """`bad` if it is worse than agreed."""
+
+
+@dataclass(frozen=True)
+class Row:
+    """A row of a table: its name, its other cells, and how deep it is."""
+
+    name: Line
+    cells: tuple[Line, ...]
+    level: int = 0
+    is_sum: bool = False
+
+
+@dataclass(frozen=True)
+class Table:
+    """A table with a caption; columns from the second on are numbers unless they say otherwise."""
+
+    caption: str
+    heads: tuple[str, ...]
+    rows: tuple[Row, ...]
+    texts: tuple[int, ...] = ()
+    """Columns that are texts, counted from 0."""
+
+
+@dataclass(frozen=True)
+class Tick:
+    """A mark on an axis, at per mille of its width or at so many pixels of its height."""
+
+    at: str
+    label: str
+    anchor: str = "middle"
+    is_minor: bool = False
+
+
+@dataclass(frozen=True)
+class Series:
+    """A line of a chart: points in a box of 1000 by 1000, and the name of its style."""
+
+    name: str
+    label: str
+    points: str
+
+
+@dataclass(frozen=True)
+class Dot:
+    """A point of a chart, in per cent of its width and pixels of its height."""
+
+    name: str
+    x: str
+    y: str
+    label: str = ""
+
+
+@dataclass(frozen=True)
+class Column:
+    """A column of a chart."""
+
+    x: str
+    width: str
+    y: str
+    height: str
+    label: str
+
+
+@dataclass(frozen=True)
+class Chart:
+    """A chart: axes, and lines, dots or columns. Pixels are those of the drawing's height."""
+
+    label: str
+    height: int
+    margin: int
+    """The width of the labels at the left, in pixels."""
+    x_ticks: tuple[Tick, ...]
+    y_ticks: tuple[Tick, ...]
+    series: tuple[Series, ...] = ()
+    dots: tuple[Dot, ...] = ()
+    columns: tuple[Column, ...] = ()
+    verticals: tuple[Tick, ...] = ()
+    """Lines over the complete height, such as the contract date."""
+    prices: tuple[Tick, ...] = ()
+    """Labels of stretches of the curve."""
+    x_label: str = ""
+
+
+@dataclass(frozen=True)
+class Bar:
+    """A bar of the schedule, in per cent of the width."""
+
+    name: str
+    x: str
+    width: str
+
+
+@dataclass(frozen=True)
+class TaskRow:
+    """A task, or a group of tasks, of the schedule."""
+
+    key: str
+    """`t12` for the task with this place, empty for a group."""
+    name: Line
+    level: int
+    state: str
+    start: str
+    finish: str
+    slack: str
+    duration: Line
+    bars: tuple[Bar, ...] = ()
+    is_critical: bool = False
+    is_milestone: bool = False
+    flag: str = ""
+    """What is wrong with it: `should have begun 3 Mar 2024`."""
+
+
+@dataclass(frozen=True)
+class Section:
+    """A section of the page, for its contents."""
+
+    key: str
+    name: str
+
+
+def signed(text: str) -> str:
+    """Returns a text of a number with its sign."""
+    return text if text.startswith(MINUS) or text.strip("0.,") == "" else f"+{text}"

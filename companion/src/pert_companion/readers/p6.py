@@ -1,0 +1,635 @@
+"""Makes a plan of the tables of Primavera P6, which XER and P6's XML both hold.
+
+A table is a list of records whose fields have the names of XER. What one file format lacks is an
+empty field.
+"""
+
+from collections import Counter
+from collections.abc import Callable, Iterable, Iterator, Mapping
+from dataclasses import dataclass, field, replace
+from datetime import date
+from decimal import Decimal
+from fractions import Fraction
+
+from pert_companion.calendar import Calendar
+from pert_companion.errors import InputError
+from pert_companion.losses import Loss, LossKind
+from pert_companion.plan import (
+    Assignment,
+    Baseline,
+    Constraint,
+    ConstraintKind,
+    Crash,
+    Group,
+    Lag,
+    Link,
+    LinkKind,
+    Plan,
+    Progress,
+    Resource,
+    ResourceKind,
+    Task,
+)
+from pert_companion.readers import crashing, moments
+from pert_companion.readers.base import Reading, ReaderOptions, Source
+from pert_companion.readers.crashing import CrashFields
+from pert_companion.readers.grid import MOST_ROWS, clip
+from pert_companion.readers.p6_outline import Node, outline_order
+from pert_companion.readers.xmltree import decimal
+
+_CONSTRAINTS = {
+    "CS_ALAP": ConstraintKind.AS_LATE_AS_POSSIBLE,
+    "CS_MSO": ConstraintKind.MUST_START,
+    "CS_MSOA": ConstraintKind.START_NO_EARLIER,
+    "CS_MSOB": ConstraintKind.START_NO_LATER,
+    "CS_MEO": ConstraintKind.MUST_FINISH,
+    "CS_MEOA": ConstraintKind.FINISH_NO_EARLIER,
+    "CS_MEOB": ConstraintKind.FINISH_NO_LATER,
+    "CS_MANDSTART": ConstraintKind.MUST_START,
+    "CS_MANDFIN": ConstraintKind.MUST_FINISH,
+}
+_LINK_KINDS = {
+    "PR_FS": LinkKind.FINISH_START,
+    "PR_SS": LinkKind.START_START,
+    "PR_FF": LinkKind.FINISH_FINISH,
+    "PR_SF": LinkKind.START_FINISH,
+}
+_MILESTONES = frozenset(("TT_Mile", "TT_FinMile"))
+_SPANS = {
+    "TT_LOE": "a level of effort spans other tasks; it is left out with its links",
+    "TT_WBS": "a WBS summary spans other tasks; it is left out with its links",
+}
+_MOST_MINUTES = 10**9
+
+
+@dataclass(frozen=True)
+class Record:
+    """One row of a table: its place in the file, and the texts of its fields."""
+
+    where: str
+    fields: Mapping[str, str]
+
+    def text(self, name: str) -> str:
+        """Returns the text of a field; an empty one if there is none."""
+        return self.fields.get(name, "")
+
+
+@dataclass(frozen=True)
+class P6File:
+    """The tables of a file, and its calendars by their id."""
+
+    source: Source
+    format: str
+    tables: Mapping[str, list[Record]]
+    calendars: Mapping[str, Calendar]
+    losses: list[Loss] = field(default_factory=list)
+    notes: list[str] = field(default_factory=list)
+    baselines: Mapping[str, tuple[Baseline, ...]] = field(default_factory=dict)
+    """The saved baselines of an activity by its code."""
+
+    def table(self, name: str) -> list[Record]:
+        """Returns the rows of a table; none if the file lacks it."""
+        return self.tables.get(name, [])
+
+
+def read_plan(file: P6File, options: ReaderOptions) -> Reading:
+    """Returns the plan of a file and what is not in it.
+
+    Raises `InputError` if the file has no activity that can be carried over, several projects of
+    which none is chosen, or an outline that is none.
+    """
+    return _Reader(file, options).reading()
+
+
+class _Reader:
+    """Reads one project of a file."""
+
+    def __init__(self, file: P6File, options: ReaderOptions) -> None:
+        self.file = file
+        self.options = options
+        self.losses = list(file.losses)
+        self.notes = list(file.notes)
+        self.project = self.chosen_project()
+        self.records = self.own_records("TASK")
+        if not self.records:
+            raise InputError(f"{file.source.name}: no activities (table TASK)")
+        if len(self.records) > MOST_ROWS:
+            raise InputError(f"{file.source.name}: more than {MOST_ROWS} activities")
+        self.resource_records = {row.text("rsrc_id"): row for row in file.table("RSRC")}
+        self.resources_of = self.resource_ids_by_task()
+        self.calendar = self.plan_calendar()
+        self.crash_types = self.user_fields()
+        self.user_values = self.values_by_task()
+        self.costs = _Costs(file, self.losses, {row.text("task_id") for row in self.records})
+
+    def reading(self) -> Reading:
+        """Returns the plan and its losses."""
+        source = self.file.source
+        nodes = [
+            Node(row.text("wbs_id"), row.text("parent_wbs_id"), row)
+            for row in self.own_records("PROJWBS")
+        ]
+        order = outline_order(nodes, self.records, source.name)
+        outline = tuple(self.entries(order.entries))
+        tasks = {entry.uid: entry for entry in outline if isinstance(entry, Task)}
+        if not tasks:
+            first = f": {self.losses[0].line(source.name)}" if self.losses else ""
+            raise InputError(first[2:] or f"{source.name}: no task can be carried over")
+        name = self.options.name or self.project_name(order.root)
+        plan = Plan(
+            name=name or source.path.stem,
+            start=self.start(),
+            calendar=self.calendar,
+            outline=outline,
+            links=tuple(self.links(tasks)),
+            resources=tuple(self.resources()),
+            assignments=tuple(self.assignments(tasks)),
+            data_date=self.data_date(),
+            currency=self.currency(),
+            source=self.file.format,
+            notes=tuple(self.notes),
+        )
+        return Reading(plan, tuple(self.losses))
+
+    def chosen_project(self) -> Record:
+        """Returns the project that has activities; `--name` chooses one of several."""
+        used = {row.text("proj_id") for row in self.file.table("TASK")}
+        found = [row for row in self.file.table("PROJECT") if row.text("proj_id") in used]
+        if len(found) > 1 and self.options.name:
+            wanted = self.options.name.casefold()
+            found = [row for row in found if row.text("proj_short_name").casefold() == wanted]
+        if len(found) > 1 or (not found and len(used) > 1):
+            names = ", ".join(row.text("proj_short_name") for row in found)
+            raise InputError(
+                f"{self.file.source.name}: several projects; choose one with --name: {clip(names)}"
+            )
+        return found[0] if found else Record("table PROJECT", {})
+
+    def own_records(self, table: str) -> list[Record]:
+        """Returns the rows of a table that belong to the project."""
+        rows = self.file.table(table)
+        wanted = self.project.text("proj_id")
+        return [row for row in rows if not wanted or row.text("proj_id") in ("", wanted)]
+
+    def project_name(self, root: Record | None) -> str:
+        """Returns the name of the project: that of its top item, else its short name."""
+        name = self.project.text("proj_name") or (root.text("wbs_name") if root else "")
+        return _title(name or self.project.text("proj_short_name"))
+
+    def currency(self) -> str:
+        """Returns the code of the file's base currency."""
+        rows = self.file.table("CURRTYPE")
+        wanted = self.project.text("base_curr_id") or self.project.text("curr_id")
+        for row in rows:
+            if row.text("curr_id") == wanted or len(rows) == 1:
+                return row.text("curr_short_name")[:8]
+        return ""
+
+    def start(self) -> date:
+        """Returns the first day of the project."""
+        start = self.options.start or moments.day(self.project.text("plan_start_date"))
+        if start is None:
+            listed = [moments.day(_listed_start(row)) for row in self.records]
+            start = min((day for day in listed if day is not None), default=None)
+        if start is None:
+            raise InputError(f"{self.file.source.name}: no start date; give one with --start")
+        return start
+
+    def data_date(self) -> date | None:
+        """Returns the day whose evening the progress is about.
+
+        P6's data date is a morning, so it is the working day before; None before the first day.
+        """
+        if self.options.data_date is not None:
+            return self.options.data_date
+        day = moments.finish_day(self.calendar, _timed(self.project.text("last_recalc_date")))
+        return day if day is not None and day >= self.start() else None
+
+    def plan_calendar(self) -> Calendar:
+        """Returns the calendar of most activities, or the one that is asked for."""
+        file, options = self.file, self.options
+        wanted = options.calendar.casefold()
+        if wanted:
+            found = [each for each in file.calendars.values() if each.name.casefold() == wanted]
+            if not found:
+                raise InputError(f"{file.source.name}: no calendar named {options.calendar!r}")
+            chosen = found[0]
+        else:
+            used = [key for key in map(self.calendar_id, self.records) if key in file.calendars]
+            counts = Counter([*used, self.project.text("clndr_id")])
+            known = [key for key, _ in counts.most_common() if key in file.calendars]
+            chosen = file.calendars[known[0]] if known else Calendar()
+            if not known:
+                self.notes.append("the file has no calendar: Monday to Friday is assumed")
+        day = options.day_minutes or chosen.day_minutes
+        week = options.week_minutes or chosen.week_minutes
+        month = options.month_days or chosen.month_days
+        return replace(chosen, day_minutes=day, week_minutes=week, month_days=month)
+
+    def resource_ids_by_task(self) -> dict[str, list[str]]:
+        """Returns the resources of each activity, by ids."""
+        found: dict[str, list[str]] = {}
+        for row in self.file.table("TASKRSRC"):
+            found.setdefault(row.text("task_id"), []).append(row.text("rsrc_id"))
+        return found
+
+    def calendar_id(self, row: Record) -> str:
+        """Returns the calendar that an activity is scheduled by: its own, or its resource's."""
+        if row.text("task_type") != "TT_Rsrc":
+            return row.text("clndr_id")
+        for key in self.resources_of.get(row.text("task_id"), []):
+            resource = self.resource_records.get(key)
+            if resource is not None and resource.text("clndr_id") in self.file.calendars:
+                return resource.text("clndr_id")
+        return row.text("clndr_id")
+
+    def calendar_of(self, row: Record) -> Calendar:
+        """Returns the calendar that an activity is scheduled by."""
+        return self.file.calendars.get(self.calendar_id(row), self.calendar)
+
+    def entries(self, order: Iterable[tuple[Record, str | None, bool]]) -> Iterator[Task | Group]:
+        """Yields the groups and tasks of an outline."""
+        seen: set[str] = set()
+        for row, parent, is_group in order:
+            if is_group:
+                yield _group(row, parent)
+                continue
+            uid = row.text("task_id")
+            if uid in seen or not uid:
+                why = "two activities have this id" if uid else "an activity without an id"
+                raise InputError(f"{self.file.source.name}: {row.where}: {why} {clip(uid)}".strip())
+            seen.add(uid)
+            task = self.task(row, parent)
+            if task is not None:
+                yield task
+
+    def task(self, row: Record, parent: str | None) -> Task | None:
+        """Returns the task of an activity, or None and a loss."""
+        kind = row.text("task_type")
+        if kind in _SPANS:
+            self.lose(LossKind.LOE, row, "task_type", _SPANS[kind], kind)
+            return None
+        minutes = 0 if kind in _MILESTONES else self.minutes(row, "target_drtn_hr_cnt")
+        if minutes is None:
+            why = "this is no duration; the task is left out"
+            self.lose(LossKind.TASK, row, "target_drtn_hr_cnt", why)
+            return None
+        constraint, deadline = self.constraints(row)
+        own = self.calendar_of(row)
+        uid = row.text("task_id")
+        return Task(
+            uid=uid,
+            where=row.where,
+            name=_task_name(row),
+            minutes=minutes,
+            parent=parent,
+            code=row.text("task_code")[:200],
+            crash=self.crash(row, minutes),
+            cost=self.costs.planned.get(uid),
+            constraint=constraint,
+            deadline=deadline,
+            listed_start=_day_of(moments.start_day, own, _listed_start(row), minutes),
+            listed_finish=_day_of(moments.finish_day, own, _listed_finish(row), minutes),
+            progress=self.progress(row, minutes),
+            baselines=self.file.baselines.get(row.text("task_code"), ()),
+            calendar=own.name if _differs(own, self.calendar) else None,
+        )
+
+    def minutes(self, row: Record, name: str) -> int | None:
+        """Returns a number of hours of an activity in minutes of the plan's calendar, or None.
+
+        A day of the activity's own calendar counts as a day of the plan's.
+        """
+        return _minutes(row.text(name), self.calendar_of(row), self.calendar)
+
+    def constraints(self, row: Record) -> tuple[Constraint | None, date | None]:
+        """Returns the constraint and the deadline of an activity.
+
+        A second constraint "finish on or before" is a deadline; any other one is a loss.
+        """
+        first = self.constraint(row, "cstr_type", "cstr_date")
+        second = self.constraint(row, "cstr_type2", "cstr_date2")
+        if row.text("external_early_start_date") or row.text("external_late_end_date"):
+            why = "dates of other projects are not carried over"
+            self.lose(LossKind.CONSTRAINT, row, "external dates", why, "yes")
+        if first is None:
+            return second, None
+        if second is not None and second.kind is ConstraintKind.FINISH_NO_LATER:
+            return first, second.day
+        if second is not None:
+            why = f"the second constraint, {second.kind.value} {second.day}, is not carried over"
+            self.lose(LossKind.CONSTRAINT, row, "cstr_type2", why)
+        return first, None
+
+    def constraint(self, row: Record, kind_name: str, day_name: str) -> Constraint | None:
+        """Returns one constraint of an activity, or None; a loss if it has no sense."""
+        text = row.text(kind_name)
+        if not text:
+            return None
+        kind = _CONSTRAINTS.get(text)
+        if kind is None:
+            self.lose(LossKind.CONSTRAINT, row, kind_name, "this is no known constraint")
+            return None
+        if kind is ConstraintKind.AS_LATE_AS_POSSIBLE:
+            return Constraint(kind, None)
+        is_finish = kind.value.startswith("finish") or kind is ConstraintKind.MUST_FINISH
+        when = row.text(day_name)
+        day = moments.finish_day(self.calendar, when) if is_finish else moments.day(when)
+        if day is None:
+            self.lose(LossKind.CONSTRAINT, row, day_name, f"{kind.value} without a date")
+            return None
+        return Constraint(kind, day)
+
+    def progress(self, row: Record, minutes: int) -> Progress:
+        """Returns what the file says of work done."""
+        status = row.text("status_code")
+        if status in ("", "TK_NotStart"):
+            return Progress()
+        if row.text("suspend_date") and status == "TK_Active":
+            why = "a suspended activity goes on in one piece"
+            self.lose(LossKind.PAUSE, row, "suspend_date", why)
+        uid = row.text("task_id")
+        remaining = 0 if status == "TK_Complete" else self.minutes(row, "remain_drtn_hr_cnt")
+        percent = Decimal(100) if status == "TK_Complete" else _percent(row, minutes, remaining)
+        finish = row.text("act_end_date") if status == "TK_Complete" else ""
+        return Progress(
+            percent=percent,
+            actual_start=_day_of(
+                moments.start_day, self.calendar_of(row), row.text("act_start_date"), minutes
+            ),
+            actual_finish=moments.finish_day(self.calendar_of(row), finish),
+            remaining=remaining,
+            actual_cost=self.costs.actual.get(uid),
+            remaining_cost=self.costs.remaining.get(uid),
+        )
+
+    def user_fields(self) -> dict[str, str]:
+        """Returns the name in small letters of each user-defined field of activities, by its id."""
+        found = {}
+        for row in self.file.table("UDFTYPE"):
+            if row.text("table_name") in ("", "TASK"):
+                found[row.text("udf_type_id")] = row.text("udf_type_label").strip().casefold()
+        return found
+
+    def values_by_task(self) -> dict[tuple[str, str], str]:
+        """Returns the texts of user-defined fields, by activity and name in small letters."""
+        found: dict[tuple[str, str], str] = {}
+        for row in self.file.table("UDFVALUE"):
+            name = self.crash_types.get(row.text("udf_type_id"))
+            value = row.text("udf_number") or row.text("udf_text")
+            if name is not None and value:
+                found.setdefault((row.text("fk_id"), name), value.strip())
+        return found
+
+    def crash(self, row: Record, minutes: int) -> Crash | None:
+        """Returns the shortest duration and what it costs, from user-defined fields."""
+        uid = row.text("task_id")
+
+        def look_up(names: tuple[str, ...]) -> str:
+            texts = (self.user_values.get((uid, name), "") for name in names)
+            return next((text for text in texts if text), "")
+
+        found: CrashFields = crashing.find_fields(look_up, self.options)
+        if not found.shortest:
+            return None
+        shortest = crashing.minutes_of(found.shortest, self.calendar)
+        crash, why = crashing.crash_of(shortest, decimal(found.slope), decimal(found.cost), minutes)
+        if why:
+            self.lose(LossKind.CRASH, row, "crash", why, found.shortest)
+        return crash
+
+    def links(self, tasks: Mapping[str, Task]) -> Iterator[Link]:
+        """Yields the links between tasks; others are losses, unless an end is a span."""
+        records = {row.text("task_id"): row for row in self.records}
+        for row in self.file.table("TASKPRED"):
+            before, after = row.text("pred_task_id"), row.text("task_id")
+            if after not in records and self.is_foreign(row):
+                continue
+            if before in tasks and after in tasks:
+                link = self.link(row, records[before], records[after])
+                if link is not None:
+                    yield link
+                continue
+            kinds = [records[uid].text("task_type") for uid in (before, after) if uid in records]
+            if not any(kind in _SPANS for kind in kinds):
+                self.lose_link(row, tasks.get(after) or tasks.get(before))
+
+    def is_foreign(self, row: Record) -> bool:
+        """Says whether a row belongs to another project of the file."""
+        own = self.project.text("proj_id")
+        return bool(own) and row.text("proj_id") not in ("", own)
+
+    def lose_link(self, row: Record, task: Task | None) -> None:
+        """Adds a loss of a link whose ends are not both tasks."""
+        text = f"{row.text('pred_task_id')} to {row.text('task_id')}"
+        name = task.name if task is not None else ""
+        why = "one of the activities is not in this project or not carried over"
+        self.losses.append(Loss(LossKind.LINK, row.where, name, "link", clip(text), why))
+
+    def link(self, row: Record, before: Record, after: Record) -> Link | None:
+        """Returns a link, or None and a loss."""
+        text = row.text("lag_hr_cnt")
+        lag = _minutes(text, self.calendar_of(before), self.calendar) if text else 0
+        kind = _LINK_KINDS.get(row.text("pred_type") or "PR_FS")
+        if lag is None or kind is None:
+            field_name = "pred_type" if kind is None else "lag_hr_cnt"
+            shown = clip(row.text(field_name), 60)
+            why = "this is no kind of link" if kind is None else "this is no lag"
+            name = _task_name(after)
+            self.losses.append(Loss(LossKind.LINK, row.where, name, field_name, shown, why))
+            return None
+        shown = clip(before.text("task_code") or before.text("task_id"))
+        return Link(before.text("task_id"), after.text("task_id"), kind, Lag(lag), row.where, shown)
+
+    def resources(self) -> Iterator[Resource]:
+        """Yields the resources and roles that have a name."""
+        rates = self.rates()
+        units = {
+            row.text("unit_id"): row.text("unit_abbrev") for row in self.file.table("UMEASURE")
+        }
+        for uid, row in self.resource_records.items():
+            is_material = row.text("rsrc_type") == "RT_Mat"
+            yield Resource(
+                uid=uid,
+                name=_title(row.text("rsrc_name") or row.text("rsrc_short_name") or uid),
+                kind=ResourceKind.MATERIAL if is_material else ResourceKind.WORK,
+                unit=units.get(row.text("unit_id"), "") or "units" if is_material else "h",
+                rate=rates.get(uid),
+            )
+        for row in self.file.table("ROLES"):
+            yield Resource(_role_id(row), _title(row.text("role_name")))
+
+    def rates(self) -> dict[str, Decimal]:
+        """Returns the first rate of each resource; later ones are noted."""
+        found: dict[str, tuple[str, Decimal]] = {}
+        changed = set()
+        for row in self.file.table("RSRCRATE"):
+            uid, day = row.text("rsrc_id"), row.text("start_date")
+            rate = decimal(row.text("cost_per_qty"))
+            if rate is None:
+                continue
+            if uid in found and found[uid][1] != rate:
+                changed.add(uid)
+            if uid not in found or day < found[uid][0]:
+                found[uid] = (day, rate)
+        if changed:
+            self.notes.append(
+                f"rates that change ({len(changed)} resources): the first one is used"
+            )
+        return {uid: rate for uid, (_, rate) in found.items()}
+
+    def assignments(self, tasks: Mapping[str, Task]) -> Iterator[Assignment]:
+        """Yields how much of each resource a task uses: minutes of work, or units."""
+        known = {resource.uid: resource for resource in self.resources()}
+        others = {row.text("task_id") for row in self.file.table("TASK")} - set(tasks)
+        for row in self.file.table("TASKRSRC"):
+            uid, quantity = row.text("task_id"), decimal(row.text("target_qty"))
+            if uid in others:
+                continue
+            resource = known.get(row.text("rsrc_id")) or known.get(_role_id(row))
+            why = ""
+            if uid not in tasks:
+                why = "there is no such activity"
+            elif quantity is None and row.text("target_qty"):
+                why = "this is no quantity"
+            elif resource is None and quantity:
+                why = "there is no such resource; its work is not carried over"
+            if why:
+                self.lose_assignment(row, tasks.get(uid), why)
+            elif resource is not None and quantity:
+                factor = 60 if resource.kind is ResourceKind.WORK else 1
+                yield Assignment(uid, resource.uid, quantity * factor)
+
+    def lose_assignment(self, row: Record, task: Task | None, why: str) -> None:
+        """Adds a loss of a row of TASKRSRC."""
+        text = f"resource {row.text('rsrc_id')}, {row.text('target_qty')}"
+        name = task.name if task is not None else ""
+        self.losses.append(
+            Loss(LossKind.RESOURCE, row.where, name, "TASKRSRC", clip(text, 60), why)
+        )
+
+    def lose(self, kind: LossKind, row: Record, name: str, why: str, text: str = "") -> None:
+        """Adds a loss of an activity."""
+        shown = clip(text or row.text(name), 60)
+        self.losses.append(Loss(kind, row.where, _task_name(row), name, shown, why))
+
+
+class _Costs:
+    """The costs of activities: those of their resources and their expenses, added up."""
+
+    def __init__(self, file: P6File, losses: list[Loss], known: set[str]) -> None:
+        self.planned: dict[str, Decimal] = {}
+        self.actual: dict[str, Decimal] = {}
+        self.remaining: dict[str, Decimal] = {}
+        self._losses = losses
+        every = {row.text("task_id") for row in file.table("TASK")}
+        for row in [*file.table("TASKRSRC"), *file.table("PROJCOST")]:
+            uid = row.text("task_id")
+            if uid in known:
+                self._add(row, uid)
+            elif uid not in every:
+                self._name_unknown(row)
+
+    def _add(self, row: Record, uid: str) -> None:
+        for held, names in (
+            (self.planned, ("target_cost",)),
+            (self.actual, ("act_reg_cost", "act_ot_cost", "act_cost")),
+            (self.remaining, ("remain_cost",)),
+        ):
+            for name in names:
+                amount = self._amount(row, name)
+                if amount is not None:
+                    held[uid] = held.get(uid, Decimal(0)) + amount
+
+    def _amount(self, row: Record, name: str) -> Decimal | None:
+        text = row.text(name)
+        amount = decimal(text)
+        if amount is None and text:
+            self._lose(row, name, "this is no amount")
+        return amount
+
+    def _name_unknown(self, row: Record) -> None:
+        if row.text("target_cost"):
+            self._lose(row, "target_cost", "there is no such activity")
+
+    def _lose(self, row: Record, name: str, why: str) -> None:
+        shown = clip(row.text(name), 60)
+        self._losses.append(Loss(LossKind.COST, row.where, "", name, shown, why))
+
+
+def _group(row: Record, parent: str | None) -> Group:
+    code = row.text("wbs_short_name")[:200]
+    name = _title(row.text("wbs_name")) or code
+    return Group("W" + row.text("wbs_id"), row.where, name, parent, code)
+
+
+def _minutes(text: str, own: Calendar, plan: Calendar) -> int | None:
+    """Returns hours of a calendar as minutes of the plan's, or None if they are no number."""
+    hours = decimal(text)
+    if hours is None or abs(hours) * 60 > _MOST_MINUTES:
+        return None
+    minutes = Fraction(hours) * 60
+    if own.day_minutes != plan.day_minutes:
+        minutes = minutes * plan.day_minutes / own.day_minutes
+    return round(minutes)
+
+
+def _percent(row: Record, minutes: int, remaining: int | None) -> Decimal:
+    """Returns percent complete as the activity's type of it says."""
+    kind = row.text("complete_pct_type")
+    if kind == "CP_Phys":
+        return _bounded(decimal(row.text("phys_complete_pct")) or Decimal(0))
+    if kind == "CP_Units":
+        done = decimal(row.text("act_work_qty")) or Decimal(0)
+        left = decimal(row.text("remain_work_qty")) or Decimal(0)
+        if done + left > 0:
+            return _bounded(Decimal(100) * done / (done + left))
+    if minutes <= 0 or remaining is None:
+        return Decimal(0)
+    return _bounded(Decimal(100) * (minutes - remaining) / minutes)
+
+
+def _bounded(percent: Decimal) -> Decimal:
+    """Returns a percentage from 0 to 100 with at most two decimals."""
+    return min(max(percent, Decimal(0)), Decimal(100)).quantize(Decimal("0.01")).normalize() + 0
+
+
+def _listed_start(row: Record) -> str:
+    names = ("act_start_date", "early_start_date", "target_start_date")
+    return next((row.text(name) for name in names if row.text(name)), "")
+
+
+def _listed_finish(row: Record) -> str:
+    names = ("act_end_date", "early_end_date", "target_end_date")
+    return next((row.text(name) for name in names if row.text(name)), "")
+
+
+def _day_of(
+    read: Callable[[Calendar, str], date | None], own: Calendar, text: str, minutes: int
+) -> date | None:
+    """Returns the day of work of a start or finish; a milestone has the day of its moment."""
+    return moments.day(text) if minutes == 0 else read(own, text)
+
+
+def _timed(text: str) -> str:
+    """Returns a date as the moment of its midnight: P6's data dates are mornings."""
+    return f"{text}T00:00" if len(text) == len("2026-09-01") else text
+
+
+def _differs(own: Calendar, plan: Calendar) -> bool:
+    """Says whether two calendars have different working time."""
+    if (own.week, own.day_minutes) != (plan.week, plan.day_minutes):
+        return True
+    return set(own.exceptions) != set(plan.exceptions)
+
+
+def _role_id(row: Record) -> str:
+    return "role-" + row.text("role_id")
+
+
+def _task_name(row: Record) -> str:
+    return _title(row.text("task_name")) or row.text("task_code") or row.text("task_id")
+
+
+def _title(text: str) -> str:
+    return clip(" ".join(text.split()), 2000)

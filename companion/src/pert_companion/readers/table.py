@@ -1,0 +1,190 @@
+"""Reads task lists as text: CSV and tab-separated text of spreadsheets and planners.
+
+The character set, the separator, the decimal mark and the order of dates are found in the file.
+Rows end at a line feed or a carriage return alone: U+2028, U+2029 and U+0085 are part of a cell.
+"""
+
+import codecs
+import csv
+import io
+from collections.abc import Iterator
+
+from pert_companion.errors import InputError
+from pert_companion.readers.base import ReaderOptions, Reading, Source
+from pert_companion.readers.columns import ROWS_ABOVE_HEAD, find_head
+from pert_companion.readers.grid import (
+    MOST_CELL_CHARACTERS,
+    MOST_COLUMNS,
+    MOST_ROWS,
+    Grid,
+    GridRow,
+    clip,
+)
+from pert_companion.readers.listing import read_list
+
+MOST_BYTES = 64 * 1024 * 1024
+MOST_CELLS = 1_000_000
+SEPARATORS = ";,\t|"
+HEAD_CHARACTERS = 4_000_000
+"""How far into a text the row of headings is looked for."""
+
+_MARKS = (
+    (codecs.BOM_UTF8, "utf-8"),
+    (codecs.BOM_UTF32_LE, "utf-32-le"),
+    (codecs.BOM_UTF32_BE, "utf-32-be"),
+    (codecs.BOM_UTF16_LE, "utf-16-le"),
+    (codecs.BOM_UTF16_BE, "utf-16-be"),
+)
+_OTHER_FILES = (
+    (b"PK\x03\x04", "a workbook or another archive"),
+    (b"\xd0\xcf\x11\xe0", "a binary file (.xls, .mpp)"),
+    (b"%PDF", "a PDF"),
+)
+_FALLBACK = "cp1252"
+
+
+def matches(data: bytes) -> bool:
+    """Says whether bytes may be a list as text: a text that has a row of headings."""
+    try:
+        text, _ = decode(data, "", "")
+        _, rows = _head_rows(text, "")
+    except InputError:
+        return False
+    head = find_head(rows, ReaderOptions())
+    return head is not None and head.is_complete
+
+
+def read(source: Source, options: ReaderOptions) -> Reading:
+    """Returns the plan of a list as text, and what of the list is not in it.
+
+    Raises `InputError` if the bytes are no text of the given character set, a quote is missing, or
+    the list is too large or holds no plan.
+    """
+    grid = read_grid(source, options)
+    return read_list(grid, options, source.name)
+
+
+def read_grid(source: Source, options: ReaderOptions) -> Grid:
+    """Returns the cells of a list as text."""
+    file = source.name
+    text, assumed = decode(source.data, options.encoding, file)
+    separator, _ = _head_rows(text, file, options)
+    notes = (f"the file is not UTF-8; it is read as {assumed}",) if assumed else ()
+    body = _named_separator(text)[1]
+    if body.count(separator) > MOST_CELLS:
+        raise InputError(f"{file}: more than {MOST_CELLS} cells")
+    rows = []
+    for row in _rows(body, separator, file):
+        rows.append(row)
+        if len(rows) > MOST_ROWS:
+            raise InputError(f"{file}: more than {MOST_ROWS} rows")
+    return Grid(tuple(rows), "csv", separator, notes=notes)
+
+
+def decode(data: bytes, encoding: str, file: str) -> tuple[str, str | None]:
+    """Returns the text of a file, and its character set if that had to be assumed."""
+    if len(data) > MOST_BYTES:
+        raise InputError(f"{file}: more than {MOST_BYTES} bytes")
+    for mark, what in _OTHER_FILES:
+        if data.startswith(mark):
+            raise InputError(f"{file}: this is {what}, not a list as text")
+    for mark, name in _MARKS:
+        if data.startswith(mark):
+            return _decoded(data[len(mark) :], name, file), None
+    if encoding:
+        return _decoded(data, encoding, file), None
+    wide = _wide_encoding(data[:200])
+    if wide:
+        return _decoded(data, wide, file), None
+    try:
+        return data.decode("utf-8"), None
+    except UnicodeDecodeError:
+        return _decoded(data, _FALLBACK, file), _FALLBACK
+
+
+def _wide_encoding(data: bytes) -> str:
+    """Returns the kind of UTF-16 if every other byte is mostly 0, or an empty text."""
+    for first, name in ((1, "utf-16-le"), (0, "utf-16-be")):
+        part = data[first::2]
+        if 2 * part.count(0) > len(part):
+            return name
+    return ""
+
+
+def _decoded(data: bytes, encoding: str, file: str) -> str:
+    try:
+        return data.decode(encoding)
+    except UnicodeDecodeError as reason:
+        raise InputError(
+            f"{file}: byte {reason.start} is not {encoding}: export in UTF-8, or name the "
+            "character set with --encoding"
+        ) from reason
+    except (LookupError, ValueError, UnicodeError) as reason:
+        why = f"--encoding {clip(encoding)}: this is no character set"
+        raise InputError(f"{file}: {why}") from reason
+
+
+def _named_separator(text: str) -> tuple[str, str]:
+    """Returns the separator of a line `sep=;` at the top, and the text without that line."""
+    if text[:4].casefold() == "sep=" and text[5:6] in ("\r", "\n") and text[4:5] not in "\r\n\"'":
+        end = 7 if text[5:7] == "\r\n" else 6
+        return text[4], text[end:]
+    return "", text
+
+
+def _rows(text: str, separator: str, file: str) -> Iterator[GridRow]:
+    """Yields the rows of a text, numbered as a spreadsheet numbers them."""
+    number = 0
+    reader = csv.reader(io.StringIO(text, newline=""), delimiter=separator, strict=True)
+    while True:
+        number += 1
+        try:
+            cells = next(reader)
+        except StopIteration:
+            return
+        except csv.Error as reason:
+            raise InputError(f"{file}: row {number}: {_fault(str(reason))}") from reason
+        while len(cells) > MOST_COLUMNS and not cells[-1]:
+            cells.pop()
+        if len(cells) > MOST_COLUMNS:
+            raise InputError(f"{file}: row {number}: more than {MOST_COLUMNS} columns")
+        for cell in cells:
+            if len(cell) > MOST_CELL_CHARACTERS:
+                raise InputError(
+                    f"{file}: row {number}: a cell of more than {MOST_CELL_CHARACTERS} characters"
+                )
+        yield GridRow(number, tuple(cells))
+
+
+def _fault(text: str) -> str:
+    if "field larger" in text:
+        return f"a cell of more than {MOST_CELL_CHARACTERS} characters"
+    if "end of data" in text or "expected after" in text:
+        return "a quote is missing, or one is not doubled"
+    return text
+
+
+def _head_rows(
+    text: str, file: str, options: ReaderOptions | None = None
+) -> tuple[str, list[GridRow]]:
+    """Returns the separator with which most headings are found, and the first rows by it."""
+    options = options or ReaderOptions()
+    named, body = _named_separator(text)
+    body = body[:HEAD_CHARACTERS]
+    best: tuple[int, str, list[GridRow]] = (0, named or ",", [])
+    fault: InputError | None = None
+    for separator in named or SEPARATORS:
+        rows: list[GridRow] = []
+        try:
+            for row in _rows(body, separator, file):
+                rows.append(row)
+                if len(rows) >= ROWS_ABOVE_HEAD:
+                    break
+        except InputError as reason:
+            fault = fault or reason
+        head = find_head(rows, options)
+        if head is not None and len(head.columns) > best[0]:
+            best = (len(head.columns), separator, rows)
+    if not best[0] and fault is not None:
+        raise fault
+    return best[1], best[2]

@@ -1,0 +1,1 @@
+"""The writers: each writes a `Schedule` in one file format."""

@@ -1,0 +1,138 @@
+"""Writes a forecast as a table for people, and as CSV."""
+
+import csv
+import io
+from collections.abc import Sequence
+from datetime import date
+
+from pert_companion.forecast import Forecast, ForecastTask
+from pert_companion.writers.aligned import aligned
+from pert_companion.writers.csv_file import days_text
+from pert_companion.writers.figures import NOTHING, signed_days
+from pert_companion.writers.formula import plain_text
+
+HEADINGS = (
+    "CODE",
+    "STATE",
+    "LEFT",
+    "START",
+    "FINISH",
+    "LISTED",
+    "BASELINE",
+    "LATE",
+    "FLOAT",
+    "TASK",
+)
+RIGHT = "llrllllrrl"
+CSV_HEADINGS = (
+    "Row",
+    "Code",
+    "Id",
+    "Outline",
+    "Name",
+    "State",
+    "Days left",
+    "Start",
+    "Finish",
+    "Listed start",
+    "Listed finish",
+    "Baseline start",
+    "Baseline finish",
+    "Days later than listed",
+    "Days later than the baseline",
+    "Float days",
+    "Critical",
+)
+
+
+def to_text(forecast: Forecast, tasks: Sequence[ForecastTask]) -> str:
+    """Returns the ends, the assumptions, and a row for each of the tasks, in the order given.
+
+    LATE is against the baseline if there is one, else against the list. Columns of which nothing is
+    known are left out.
+    """
+    lines = [f"FORECAST {forecast.code} {forecast.data_day}"]
+    lines.extend(_ends(forecast))
+    lines.extend(_table([_row(task, forecast) for task in tasks]))
+    return "".join(f"{line}\n" for line in lines)
+
+
+def _table(rows: Sequence[tuple[str, ...]]) -> list[str]:
+    """Returns the table without the columns that have hyphens alone."""
+    kept = [at for at in range(len(HEADINGS)) if any(row[at] != NOTHING for row in rows)]
+    chosen = [[row[at] for at in kept] for row in (HEADINGS, *rows)]
+    return aligned(chosen[0], chosen[1:], "".join(RIGHT[at] for at in kept))
+
+
+def _ends(forecast: Forecast) -> list[str]:
+    lines = [f"END {forecast.end}, by what is left of each task"]
+    if forecast.listed_end is not None:
+        lines.append(f"LISTED {forecast.listed_end}, the latest finish of the list")
+    if forecast.baseline_end is not None:
+        lines.append(f"BASELINE {forecast.baseline_end}, the end of the baseline")
+    lines.append(f"VALUE {forecast.value_end}, the forecast of pert value")
+    if forecast.why_different:
+        lines.extend(_wrapped(forecast.why_different))
+    return lines
+
+
+def _wrapped(text: str, width: int = 96) -> list[str]:
+    lines = [""]
+    for word in text.split(" "):
+        if len(lines[-1]) + 1 + len(word) > width:
+            lines.append("")
+        lines[-1] = f"{lines[-1]} {word}".strip()
+    return [f"  {line}" for line in lines]
+
+
+def _row(task: ForecastTask, forecast: Forecast) -> tuple[str, ...]:
+    late = task.listed_late_minutes
+    if forecast.baseline_end is not None:
+        late = task.baseline_late_minutes
+    slack = days_text(task.total_float_minutes, forecast.day_minutes)
+    return (
+        task.code,
+        task.state.value,
+        days_text(task.left_minutes, forecast.day_minutes),
+        str(task.first_day),
+        str(task.last_day),
+        _day(task.listed_finish),
+        _day(task.baseline_finish),
+        signed_days(late, forecast.day_minutes),
+        f"{slack}*" if task.is_critical else slack,
+        task.name or task.code,
+    )
+
+
+def _day(day: date | None) -> str:
+    return NOTHING if day is None else str(day)
+
+
+def to_csv(forecast: Forecast, tasks: Sequence[ForecastTask]) -> bytes:
+    """Returns a row for each of the tasks as CSV in UTF-8; finishes are the last day of work."""
+    text = io.StringIO(newline="")
+    writer = csv.writer(text, lineterminator="\n")
+    writer.writerow(CSV_HEADINGS)
+    for task in tasks:
+        writer.writerow(_csv_cells(task, forecast.day_minutes))
+    return text.getvalue().encode()
+
+
+def _csv_cells(task: ForecastTask, day_minutes: int) -> list[str]:
+    days = (task.listed_start, task.listed_finish, task.baseline_start, task.baseline_finish)
+    lates = (task.listed_late_minutes, task.baseline_late_minutes)
+    return [
+        "" if task.row is None else str(task.row),
+        task.code,
+        plain_text(task.uid),
+        plain_text(" / ".join(task.outline)),
+        plain_text(task.name),
+        task.state.value,
+        days_text(task.left_minutes, day_minutes),
+        str(task.first_day),
+        str(task.last_day),
+        *("" if day is None else str(day) for day in days),
+        *("" if late is None else days_text(late, day_minutes) for late in lates),
+        days_text(task.total_float_minutes, day_minutes),
+        "yes" if task.is_critical else "no",
+    ]

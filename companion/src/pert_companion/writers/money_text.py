@@ -1,0 +1,45 @@
+"""Writes money over time: running sums by day, as a table or CSV."""
+
+import csv
+import io
+from collections.abc import Iterator, Sequence
+from datetime import date
+
+from pert_companion.money import MoneyOverTime, MoneyPoint
+from pert_companion.writers.aligned import aligned
+from pert_companion.writers.figures import NOTHING
+
+HEADINGS = ("DAY", "PLANNED", "SPENT", "FORECAST")
+
+
+def to_text(money: MoneyOverTime, heading: str) -> str:
+    """Returns a row for each day on which a line has a point; `heading` is the first line."""
+    rows = []
+    for day, amounts in _rows(money):
+        rows.append((str(day), *(amount or NOTHING for amount in amounts)))
+    lines = [heading, *aligned(HEADINGS, rows, "lrrr")]
+    if money.note:
+        lines.append(f"note: {money.note}")
+    return "".join(f"{line}\n" for line in lines)
+
+
+def to_csv(money: MoneyOverTime) -> bytes:
+    """Returns a row for each day on which a line has a point as CSV, empty where it has none."""
+    text = io.StringIO(newline="")
+    writer = csv.writer(text, lineterminator="\n")
+    writer.writerow([heading.capitalize() for heading in HEADINGS])
+    for day, amounts in _rows(money):
+        writer.writerow((str(day), *amounts))
+    return text.getvalue().encode()
+
+
+def _rows(money: MoneyOverTime) -> Iterator[tuple[date, list[str]]]:
+    """Yields each day with the amounts of the three lines, an empty text where one has no point."""
+    lines = [_by_day(line) for line in (money.planned, money.spent, money.forecast)]
+    days = {day for line in lines for day in line}
+    for day in sorted(days):
+        yield day, [line.get(day, "") for line in lines]
+
+
+def _by_day(points: Sequence[MoneyPoint]) -> dict[date, str]:
+    return {point.day: str(point.amount) for point in points}

@@ -1,0 +1,1 @@
+"""Tests of report pages, and of the page that checks them."""

@@ -1,0 +1,312 @@
+"""The report page in a browser: the slider, the badge, what it asks for, and how it is laid out."""
+
+import base64
+import json
+import random
+import re
+import shutil
+import subprocess
+from collections.abc import Iterator
+from pathlib import Path
+from typing import Any
+
+import pytest
+
+from page.browser import CHROMIUM, Browser, Page
+from page.certificates import HOUSE, PROGRAMS, house_with_terms
+from page.reports import (
+    big_plan,
+    deck_of,
+    judge,
+    moves,
+    number,
+    open_checked,
+    plan_without_status,
+    write_page,
+)
+from pert_companion import results
+from pert_companion.page import data
+from pert_companion.page.verify import build_verify_page
+from pert_companion.remaining import State
+
+needs_chromium = pytest.mark.skipif(CHROMIUM is None, reason="chromium is missing")
+CASES = Path(__file__).resolve().parents[1] / "cases" / "hostile" / "report"
+EMPTY = "<!DOCTYPE html><title>Empty</title><p id=p>0</p>"
+FRAMES = """
+(async () => {
+    const times = [];
+    for (let move = 0; move < 40; move += 1) {
+        const begun = performance.now();
+        MOVE;
+        await new Promise(requestAnimationFrame);
+        await new Promise(requestAnimationFrame);
+        times.push(performance.now() - begun);
+    }
+    return times;
+})()
+"""
+
+
+@pytest.fixture(scope="module")
+def browser() -> Iterator[Browser]:
+    with Browser() as started:
+        yield started
+
+
+@pytest.fixture(scope="module")
+def place(tmp_path_factory: pytest.TempPathFactory) -> Path:
+    return tmp_path_factory.mktemp("pages")
+
+
+@pytest.fixture(scope="module")
+def big_page(place: Path) -> Path:
+    """Returns the page of a plan with 400 activities."""
+    (place / "big.csv").write_bytes(big_plan())
+    write_page(place / "big.csv", place / "big.html")
+    return place / "big.html"
+
+
+def deck_at(place: Path, name: str) -> Path:
+    texts = {"plan": plan_without_status(), "rest": HOUSE.read_bytes(), "terms": house_with_terms()}
+    (place / f"{name}.csv").write_bytes(texts[name])
+    return place / f"{name}.csv"
+
+
+@needs_chromium
+@pytest.mark.parametrize("name", ["plan", "rest", "terms"])
+def test_each_length_of_the_house_shows_a_schedule_with_its_cost(
+    browser: Browser, place: Path, name: str
+) -> None:
+    gathered = write_page(deck_at(place, name), place / f"{name}.html")
+    page = open_checked(browser, place / f"{name}.html")
+    assert page.text("#verdict").startswith("consistent (checked here): certified ")
+    network = gathered.status.network
+    lengths = range(gathered.status.shortest, gathered.status.longest + 1)
+    assert len(lengths) == (9 if name == "plan" else 8)
+    finished = frozenset(c for c, state in gathered.progress.items() if state is State.FINISHED)
+    for length, shown in zip(lengths, moves(page, lengths), strict=True):
+        point = PROGRAMS.point(network, length)
+        assert (number(shown["length"]), number(shown["cost"])) == (length, point.cost)
+        judge(shown, network, deck_of(HOUSE.read_bytes()), finished)
+    assert page.messages() == []
+
+
+@needs_chromium
+def test_each_length_of_400_activities_shows_a_schedule_with_its_cost(
+    browser: Browser, big_page: Path
+) -> None:
+    network = deck_of(big_plan())
+    curve = PROGRAMS.curve(network)
+    lengths = range(curve[-1].length, curve[0].length + 1)
+    page = open_checked(browser, big_page)
+    assert page.text("#verdict").startswith("consistent (checked here): certified ")
+    found = moves(page, lengths)
+    for length, shown in zip(lengths, found, strict=True):
+        paid, price = results.cost_at(curve, length)
+        assert (number(shown["length"]), number(shown["cost"])) == (length, paid)
+        assert shown["next"] == ("no length is shorter" if price is None else f"{price:,}")
+        judge(shown, network, network, frozenset())
+    for length in (lengths.start, lengths.start + 500, lengths.stop - 1):
+        point = PROGRAMS.point(network, length)
+        assert number(found[length - lengths.start]["cost"]) == point.cost
+
+
+@needs_chromium
+def test_sizes_and_the_time_of_a_move(browser: Browser, place: Path, big_page: Path) -> None:
+    write_page(deck_at(place, "rest"), place / "rest.html")
+    assert (place / "rest.html").stat().st_size < 300_000
+    assert big_page.stat().st_size < 3_000_000
+    (place / "empty.html").write_text(EMPTY)
+    empty = browser.open((place / "empty.html").as_uri())
+    page = open_checked(browser, big_page)
+    # The same move back and forth, and the best of 40: what else the machine does counts less.
+    move = (
+        "slider.value = String(2000 + (move % 2) * 400); slider.dispatchEvent(new Event('input'))"
+    )
+    frames = FRAMES.replace("MOVE", f"const slider = document.getElementById('slider'); {move}")
+    ratios = []
+    for _ in range(5):
+        empty.call("Page.bringToFront")
+        nothing = min(empty.run(FRAMES.replace("MOVE", "document.title = String(move)")))
+        page.call("Page.bringToFront")
+        ratios.append(min(page.run(frames)) / nothing)
+    assert min(ratios) <= 2
+
+
+@needs_chromium
+def test_one_changed_digit_turns_the_badge_to_line_and_reason(
+    browser: Browser, place: Path
+) -> None:
+    deck = deck_at(place, "terms")
+    gathered = write_page(deck, place / "right.html")
+    text = (place / "right.html").read_text("utf-8")
+    found = re.search('id="pert-certificate">([^<]*)<', text)
+    assert found is not None
+    chance = random.Random(63)
+    digits = [at.start() for at in re.finditer("[0-9]", found[1]) if at.start() > 20]
+    answers = set()
+    for at in chance.sample(digits, 16):
+        digit = str((int(found[1][at]) + 1) % 10)
+        changed = found[1][:at] + digit + found[1][at + 1 :]
+        (place / "wrong.html").write_text(text.replace(found[1], changed), "utf-8")
+        page = open_checked(browser, place / "wrong.html")
+        assert "wrong" in page.run("document.getElementById('badge').className")
+        try:
+            certificate = data.expand(json.loads(changed))
+        except data.DataError as error:
+            assert page.text("#verdict") == f"not consistent: {error}"
+            continue
+        answer = PROGRAMS.check(gathered.status.text.encode(), certificate.encode())
+        assert answer.startswith("not certified")
+        assert page.text("#verdict") == answer
+        answers.add(answer)
+    assert len(answers) > 8
+
+
+@needs_chromium
+def test_a_changed_figure_turns_the_badge(browser: Browser, place: Path) -> None:
+    write_page(deck_at(place, "rest"), place / "figures.html")
+    text = (place / "figures.html").read_text("utf-8")
+    listed = text.replace('["next","25","","100"]', '["next","25","","101"]')
+    (place / "listed.html").write_text(listed, "utf-8")
+    verdict = open_checked(browser, place / "listed.html").text("#verdict")
+    assert verdict == "not consistent: figure next 25 is 101, the certificate says 100"
+    shown, count = re.subn('(data-figure="[0-9]+">)12,600<', r"\g<1>12,500<", text, count=1)
+    assert count == 1
+    (place / "shown.html").write_text(shown, "utf-8")
+    verdict = open_checked(browser, place / "shown.html").text("#verdict")
+    assert verdict == "not consistent: a shown figure, 12,500, is not the listed one"
+
+
+@needs_chromium
+@pytest.mark.parametrize("name", ["plan", "rest", "terms"])
+def test_the_page_passes_pert_verify(browser: Browser, place: Path, name: str) -> None:
+    write_page(deck_at(place, name), place / f"{name}.html")
+    (place / "verify.html").write_text(build_verify_page(), "utf-8")
+    page = browser.open((place / "verify.html").as_uri())
+    page.choose("#files", [place / f"{name}.html"])
+    page.wait("/right|wrong/.test(document.getElementById('verdict').className)")
+    assert page.text("#verdict") == "Consistent (checked here)"
+    details = page.text("#details")
+    assert re.search("all [0-9]{2,} agree with the certificate", details)
+    assert re.search("all [0-9]{2,} that the page marks are the listed ones", details)
+
+
+@needs_chromium
+def test_the_address_the_keyboard_and_a_reader(browser: Browser, place: Path) -> None:
+    write_page(deck_at(place, "terms"), place / "terms.html")
+    page = browser.open((place / "terms.html").as_uri() + "#length=20")
+    page.wait("document.getElementById('out-length').textContent === '20'")
+    page.run("document.getElementById('slider').focus()")
+    for key in ("keyDown", "keyUp"):
+        page.call(
+            "Input.dispatchKeyEvent",
+            type=key,
+            key="ArrowRight",
+            code="ArrowRight",
+            windowsVirtualKeyCode=39,
+        )
+    page.wait("location.hash === '#length=21'")
+    page.wait("document.getElementById('number').value === '21'")
+    said = page.run("document.getElementById('slider').getAttribute('aria-valuetext')")
+    assert said == "21 days, ends on 7 Apr 2024, costs 13,070"
+    page.wait(f"document.getElementById('said').textContent === {json.dumps(said)}")
+    assert page.messages() == []
+
+
+@needs_chromium
+def test_without_scripts_there_is_a_table_of_all_breakpoints(browser: Browser, place: Path) -> None:
+    gathered = write_page(deck_at(place, "terms"), place / "terms.html")
+    page = browser.open("about:blank")
+    page.call("Emulation.setScriptExecutionDisabled", value=True)
+    page.call("Page.navigate", url=(place / "terms.html").as_uri())
+    page.wait("document.readyState === 'complete' && document.getElementById('choose') !== null")
+    rows = page.run("document.querySelectorAll('.breakpoints tbody tr').length")
+    assert rows == len(gathered.status.curve)
+    assert page.run("document.getElementById('choose').hidden")
+    assert page.text("#verdict") == f"{gathered.answer} by pert_check when the page was written"
+
+
+def overflow(page: Page) -> Any:
+    return page.run("document.documentElement.scrollWidth - document.documentElement.clientWidth")
+
+
+@needs_chromium
+@pytest.mark.parametrize("name", ["rest", "evil", "millions"])
+def test_nothing_is_wider_than_the_window(browser: Browser, place: Path, name: str) -> None:
+    deck = CASES / "evil.csv"
+    if name == "rest":
+        deck = deck_at(place, "rest")
+    if name == "millions":
+        text = re.sub(rb"(?<=,)([0-9]{3,4})(?=[,\n])", rb"\g<1>000", HOUSE.read_bytes())
+        deck = place / "millions.csv"
+        deck.write_bytes(text)
+    write_page(deck, place / f"wide-{name}.html")
+    for width in (390, 800, 801, 850, 902, 1400):
+        page = open_checked(browser, place / f"wide-{name}.html", width=width, dark=width == 850)
+        assert overflow(page) <= 0, width
+        clipped = page.run(
+            "[...document.querySelectorAll('.labels text')].filter((it) =>"
+            " it.getBoundingClientRect().left < it.closest('.chart').getBoundingClientRect().left"
+            " - 1).length"
+        )
+        assert clipped == 0
+
+
+@needs_chromium
+def test_titles_are_neither_run_nor_turned(browser: Browser, place: Path) -> None:
+    write_page(CASES / "evil.csv", place / "evil.html")
+    page = open_checked(browser, place / "evil.html")
+    assert page.run("document.querySelectorAll('script').length") == 5
+    assert page.run("document.querySelectorAll('main b, main svg[onload]').length") == 0
+    shown = page.run("document.body.innerText")
+    assert "\\u202eoverride starts here" in shown
+    assert not re.search("[\u202a-\u202e\u2066-\u2069\u0085\u2028]", shown)
+    assert page.run("document.title").startswith("</title><script>alert(0)</script>")
+
+
+@needs_chromium
+@pytest.mark.parametrize("name", ["forged", "forged2", "forged3"])
+def test_a_title_forges_no_figure(browser: Browser, place: Path, name: str) -> None:
+    tables = []
+    for deck in ("honest", name):
+        write_page(CASES / f"{deck}.csv", place / f"{deck}.html")
+        page = open_checked(browser, place / f"{deck}.html")
+        tables.append(
+            page.run(
+                "[...document.querySelectorAll('td.number, .value')].map((it) => it.innerText)"
+            )
+        )
+    assert tables[0] == tables[1]
+    assert len(tables[0]) > 50
+
+
+def pages_of(page: Page, path: Path, **paper: float) -> int:
+    answer = page.call("Page.printToPDF", printBackground=True, **paper)
+    path.write_bytes(base64.b64decode(answer["data"]))
+    return len(re.findall(rb"/Type\s*/Page\b", path.read_bytes()))
+
+
+@needs_chromium
+def test_paper(browser: Browser, place: Path) -> None:
+    deck = deck_at(place, "rest")
+    write_page(deck, place / "full.html", length=21)
+    write_page(deck, place / "brief.html", length=21, brief=True)
+    full = open_checked(browser, place / "full.html")
+    brief = open_checked(browser, place / "brief.html")
+    a4 = {"paperWidth": 8.27, "paperHeight": 11.69}
+    letter = {"paperWidth": 8.5, "paperHeight": 11.0}
+    for paper in (a4, letter):
+        count = pages_of(full, place / "full.pdf", **paper)
+        assert 2 <= count <= 6
+        text = pdf_text(place / "full.pdf", count)
+        assert text is None or len(text.strip()) > 80
+        assert pages_of(brief, place / "brief.pdf", **paper) == 1
+
+
+def pdf_text(path: Path, page: int) -> str | None:
+    """Returns the text of a page of a PDF, or None without the program for it."""
+    if shutil.which("pdftotext") is None:
+        return None
+    words = ["pdftotext", "-f", str(page), "-l", str(page), str(path), "-"]
+    return subprocess.run(words, capture_output=True, check=True).stdout.decode()

@@ -1,0 +1,399 @@
+"""The views of the report page: words, dates, charts, first screen, lengths, rows and changes."""
+
+from dataclasses import replace
+from datetime import date, timedelta
+from fractions import Fraction
+from pathlib import Path
+
+import pytest
+from hypothesis import given, settings
+from hypothesis import strategies as st
+
+from page.certificates import HOUSE, PROGRAMS, SHED, certificate_of, house_with_terms
+from page.reports import gathered_of, plan_without_status
+from pert_companion.calendar import Calendar, free_days
+from pert_companion.errors import InputError, ProgramError
+from pert_companion.page import changed, charts, chooser, first, money, timeline
+from pert_companion.page.clock import Clock
+from pert_companion.page.gathering import Contract, Gathered, contract_of
+from pert_companion.page.reading import point_at
+from pert_companion.page.report import page_of
+from pert_companion.page.view import FigureBook, Line, signed
+from pert_companion.page.words import Words, day_text, number_text, plural, shown, words_of
+from pert_companion.opening import open_plan
+from pert_companion.remaining import State
+from pert_companion.scheduling import implied_side_file
+from pert_companion.sidefile import SideFile
+
+DAYS = Words("day", "EUR", 1)
+
+
+def book() -> FigureBook:
+    return FigureBook(DAYS)
+
+
+def text_of(line: Line) -> str:
+    return "".join(piece.text for piece in line).replace("\u00a0", " ")
+
+
+def deck_at(folder: Path, text: bytes, name: str = "deck") -> Path:
+    path = folder / f"{name}.csv"
+    path.write_bytes(text)
+    return path
+
+
+@pytest.fixture(scope="module")
+def house(tmp_path_factory: pytest.TempPathFactory) -> Gathered:
+    return gathered_of(deck_at(tmp_path_factory.mktemp("house"), HOUSE.read_bytes()))
+
+
+@pytest.fixture(scope="module")
+def terms(tmp_path_factory: pytest.TempPathFactory) -> Gathered:
+    plan = plan_without_status().replace(b"END\n", b"TERMS,90,30,40,70\nEND\n")
+    return gathered_of(deck_at(tmp_path_factory.mktemp("terms"), plan))
+
+
+def test_amounts_have_their_decimals_and_currency() -> None:
+    cents = Words("day", "EUR", 100)
+    assert cents.money(1319005) == "13,190.05 EUR"
+    assert cents.digits(-5) == "\u22120.05"
+    assert Words("day", "", 1).money(1234567) == "1,234,567"
+    assert (plural(1, "day"), plural(0, "day"), plural(1000, "day")) == (
+        "1 day",
+        "0 days",
+        "1,000 days",
+    )
+    assert number_text(-1000) == "\u22121,000"
+    assert (signed("5"), signed("\u22125"), signed("0"), signed("0.00")) == (
+        "+5",
+        "\u22125",
+        "0",
+        "0.00",
+    )
+
+
+def test_dates_and_titles() -> None:
+    assert day_text(date(2024, 4, 8)) == "8 Apr 2024"
+    assert day_text(None) == "\u2013"
+    assert shown("a\u202eb\u0085c\u2028d") == "a\\u202eb\\x85c\\u2028d"
+
+
+def side_of(calendar: Calendar, start: date, minutes: int) -> SideFile:
+    return SideFile("", "", start, calendar, minutes, ())
+
+
+@pytest.mark.parametrize(
+    ("minutes", "calendar", "word"),
+    [
+        (480, Calendar(), "working day"),
+        (2400, Calendar(), "week"),
+        (60, Calendar(), "hour"),
+        (30, Calendar(), "unit"),
+    ],
+)
+def test_the_word_for_a_unit(minutes: int, calendar: Calendar, word: str) -> None:
+    assert words_of(side_of(calendar, date(2024, 3, 4), minutes), None).unit == word
+
+
+def test_the_word_for_a_unit_of_every_day() -> None:
+    plan = open_plan(SHED)
+    assert words_of(plan.side, "kr").money(5) == "5 kr"
+    assert words_of(implied_side_file(plan.deck), None).unit == "day"
+
+
+def dates_by_runs(runs: list[list[int]], first: date, minute: int) -> date:
+    """Returns the day with a minute of work, as the script of the page finds it."""
+    passed = 0
+    for offset, days, each in runs:
+        if minute < passed + days * each:
+            return first + timedelta(days=offset + (minute - passed) // each)
+        passed += days * each
+    raise AssertionError("a minute that no run has")
+
+
+@settings(deadline=None)
+@given(
+    start=st.dates(date(2024, 1, 1), date(2026, 1, 1)),
+    free=st.lists(st.dates(date(2024, 1, 1), date(2026, 6, 1)), max_size=30),
+    minutes=st.sampled_from([60, 240, 480, 2400]),
+    units=st.integers(0, 200),
+)
+def test_runs_have_the_days_of_the_calendar(
+    start: date, free: list[date], minutes: int, units: int
+) -> None:
+    clock = Clock(side_of(Calendar(exceptions=free_days(free)), start, minutes))
+    runs = clock.runs(units)
+    for count in {0, units // 2, units}:
+        assert dates_by_runs(runs, clock.first_day, count * minutes) == clock.begin(count)
+        last = max(0, count * minutes - 1)
+        assert dates_by_runs(runs, clock.first_day, last) == clock.end(count)
+
+
+def test_units_until_a_day_are_those_that_end_on_it() -> None:
+    clock = Clock(side_of(Calendar(), date(2024, 3, 4), 480))
+    assert [clock.units_until(date(2024, 3, day)) for day in (1, 4, 8, 10, 11)] == [0, 1, 5, 5, 6]
+    assert clock.end(5) == date(2024, 3, 8)
+    assert clock.end(10**9) is None
+    assert clock.begin(10**9) is None
+
+
+@settings(deadline=None)
+@given(least=st.integers(0, 10**13), span=st.integers(0, 10**13))
+def test_a_round_scale_holds_what_it_has_to(least: int, span: int) -> None:
+    scale, ticks = charts.round_scale(least, least + span)
+    assert scale.least <= least <= least + span <= scale.most
+    assert 2 <= len(ticks) <= 7
+    assert len({b - a for a, b in zip(ticks, ticks[1:])}) == 1
+
+
+def test_places_in_charts() -> None:
+    assert charts.percent(1, 3) == "33.33%"
+    assert charts.percent(-1, 4) == "-25%"
+    assert charts.percent(1, 0) == "0%"
+    assert charts.pixels(Fraction(1, 4), 100) == "75"
+    assert [charts.anchor(Fraction(n, 100)) for n in (0, 50, 100)] == ["start", "middle", "end"]
+
+
+@settings(deadline=None)
+@given(first_day=st.dates(date(1990, 1, 1), date(2100, 1, 1)), days=st.integers(1, 40000))
+def test_ticks_of_dates_are_in_order_and_inside(first_day: date, days: int) -> None:
+    ticks = charts.date_ticks(first_day, days)
+    offsets = [offset for offset, _, _ in ticks]
+    assert offsets == sorted(set(offsets))
+    assert all(0 <= offset <= days for offset in offsets)
+    assert len(ticks) <= 16
+
+
+@pytest.mark.parametrize("name", ["house", "shed"])
+def test_the_schedule_of_a_length_is_that_of_point(name: str) -> None:
+    path = HOUSE if name == "house" else SHED
+    deck, certificate = open_plan(path).deck, certificate_of(path.read_bytes())
+    curve = PROGRAMS.curve(deck)
+    for length in range(curve[-1].length, curve[0].length + 1):
+        assert point_at(certificate, deck, length) == PROGRAMS.point(deck, length)
+    with pytest.raises(ProgramError, match="no schedule for length 1"):
+        point_at(certificate, deck, 1)
+
+
+def test_the_first_screen_of_the_house(house: Gathered) -> None:
+    screen = first.first_screen(house, book())
+    assert [text_of(sentence) for sentence in screen.sentences] == [
+        "What is left is forecast to end on 11 Apr 2024, 4 days late against the planned end"
+        " 7 Apr 2024.",
+        "The latest estimate is 14,020 EUR against a budget of 13,600 EUR, 420 EUR over it.",
+        "Keeping 7 Apr 2024 costs 470 EUR more; the first day costs 100 EUR.",
+    ]
+    assert [(tile.name, text_of(tile.value)) for tile in screen.tiles] == [
+        ("Forecast end", "11 Apr 2024"),
+        ("Planned end", "7 Apr 2024"),
+        ("Last report", "\u2013"),
+        ("Latest estimate", "14,020 EUR"),
+        ("Budget", "13,600 EUR"),
+        ("To end on 7 Apr 2024", "470 EUR"),
+    ]
+    assert [text_of(tile.value) for tile in screen.ends] == ["25 days", "18 days"]
+
+
+def with_contract(gathered: Gathered, day: date) -> Gathered:
+    held = replace(gathered)
+    held.__dict__["contract"] = Contract(day, "directed end of the deck", True)
+    return held
+
+
+def test_a_date_that_no_schedule_keeps(house: Gathered) -> None:
+    screen = first.first_screen(with_contract(house, date(2024, 4, 1)), book())
+    assert text_of(screen.sentences[2]) == (
+        "1 Apr 2024 cannot be kept: the earliest end is 4 Apr 2024, for 1,070 EUR more;"
+        " the first day costs 100 EUR."
+    )
+    assert screen.tiles[5].name == "Earliest end, 4 Apr 2024"
+    assert screen.tiles[1].name == "Contract date"
+
+
+def test_a_date_that_is_kept(house: Gathered) -> None:
+    screen = first.first_screen(with_contract(house, date(2024, 4, 13)), book())
+    assert "2 days early against the contract date 13 Apr 2024" in text_of(screen.sentences[0])
+    assert text_of(screen.sentences[2]) == "The date is kept. One day less would cost 100 EUR."
+    assert (screen.tiles[5].name, screen.tiles[0].tone) == ("One day less", "")
+    on_time = first.first_screen(with_contract(house, date(2024, 4, 11)), book())
+    assert "on time against the contract date" in text_of(on_time.sentences[0])
+
+
+def test_the_price_of_time(terms: Gathered) -> None:
+    screen = first.first_screen(terms, book())
+    assert text_of(screen.sentences[2]).endswith(
+        "With the price of time, 30 days (2 Apr 2024) cost least in all."
+    )
+    choice = chooser.choice(terms, book())
+    amounts = [(key, text_of(line)) for key, _, line in choice.costs]
+    assert amounts == [
+        ("cost", "13,190 EUR"),
+        ("overhead", "2,700 EUR"),
+        ("bonus", "0 EUR"),
+        ("penalty", "0 EUR"),
+        ("total", "15,890 EUR"),
+    ]
+    assert (choice.late, text_of(choice.more)) == ("on the contract date", "590 EUR")
+
+
+def test_breakpoints_have_dates_totals_and_prices(terms: Gathered) -> None:
+    table = chooser.breakpoints(terms, book())
+    rows = [[text_of(row.name), *map(text_of, row.cells)] for row in table.rows]
+    assert rows[0] == ["35 days", "7 Apr 2024", "12,600 EUR", "16,100 EUR", "100 EUR"]
+    assert rows[-1] == ["27 days", "30 Mar 2024", "13,690 EUR", "16,000 EUR", "\u2013"]
+
+
+def test_equal_stretches_are_named(tmp_path: Path) -> None:
+    plan = plan_without_status()
+    free = plan.replace(b"7,5,900,200", b"7,5,900,0").replace(b"END\n", b"TERMS,110,20,0,0\nEND\n")
+    found = gathered_of(deck_at(tmp_path, free))
+    texts = [stretch.text for stretch in chooser.stretches(found, book())]
+    assert texts == [
+        "33 to 35 days cost the same work: take 33.",
+        "30 to 32 days cost the same in all: take 32, which shortens less.",
+    ]
+
+
+def test_prices_are_centred_or_left_out(terms: Gathered) -> None:
+    labels = chooser.curve_chart(terms, book()).prices
+    assert [tick.label for tick in labels] == ["+100", "+110", "+120", "+150", "+200"]
+    middle = labels[3].at.split("|")[0]
+    assert middle == charts.percent(Fraction(31 + 28, 2) - 27, 8)
+    assert [tick.is_minor for tick in labels] == [True, False, True, False, True]
+
+
+def test_rows_say_what_is_done_and_late(house: Gathered) -> None:
+    drawn = timeline.timeline(house, book())
+    rows = {row.key: row for row in drawn.rows if row.key}
+    assert [rows[key].state for key in ("t0", "t1", "t2")] == ["finished", "begun", "waiting"]
+    assert (rows["t0"].start, rows["t0"].finish, rows["t0"].slack) == (
+        "4 Mar 2024",
+        "7 Mar 2024",
+        "",
+    )
+    assert rows["t1"].flag == "should have finished 14 Mar 2024"
+    assert rows["t2"].flag == "should have begun 15 Mar 2024"
+    assert [bar.name for bar in rows["t1"].bars] == ["baseline", "done", "bar critical"]
+    assert [bar.name for bar in rows["t0"].bars] == ["baseline", "done"]
+    assert not drawn.appendix
+
+
+def many_tasks() -> bytes:
+    lines = ["PROJECT,MANY,BEGIN,FIN,2024-01-01,1,,Many", "WBS,M,,Many", "WBS,W,M,Work"]
+    tasks = ["TASK,BEGIN,W,0,0,0,0,0,0,0,", "TASK,FIN,W,0,0,0,0,0,0,0,"]
+    links = []
+    for number in range(80):
+        tasks.append(f"TASK,T{number},W,1,2,3,{2 + number % 5},1,10,1,Task {number}")
+        links += [f"AFTER,T{number},BEGIN", f"AFTER,FIN,T{number}"]
+    lines += [*tasks, *links, "ACCT,A,W,800,", "END", ""]
+    return "\n".join(lines).encode()
+
+
+def test_many_rows_have_an_appendix(tmp_path: Path) -> None:
+    found = gathered_of(deck_at(tmp_path, many_tasks()))
+    drawn = timeline.timeline(found, book())
+    first_rows = [row for row in drawn.rows if row.key]
+    assert all(row.is_critical for row in first_rows)
+    assert len(first_rows) + len([row for row in drawn.appendix if row.key]) == 82
+    page = page_of(found)
+    assert page.rows_name == "Critical tasks"
+    assert "appendix" in [section.key for section in page.sections]
+
+
+def test_money_tables_add_up(house: Gathered) -> None:
+    table = money.summary_table(house, book())
+    assert table is not None
+    assert [text_of(cell) for cell in table.rows[0].cells] == [
+        "13,600",
+        "2,220",
+        "11,800",
+        "14,020",
+        "420",
+    ]
+    earned = money.earned_table(house, book())
+    assert earned is not None and house.earned is not None
+    last = [text_of(cell) for cell in earned.rows[-1].cells]
+    assert last[:3] == [f"{amount:,}" for amount in (4820, house.earned.total.ev, 2020)]
+    chart = money.money_chart(house, book())
+    assert chart is not None
+    assert [series.name for series in chart.series] == ["planned", "spent", "forecast"]
+    load = money.load(house, book())
+    assert load is not None and load.left_out == 0 and len(load.charts) == 5
+
+
+def test_the_directed_end_is_the_contract_date(tmp_path: Path) -> None:
+    text = HOUSE.read_bytes().replace(b"2024-03-04,1,,", b"2024-03-04,1,33,")
+    plan = open_plan(deck_at(tmp_path, text))
+    contract = contract_of(plan, date(2024, 4, 7))
+    assert contract == Contract(date(2024, 4, 5), "directed end of the deck", True)
+    target = contract_of(open_plan(deck_at(tmp_path, house_with_terms(), "t")), None)
+    assert target == Contract(date(2024, 4, 2), "target of the deck's TERMS", True)
+    assert contract_of(open_plan(HOUSE), None) is None
+
+
+def test_what_changed_since_the_report_before(tmp_path: Path) -> None:
+    now = HOUSE.read_bytes()
+    before = now.replace(b"ASOF,2024-03-18", b"ASOF,2024-03-11").replace(
+        b"CHARGE,WIN,2024-03-06,1000", b"CHARGE,WIN,2024-03-06,900"
+    )
+    now = now.replace(b"8,10,12,10,7,2400", b"9,11,13,11,8,2400")
+    now = now.replace(b"ACCT,ELE,1.3.1,700", b"ACCT,ELE,1.3.1,900")
+    now = now.replace(b"3,4,5,4,3,700", b"3,4,5,4,3,900")
+    old = deck_at(tmp_path, before, "old")
+    found = gathered_of(deck_at(tmp_path, now, "new"), previous=old)
+    assert found.states is not None
+    ends = [(step.cause, step.end) for step in found.states.steps]
+    assert ends == [
+        ("forecast of the report before", date(2024, 4, 7)),
+        ("restated past", date(2024, 4, 7)),
+        ("progress since", date(2024, 4, 11)),
+        ("re-estimates", date(2024, 4, 12)),
+        ("scope and links", date(2024, 4, 12)),
+    ]
+    view = changed.changes_view(found.states, book())
+    bridge = next(t for t in view.tables if t.caption.endswith("by account"))
+    rows = {text_of(row.name): [text_of(cell) for cell in row.cells] for row in bridge.rows}
+    assert rows["FND Foundation"] == ["0", "0", "+200", "+200"]
+    assert rows["ELE Electric"] == ["+200", "0", "0", "+200"]
+    assert rows["WIN Windows"] == ["0", "+100", "0", "+100"]
+    assert (rows["Last report"][-1], rows["Now"][-1]) == ("13,720", "14,220")
+    assert view.notes == (
+        "Since the last report, 1 figure of the time before it changed. The last report is shown"
+        " as it was reported.",
+    )
+    screen = first.first_screen(found, book())
+    assert "the report before said 7 Apr 2024" in text_of(screen.sentences[0])
+    assert text_of(screen.tiles[2].note) == "as of 11 Mar 2024; 5 days later now"
+
+
+def test_a_length_outside_the_curve_is_refused(tmp_path: Path) -> None:
+    with pytest.raises(InputError, match="length 26 is outside 27 to 35"):
+        gathered_of(deck_at(tmp_path, plan_without_status()), length=26)
+
+
+def test_finished_work_is_known(house: Gathered) -> None:
+    assert house.progress["SITE"] is State.FINISHED
+    assert house.progress["FOUND"] is State.BEGUN
+
+
+def rigid() -> bytes:
+    """Returns a plan without costs, accounts or anything that can be shortened."""
+    lines = ["PROJECT,R,A,B,2024-01-01,1,,Rigid", "WBS,M,,Rigid", "WBS,W,M,Work"]
+    lines += ["EVENT,A,", "EVENT,B,", "ACT,X,A,B,W,3,4,5,4,4,0,0,Only one", "END", ""]
+    return "\n".join(lines).encode()
+
+
+def test_a_plan_that_cannot_be_shortened(tmp_path: Path) -> None:
+    found = gathered_of(deck_at(tmp_path, rigid()))
+    screen = first.first_screen(found, book())
+    assert [text_of(sentence) for sentence in screen.sentences] == [
+        "The work is forecast to end on 4 Jan 2024, on time against the planned end 4 Jan 2024.",
+        "The work costs 0 EUR; the deck has no accounts.",
+        "There is nothing to decide: no task of what is left can be shortened.",
+    ]
+    assert [tile.name for tile in screen.tiles[3:]] == ["Cost of the work", "Budget", "Decision"]
+    assert text_of(screen.tiles[5].value) == "none"
+    page = page_of(found)
+    assert (page.summary, page.earned, page.changes, page.money_chart) == (None, None, None, None)
+    assert len(page.left_out) == 5
+    assert [tick.label for tick in page.chooser.chart.x_ticks] == ["4|4 Jan 2024"]

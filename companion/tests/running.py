@@ -1,0 +1,59 @@
+"""What tests of running projects share: plans of cases and examples, and how commands are run."""
+
+from collections.abc import Callable, Sequence
+from dataclasses import dataclass
+from pathlib import Path
+
+import pytest
+
+from pert_companion.cli import importing
+from pert_companion.cli.common import CommandParser, run_command
+from pert_companion.deck import parse_deck
+from pert_companion.opening import OpenPlan, open_plan
+from pert_companion.programs import Programs
+from pert_companion.scheduling import implied_side_file
+
+HERE = Path(__file__).resolve().parent
+CASES = HERE / "cases"
+EXAMPLES = HERE.parents[1] / "examples"
+HOUSE = EXAMPLES / "house.csv"
+MONTHS = EXAMPLES / "months"
+PROGRAMS = Programs()
+
+
+@dataclass(frozen=True)
+class Outcome:
+    """What a command did: its status, its output and its lines on standard error."""
+
+    status: int
+    output: str
+    errors: str
+
+
+def run_words(
+    capture: pytest.CaptureFixture[bytes],
+    name: str,
+    command: tuple[Callable[[], CommandParser], Callable[..., int]],
+    words: Sequence[object],
+) -> Outcome:
+    """Runs a command in this process."""
+    capture.readouterr()
+    parser, run = command
+    status = run_command(name, parser(), run, [str(word) for word in words])
+    captured = capture.readouterr()
+    return Outcome(status, captured.out.decode(), captured.err.decode())
+
+
+def imported(folder: Path, case: str, *words: str) -> OpenPlan:
+    """Returns the plan of a list of the cases, imported into a folder."""
+    deck = folder / case
+    given = [str(CASES / case), "-o", str(deck), *words]
+    assert run_command(importing.NAME, importing.parser(), importing.run, given) == 0
+    return open_plan(deck)
+
+
+def plan_of(text: str, name: str = "deck.csv") -> OpenPlan:
+    """Returns the plan of a deck that is given as a text."""
+    data = text.encode()
+    deck = parse_deck(data, name)
+    return OpenPlan(Path(name), data, deck, implied_side_file(deck), False)

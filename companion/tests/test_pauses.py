@@ -1,0 +1,151 @@
+"""Tasks that pause are found exactly if no schedule in one piece has the length."""
+
+from collections.abc import Iterable, Iterator
+from dataclasses import replace
+from datetime import date
+from itertools import cycle
+
+from cpm import dates_of
+from hypothesis import assume, given
+from hypothesis import strategies as st
+from plans import Feature, plans
+from test_carry import DATES, PROGRAMS, has_exact_links, property_settings
+
+from pert_companion.calendar import Calendar
+from pert_companion.cards import AfterCard, ItemCard, ProjectCard, TaskCard
+from pert_companion.carry import carry
+from pert_companion.deck import Deck
+from pert_companion.pauses import CurvePauses, check_curve, pausing_tasks
+from pert_companion.plan import Link, LinkKind, Plan
+from pert_companion.sidefile import SideFile, SideTask
+
+
+def card(code: str, normal: int, crash: int | None = None, slope: int = 0) -> TaskCard:
+    """Returns a TASK card."""
+    least = normal if crash is None else crash
+    return TaskCard(code, "W.1", normal, normal, normal, normal, least, 0, slope, code)
+
+
+def side_task(
+    code: str, start_moment: str | None = None, finish_moment: str | None = None
+) -> SideTask:
+    """Returns a real task with one part."""
+    return SideTask(code, code, None, code, (), (code,), start_moment, finish_moment)
+
+
+DECK = Deck(
+    project=ProjectCard("W", "start", "end", date(2026, 9, 1)),
+    items=(ItemCard("W", ""), ItemCard("W.1", "W")),
+    tasks=(
+        card("PREP", 4, 1, 1),
+        card("STEEL", 14),
+        card("DECK.S", 0),
+        card("DECK", 10, 9, 100),
+        card("DECK.F", 0),
+        card("SERVE", 20),
+    ),
+    afters=(
+        AfterCard("DECK.S", "PREP"),
+        AfterCard("DECK", "DECK.S"),
+        AfterCard("DECK.F", "DECK"),
+        AfterCard("DECK.F", "STEEL"),
+        AfterCard("SERVE", "DECK.S"),
+    ),
+)
+"""Services begin with the decking, which ends no earlier than the steel: a deck lets it pause."""
+
+SIDE = SideFile(
+    deck_sha256="",
+    deck_name="",
+    start=date(2026, 9, 1),
+    calendar=Calendar(),
+    unit_minutes=480,
+    tasks=(
+        side_task("PREP"),
+        side_task("STEEL"),
+        side_task("DECK", start_moment="DECK.S", finish_moment="DECK.F"),
+        side_task("SERVE"),
+    ),
+)
+
+
+def test_the_least_length_in_one_piece_is_found() -> None:
+    """The curve goes to 21, in one piece 24 is the least, and the decking is named."""
+    found = check_curve(PROGRAMS, DECK, SIDE)
+    assert found.least == 24
+    assert [entry.length for entry in found.pausing] == [21]
+    assert [task.code for task in found.pausing[0].tasks] == ["DECK"]
+    assert found.line("days") == (
+        "24 days is the least length in one piece: at shorter lengths of the curve these tasks"
+        " pause: 'DECK'"
+    )
+
+
+def test_plans_that_cannot_pause_are_not_asked_about() -> None:
+    """Without a finish that waits for others, or if no schedule needs it, nothing pauses."""
+    plain = replace(SIDE, tasks=tuple(side_task(task.code) for task in DECK.tasks))
+    assert check_curve(PROGRAMS, DECK, plain) == CurvePauses(21, ())
+    fixed = replace(DECK, tasks=tuple(replace(task, crash=task.normal) for task in DECK.tasks))
+    assert check_curve(PROGRAMS, fixed, SIDE) == CurvePauses(24, ())
+    assert check_curve(PROGRAMS, fixed, SIDE).line("days") == ""
+    normal = {task.code: task.normal for task in DECK.tasks}
+    assert not pausing_tasks(DECK, SIDE, normal, 24)
+    assert pausing_tasks(DECK, SIDE, normal, 23)
+
+
+def test_tasks_that_wait_for_each_other_pause() -> None:
+    """Two tasks that each end after the other's start and work are in no schedule in one piece."""
+    tasks = (card("A", 2), card("A.S", 0), card("A.F", 0), card("B", 5), card("B.S", 0))
+    afters = (
+        AfterCard("A", "A.S"),
+        AfterCard("A.F", "A"),
+        AfterCard("B", "B.S"),
+        AfterCard("B.S", "A.S"),
+        AfterCard("A.F", "B"),
+    )
+    deck = replace(DECK, tasks=tasks, afters=afters)
+    both = (
+        side_task("A", start_moment="A.S", finish_moment="A.F"),
+        side_task("B", start_moment="B.S"),
+    )
+    durations = {task.code: task.normal for task in tasks}
+    side = replace(SIDE, tasks=both)
+    assert [task.code for task in pausing_tasks(deck, side, durations, 5)] == ["A"]
+
+
+def card_length(deck: Deck, durations: dict[str, int]) -> int:
+    """Returns the length of the deck's cards with these durations, pauses allowed."""
+    ends = dict.fromkeys(durations, 0)
+    for _ in durations:
+        for task in deck.tasks:
+            before = [ends[after.before] for after in deck.afters if after.task == task.code]
+            ends[task.code] = max([0, *before]) + durations[task.code]
+    return max(ends.values())
+
+
+def finish_to_finish(links: Iterable[Link]) -> Iterator[Link]:
+    """Yields the links, every second one from finish to finish and the others start to start."""
+    kinds = cycle((LinkKind.FINISH_FINISH, LinkKind.START_START))
+    for link, kind in zip(links, kinds):
+        yield replace(link, kind=kind)
+
+
+@given(st.data(), plans(DATES - {Feature.SHARE_LAGS}))
+@property_settings()
+def test_no_task_pauses_exactly_if_one_piece_is_as_short(data: st.DataObject, plan: Plan) -> None:
+    """A plain CPM over tasks in one piece agrees at any durations."""
+    plan = replace(plan, links=tuple(finish_to_finish(plan.links)))
+    carried = carry(plan)
+    assume(has_exact_links(carried))
+    durations = {}
+    for each in carried.deck.tasks:
+        durations[each.code] = data.draw(st.integers(each.crash, each.normal))
+    unit = carried.side.unit_minutes
+    minutes = {}
+    for task in carried.side.tasks:
+        minutes[task.uid] = sum(durations[part] for part in task.parts) * unit
+    origin = plan.calendar.position(plan.calendar.morning(plan.start))
+    finishes = [dates.finish - origin for dates in dates_of(plan, minutes).values()]
+    length = card_length(carried.deck, durations)
+    pausing = pausing_tasks(carried.deck, carried.side, durations, length)
+    assert bool(pausing) == (max(finishes) > length * unit)

@@ -1,0 +1,503 @@
+"""`pert-portfolio`: rows, faults, what moved, shared weeks, cache, CSV, hosts and progress."""
+
+import csv
+import io
+import json
+import os
+import shutil
+import socket
+import subprocess
+import sys
+import time
+from collections.abc import Iterator
+from contextlib import contextmanager
+from datetime import date, timedelta
+from pathlib import Path
+
+import pytest
+
+from page.browser import Browser
+from page.certificates import HOUSE, SHED, TOP
+from pert_companion.cli import portfolio
+from pert_companion.cli.common import run_command
+from pert_companion.errors import UsageError
+from pert_companion.opening import open_plan
+from pert_companion.portfolio.row import Row, is_stale, row_of, week_name
+from pert_companion.portfolio.stored import Cache, row_from, row_text
+from pert_companion.portfolio.work import Job, packed, rows_of, serve
+from pert_companion.programs import Programs
+
+PROGRAMS = Programs()
+BIN = Path(PROGRAMS.find("pert")).parent
+COMMAND = TOP / "companion" / "bin" / "pert-portfolio"
+MONDAY_DECK = """PROJECT,MON,S,T,2026-03-02,1,,Roof,2
+WBS,1,,Roof
+EVENT,S,
+EVENT,M,Roof closed
+EVENT,T,
+ACT,A,S,M,1,10,10,10,10,8,0,5,Frame
+ACT,B,M,T,1,4,4,4,4,4,0,0,Tiles
+RES,CREW,Crew
+LOAD,A,CREW,20
+LOAD,B,CREW,40
+END
+"""
+TASKS = """PROJECT,{code},S,T,2026-03-02,1,,{code}
+WBS,1,,Top
+WBS,1.1,1,Work
+TASK,A,1.1,3,3,3,3,2,0,50,Dig
+TASK,M,1.1,0,0,0,0,0,0,0,Handed over
+TASK,B,1.1,4,4,4,4,3,0,70,Build
+AFTER,M,A
+AFTER,B,M
+END
+"""
+
+
+@pytest.fixture(name="decks")
+def _decks(tmp_path: Path) -> Path:
+    """A folder with decks: the house, the shed, one with a crew, one of tasks, one refused."""
+    shutil.copy(HOUSE, tmp_path / "house.csv")
+    shutil.copy(SHED, tmp_path / "shed.csv")
+    (tmp_path / "roof.csv").write_text(MONDAY_DECK)
+    (tmp_path / "tasks.csv").write_text(TASKS.format(code="T1"))
+    (tmp_path / "bad.csv").write_text("PROJECT,X\nEND\n")
+    return tmp_path
+
+
+def run(*words: object) -> int:
+    """Runs the command in this process and returns its status."""
+    return run_command("pert-portfolio", portfolio.parser(), portfolio.run, [str(w) for w in words])
+
+
+def test_a_row_has_the_figures_of_the_programs(decks: Path) -> None:
+    """The house: forecast and price by hand from `pert curve` of what is left and the summary."""
+    row = row_of(PROGRAMS, decks / "house.csv", None, "house.csv")
+    plan = open_plan(decks / "house.csv")
+    top = next(iter(PROGRAMS.summary(plan.deck).values()))
+    assert (row.code, row.as_of, row.fault) == ("H1", "2024-03-18", "")
+    assert (row.latest, row.budget, row.overrun) == (14020, 13600, 420)
+    assert (top.latest, top.budget, top.overrun) == (row.latest, row.budget, row.overrun)
+    late = date.fromisoformat(row.forecast) - date.fromisoformat(row.contract)
+    assert row.late == late.days  # every day counts in this deck
+
+
+def test_the_shed_is_on_time_and_its_next_day_costs_3(decks: Path) -> None:
+    """At 9 days the shed costs 45, and a day less costs 3."""
+    row = row_of(PROGRAMS, decks / "shed.csv", None, "shed.csv")
+    assert (row.forecast, row.contract, row.late, row.next_price) == (
+        "2024-01-09",
+        "2024-01-09",
+        0,
+        3,
+    )
+
+
+def test_the_next_milestone_is_named_with_its_day(decks: Path) -> None:
+    """A takes three days from Monday, so it is handed over on Wednesday evening."""
+    row = row_of(PROGRAMS, decks / "tasks.csv", None, "tasks.csv")
+    assert row.milestone is not None
+    assert (row.milestone.name, row.milestone.day) == ("Handed over", "2026-03-04")
+
+
+def test_what_moved_is_counted_in_units(decks: Path) -> None:
+    """The deck before has one day less of tiles, so the forecast is a day later now."""
+    before = decks / "before"
+    before.mkdir()
+    (before / "roof.csv").write_text(MONDAY_DECK.replace("4,4,4,4,4", "3,3,3,3,3"))
+    row = row_of(PROGRAMS, decks / "roof.csv", before / "roof.csv", "roof.csv")
+    assert (row.moved, row.previous_as_of) == (1, "2026-03-02")
+    back = row_of(PROGRAMS, before / "roof.csv", decks / "roof.csv", "roof.csv")
+    assert back.moved == -1
+
+
+def test_loads_are_spread_over_calendar_weeks(decks: Path) -> None:
+    """Frame is 2 a day for 10 days from Monday 2 March, tiles 10 a day for 4 days after it."""
+    row = row_of(PROGRAMS, decks / "roof.csv", None, "roof.csv")
+    found = [(load.resource, load.week, load.amount) for load in row.loads]
+    assert found == [("CREW", "2026-W10", 14), ("CREW", "2026-W11", 46)]
+    plan = open_plan(decks / "roof.csv")
+    load = PROGRAMS.load(PROGRAMS.network(plan.deck), 7)
+    assert list(load.resources["CREW"].values()) == [14, 46]
+
+
+def test_an_activity_without_length_loads_the_week_it_is_in(decks: Path) -> None:
+    """The tiles take no time and are on Thursday of the second week."""
+    deck = MONDAY_DECK.replace("ACT,B,M,T,1,4,4,4,4,4", "ACT,B,M,T,1,0,0,0,0,0")
+    (decks / "roof.csv").write_text(deck)
+    row = row_of(PROGRAMS, decks / "roof.csv", None, "roof.csv")
+    assert [(load.week, load.amount) for load in row.loads] == [("2026-W10", 14), ("2026-W11", 46)]
+
+
+def test_weeks_are_those_of_iso_8601() -> None:
+    """The first days of January may belong to the last week of the year before."""
+    assert week_name(date(2027, 1, 3)) == "2026-W53"
+    assert week_name(date(2027, 1, 4)) == "2027-W01"
+
+
+def test_a_deck_with_a_fault_has_it_in_its_row(decks: Path) -> None:
+    """A refused deck and a missing one leave the others as they are."""
+    assert "record 1" in row_of(PROGRAMS, decks / "bad.csv", None, "bad.csv").fault
+    missing = row_of(PROGRAMS, decks / "none.csv", None, "none.csv")
+    assert missing.fault == "No such file or directory"
+
+
+def test_the_page_and_the_table(decks: Path, capsys: pytest.CaptureFixture[str]) -> None:
+    """Each deck has a row; the refused one its fault, and the status is 1."""
+    names = ["house.csv", "roof.csv", "tasks.csv", "bad.csv"]
+    words = [decks / name for name in names]
+    assert run(*words, "--csv", "--no-cache", "-o", decks / "page.html") == 1
+    text = (decks / "page.html").read_text()
+    assert text.count('<th scope="row" data-key=') == 4
+    assert "refused: <bdi>" in text
+    rows = list(csv.DictReader(io.StringIO((decks / "page.csv").read_text())))
+    assert [row["code"] for row in rows] == ["H1", "MON", "T1", ""]
+    assert [row["stale"] for row in rows] == ["yes", "", "", ""]
+    assert rows[0]["overrun"] == "420"
+    said = capsys.readouterr().err
+    assert "bad.csv" in said and "4 decks, 1 refused" in said and "\r" not in said
+
+
+def test_stale_is_measured_from_the_newest() -> None:
+    """Exactly so many days are not yet stale."""
+    row = Row("a", as_of="2026-03-01")
+    newest = date(2026, 3, 1) + timedelta(days=31)
+    assert not is_stale(row, newest.isoformat(), 31)
+    assert is_stale(row, (newest + timedelta(days=1)).isoformat(), 31)
+    assert not is_stale(Row("b", fault="x"), newest.isoformat(), 31)
+
+
+def test_a_project_links_the_page_next_to_its_deck(decks: Path) -> None:
+    """The address is relative to the page, with escapes; without a page there is no link."""
+    folder = decks / "a b"
+    folder.mkdir()
+    shutil.copy(SHED, folder / "shed.csv")
+    (folder / "shed.html").write_text("page")
+    words = (folder / "shed.csv", decks / "roof.csv", "--no-cache", "-o", decks / "page.html")
+    assert run(*words) == 0
+    text = (decks / "page.html").read_text()
+    assert 'href="a%20b/shed.html"' in text and text.count("<a href") == 1
+
+
+def test_titles_cannot_forge_the_page(decks: Path) -> None:
+    """Markup is text, and control characters are shown as escapes."""
+    title = "<script>alert(1)</script>\u202e\u2028=1+1"
+    (decks / "roof.csv").write_text(MONDAY_DECK.replace(",Roof,2", f",{title},2"))
+    assert run(decks / "roof.csv", "--csv", "--no-cache", "-o", decks / "page.html") == 0
+    text = (decks / "page.html").read_text()
+    assert "<script>alert" not in text and "\u202e" not in text and "\u2028" not in text
+    assert "&lt;script&gt;" in text and "\\u202e" in text
+    (decks / "roof.csv").write_text(MONDAY_DECK.replace(",Roof,2", ",=1+1,2"))
+    assert run(decks / "roof.csv", "--csv", "--no-cache", "-o", decks / "page.html") == 0
+    assert "'=1+1" in (decks / "page.csv").read_text()
+
+
+def test_shared_resources_have_sums_by_week(decks: Path) -> None:
+    """Two decks with the same crew, one of them a week later."""
+    (decks / "other.csv").write_text(MONDAY_DECK.replace("2026-03-02", "2026-03-09"))
+    words = (decks / "roof.csv", decks / "other.csv", "--no-cache", "-o", decks / "page.html")
+    assert run(*words) == 0
+    text = (decks / "page.html").read_text()
+    section = text[text.index('id="shared"') :]
+    assert "<bdi>Crew</bdi>" in section
+    last = section[section.index('class="sum"') :]
+    cells = [part.split("</td>")[0] for part in last.split('<td class="number">')[1:]]
+    assert cells == ["14", "60", "46"]
+
+
+def test_the_table_is_sorted_by_a_heading(decks: Path) -> None:
+    """In a browser: by overrun up and down, rows without a value at the end, and no message."""
+    if shutil.which("chromium") is None:
+        pytest.skip("no chromium")
+    names = ["shed.csv", "roof.csv", "house.csv", "bad.csv"]
+    run(*[decks / name for name in names], "--no-cache", "-o", decks / "page.html")
+    rows = "[...document.querySelectorAll('#projects tbody th bdi')].map(it => it.textContent)"
+    picked = "document.querySelectorAll('#projects thead button')[6].click()"
+    with Browser() as browser:
+        page = browser.open((decks / "page.html").as_uri())
+        page.run(picked)
+        up = json.loads(page.run(f"JSON.stringify({rows}.filter((_, at) => at % 2 === 0))"))
+        page.run(picked)
+        down = json.loads(page.run(f"JSON.stringify({rows}.filter((_, at) => at % 2 === 0))"))
+        assert not page.messages()
+        assert all(request.startswith("file:") for request in page.requests())
+    assert up[:2] == ["A garden shed", "House, two floors"]
+    assert down[:2] == ["House, two floors", "A garden shed"]
+    assert set(up[2:]) == set(down[2:]) == {"Roof", "bad"}
+
+
+def jobs_of(folder: Path, *names: str) -> list[Job]:
+    """Returns jobs for decks of a folder."""
+    return [Job(folder / name, None, name) for name in names]
+
+
+class Counter:
+    """Counts the decks that were not taken from the cache."""
+
+    def __init__(self) -> None:
+        """Begins at nothing."""
+        self.calls: list[tuple[int, int, str]] = []
+
+    def __call__(self, done: int, count: int, name: str) -> None:
+        """Notes a call of the progress."""
+        self.calls.append((done, count, name))
+
+
+def test_unchanged_decks_come_from_the_cache(decks: Path) -> None:
+    """A second run reads nothing; a changed deck is read again; faults are not kept."""
+    jobs = jobs_of(decks, "shed.csv", "roof.csv", "bad.csv")
+    first, second, third = Counter(), Counter(), Counter()
+    rows = rows_of(PROGRAMS, jobs, Cache(decks / "kept", PROGRAMS), None, first)
+    assert [call[0] for call in first.calls] == [0, 1, 2, 3]
+    again = rows_of(PROGRAMS, jobs, Cache(decks / "kept", PROGRAMS), None, second)
+    assert again == rows and second.calls == [(2, 3, ""), (3, 3, "bad.csv")]
+    (decks / "roof.csv").write_text(MONDAY_DECK.replace("ACT,A,S,M,1,10", "ACT,A,S,M,1,9"))
+    rows_of(PROGRAMS, jobs, Cache(decks / "kept", PROGRAMS), None, third)
+    assert third.calls[0][0] == 1
+
+
+def test_the_cache_goes_by_side_file_previous_deck_and_name(decks: Path) -> None:
+    """Whatever a row is made of changes its key."""
+    cache = Cache(decks / "kept", PROGRAMS)
+    plain = cache.key(decks / "shed.csv", None, "shed.csv")
+    assert plain == cache.key(decks / "shed.csv", None, "shed.csv")
+    assert plain != cache.key(decks / "shed.csv", decks / "roof.csv", "shed.csv")
+    assert plain != cache.key(decks / "shed.csv", None, "other.csv")
+    (decks / "shed.json").write_text("{}")
+    assert plain != cache.key(decks / "shed.csv", None, "shed.csv")
+
+
+def test_what_is_kept_is_checked(decks: Path) -> None:
+    """A row goes through JSON unchanged; anything else is no row."""
+    row = row_of(PROGRAMS, decks / "roof.csv", None, "roof.csv")
+    text = row_text(row)
+    assert row_from(text) == row
+    found = json.loads(text)
+    for key in found:
+        assert row_from(json.dumps({k: v for k, v in found.items() if k != key})) is None
+        assert row_from(json.dumps({**found, key: {"x": 1}})) is None
+    assert row_from(json.dumps({**found, "more": 1})) is None
+    assert row_from(json.dumps({**found, "late": True})) is None
+    assert row_from("[]") is None and row_from("x") is None and row_from("[" * 100000) is None
+
+
+def test_a_damaged_cache_is_not_used(decks: Path) -> None:
+    """A half file is read again as if it were not there."""
+    jobs = jobs_of(decks, "shed.csv")
+    cache = Cache(decks / "kept", PROGRAMS)
+    rows = rows_of(PROGRAMS, jobs, cache, None, Counter())
+    for path in (decks / "kept").iterdir():
+        path.write_bytes(path.read_bytes()[:40] + b"\xff")
+    counter = Counter()
+    assert rows_of(PROGRAMS, jobs, Cache(decks / "kept", PROGRAMS), None, counter) == rows
+    assert counter.calls[0] == (0, 1, "")
+
+
+def test_a_cache_that_cannot_be_written_keeps_nothing(decks: Path) -> None:
+    """The page is made all the same."""
+    (decks / "kept").write_text("a file")
+    words = (decks / "shed.csv", "--cache", decks / "kept", "-o", decks / "page.html")
+    assert run(*words) == 0
+
+
+def test_wrong_words_are_refused(decks: Path, capsys: pytest.CaptureFixture[str]) -> None:
+    """Nothing is written."""
+    assert run(decks / "shed.csv") == 2
+    assert run("-o", decks / "page.html") == 2
+    assert run(decks / "shed.csv", "--stale", "x", "-o", decks / "page.html") == 2
+    assert run(decks / "shed.csv", "--no-cache", "-o", decks / "shed.csv") == 2
+    assert (decks / "shed.csv").read_bytes() == SHED.read_bytes()
+    assert not (decks / "page.html").exists()
+    assert "would overwrite" in capsys.readouterr().err
+
+
+def test_the_cache_is_that_of_the_user(monkeypatch: pytest.MonkeyPatch, tmp_path: Path) -> None:
+    """By XDG_CACHE_HOME if it is absolute, else below the home, else none."""
+    monkeypatch.setenv("XDG_CACHE_HOME", str(tmp_path))
+    assert portfolio._cache_folder(None) == tmp_path / "pert-portfolio"
+    monkeypatch.setenv("XDG_CACHE_HOME", "relative")
+    monkeypatch.setenv("HOME", str(tmp_path / "home"))
+    assert portfolio._cache_folder(None) == tmp_path / "home" / ".cache" / "pert-portfolio"
+    monkeypatch.setenv("HOME", "")
+    assert portfolio._cache_folder(None) is None
+
+
+def test_the_bar_is_for_terminals(capsys: pytest.CaptureFixture[str]) -> None:
+    """In a pipe nothing is shown."""
+    for is_shown in (False, True):
+        bar = portfolio.Bar(is_shown)
+        bar(1, 2, "a\x1b.csv")
+        bar.clear()
+        said = capsys.readouterr().err
+        assert ("[###############...............] 1 of 2 a\\x1b.csv" in said) == is_shown
+        assert bool(said) == is_shown
+
+
+def rows_by_hosts(decks: Path, logins: Path, names: list[str]) -> list[str]:
+    """Returns the codes of the CSV that two hosts made."""
+    words: list[object] = [*[decks / name for name in names], "--csv", "--bin", BIN]
+    words += ["--hosts", logins, "--remote", f"{COMMAND} --bin {BIN}", "-o", decks / "page.html"]
+    assert run(*words) == 1
+    rows = list(csv.DictReader(io.StringIO((decks / "page.csv").read_text())))
+    assert rows[-1]["fault"].startswith(str(decks / "bad.csv"))
+    return [row["code"] for row in rows]
+
+
+def many(decks: Path) -> list[str]:
+    """Writes ten decks of tasks and returns the names of these, two more and a refused one."""
+    for number in range(10):
+        (decks / f"t{number}.csv").write_text(TASKS.format(code=f"P{number}"))
+    return [*[f"t{number}.csv" for number in range(10)], "shed.csv", "house.csv", "bad.csv"]
+
+
+WANTED = [*[f"P{number}" for number in range(10)], "SHED", "H1", ""]
+
+
+def test_hosts_by_a_stub_for_ssh(decks: Path) -> None:
+    """A stub takes the place of ssh: it runs the command here, and notes the host."""
+    if shutil.which("parallel") is None:
+        pytest.skip("no GNU parallel")
+    stub = decks / "stub-ssh"
+    stub.write_text(
+        f'#!/bin/sh\necho "$1" >>{decks}/met\nshift\n[ "$1" != -- ] || shift\nexec sh -c "$*"\n'
+    )
+    stub.chmod(0o755)
+    logins = decks / "hosts"
+    logins.write_text(f"1/{stub} one\n1/{stub} two\n")
+    codes = rows_by_hosts(decks, logins, many(decks))
+    assert codes == WANTED
+    assert set((decks / "met").read_text().split()) == {"one", "two"}
+
+
+@contextmanager
+def _server(folder: Path, port: int) -> Iterator[str]:
+    """Runs a server of ssh on this machine, for this user alone, and yields the login for it."""
+    host, user = folder / f"host{port}", folder / "user"
+    for key in (host, user):
+        if not key.exists():
+            subprocess.run(
+                ["ssh-keygen", "-q", "-t", "ed25519", "-N", "", "-f", str(key)], check=True
+            )
+    settings = folder / f"config{port}"
+    settings.write_text(
+        f"Port {port}\nListenAddress 127.0.0.1\nHostKey {host}\nPidFile none\nUsePAM no\n"
+        f"AuthorizedKeysFile {user}.pub\nStrictModes no\nPermitRootLogin yes\nLogLevel ERROR\n"
+    )
+    sshd = shutil.which("sshd", path="/usr/sbin:/usr/bin")
+    assert sshd is not None
+    with subprocess.Popen([sshd, "-D", "-e", "-f", str(settings)]) as running:
+        try:
+            _wait_for(port)
+            yield (
+                f"1/ssh -p {port} -i {user} -o StrictHostKeyChecking=no -o LogLevel=ERROR"
+                f" -o UserKnownHostsFile={folder}/known 127.0.0.1"
+            )
+        finally:
+            running.terminate()
+
+
+def _wait_for(port: int) -> None:
+    for _ in range(200):
+        with socket.socket() as probe:
+            if probe.connect_ex(("127.0.0.1", port)) == 0:
+                return
+        time.sleep(0.1)
+    raise TimeoutError(port)
+
+
+def _free_port() -> int:
+    with socket.socket() as probe:
+        probe.bind(("127.0.0.1", 0))
+        return int(probe.getsockname()[1])
+
+
+def test_two_hosts_by_ssh(decks: Path) -> None:
+    """Two servers of ssh on this machine make the rows."""
+    for name in ("parallel", "ssh", "ssh-keygen"):
+        if shutil.which(name) is None:
+            pytest.skip(f"no {name}")
+    if shutil.which("sshd", path="/usr/sbin:/usr/bin") is None:
+        pytest.skip("no sshd")
+    if os.getuid() == 0:
+        Path("/run/sshd").mkdir(mode=0o755, exist_ok=True)
+    folder = decks / "ssh"
+    folder.mkdir(mode=0o700)
+    with _server(folder, _free_port()) as one, _server(folder, _free_port()) as two:
+        logins = decks / "hosts"
+        logins.write_text(f"{one}\n{two}\n")
+        codes = rows_by_hosts(decks, logins, many(decks))
+    assert codes == WANTED
+
+
+def test_a_host_that_answers_nonsense_is_an_error(
+    decks: Path, capsys: pytest.CaptureFixture[str]
+) -> None:
+    """What is no row of a deck that was asked for makes no page, and so does a host that fails."""
+    if shutil.which("parallel") is None:
+        pytest.skip("no GNU parallel")
+    stub = decks / "stub-ssh"
+    (decks / "hosts").write_text(f"1/{stub} one\n")
+    words = (decks / "shed.csv", "--hosts", decks / "hosts", "-o", decks / "page.html")
+    for ending, said in (("echo 0 {}", "no row of a deck"), ("exit 3", "parallel ended with")):
+        stub.write_text(f"#!/bin/sh\ncat >/dev/null\n{ending}\n")
+        stub.chmod(0o755)
+        assert run(*words) == 1
+        assert said in capsys.readouterr().err
+        assert not (decks / "page.html").exists()
+
+
+def test_a_host_answers_a_row_for_each_line(
+    decks: Path, capsys: pytest.CaptureFixture[str]
+) -> None:
+    """Decks go over with their side files and the ones before, and rows are the same as here."""
+    jobs = [
+        Job(decks / "roof.csv", decks / "shed.csv", "roof.csv"),
+        Job(decks / "bad.csv", None, "bad.csv"),
+    ]
+    serve(PROGRAMS, [packed(number, job).encode() for number, job in enumerate(jobs)])
+    lines = sorted(capsys.readouterr().out.splitlines())
+    rows = [row_of(PROGRAMS, job.path, job.previous, job.name) for job in jobs]
+    assert lines == [f"{number} {row_text(row)}" for number, row in enumerate(rows)]
+    for text in (b"nonsense", b"[1]", b'{"number": "x", "name": "a", "files": {}}'):
+        with pytest.raises(UsageError):
+            serve(PROGRAMS, [text])
+
+
+def test_without_parallel_there_are_no_hosts(
+    decks: Path, monkeypatch: pytest.MonkeyPatch, capsys: pytest.CaptureFixture[str]
+) -> None:
+    """The line says how to get it."""
+    monkeypatch.setenv("PATH", str(decks))
+    words = (decks / "shed.csv", "--hosts", decks / "hosts", "-o", decks / "page.html")
+    assert run(*words, "--bin", BIN) == 2
+    assert "apt install parallel" in capsys.readouterr().err
+
+
+def test_an_interrupt_leaves_no_page(decks: Path) -> None:
+    """Ctrl-C ends it with one line, and nothing is written; a stand-in for pert takes long."""
+    (decks / "bin").mkdir()
+    for name in ("pert", "pert_check"):
+        program = decks / "bin" / name
+        program.write_text(f"#!/bin/sh\ntouch {decks}/begun\nexec sleep 5\n")
+        program.chmod(0o755)
+    words = [str(COMMAND), str(decks / "shed.csv"), "--no-cache", "--bin", str(decks / "bin")]
+    words += ["-o", str(decks / "page.html")]
+    with subprocess.Popen(words, stderr=subprocess.PIPE, start_new_session=True) as running:
+        while not (decks / "begun").exists():
+            time.sleep(0.1)
+        os.killpg(running.pid, 2)
+        _, said = running.communicate(timeout=120)
+    assert (running.returncode, said) == (1, b"pert-portfolio: interrupted\n")
+    assert not (decks / "page.html").exists()
+
+
+def test_a_worker_refuses_what_is_no_deck() -> None:
+    """Standard input of a host has lines of JSON."""
+    words = [sys.executable, "-m", "pert_companion", "portfolio", "--worker", "--bin", str(BIN)]
+    environment = {**os.environ, "PYTHONPATH": str(TOP / "companion" / "src")}
+    for text in ('{"number": "x", "name": "a", "files": {}}\n', "nonsense\n", "[1]\n"):
+        done = subprocess.run(
+            words, input=text, capture_output=True, text=True, check=False, env=environment
+        )
+        assert done.returncode == 2 and done.stderr.count("\n") == 1, done.stderr
+        assert "no deck" in done.stderr and done.stdout == ""

@@ -1,0 +1,138 @@
+"""`pert-report`: options, faults in one line, progress, and no half file."""
+
+import io
+import os
+import signal
+import subprocess
+import sys
+import time
+from pathlib import Path
+
+import pytest
+
+from page.certificates import HOUSE, PROGRAMS, bench
+from pert_companion.cli import report
+from pert_companion.cli.common import run_command
+from pert_companion.page.verify import build_verify_page
+
+SOURCE = Path(__file__).resolve().parents[1] / "src"
+
+
+def run(*words: object) -> int:
+    return run_command(report.NAME, report.parser(), report.run, [str(word) for word in words])
+
+
+def test_a_page_is_written(tmp_path: Path, capsys: pytest.CaptureFixture[str]) -> None:
+    page = tmp_path / "house.html"
+    assert run(HOUSE, "-o", page, "--currency", "EUR", "--brief", "--length", 20) == 0
+    text = page.read_text("utf-8")
+    assert '<body class="brief">' in text
+    assert "13,220" in text and "\u00a0EUR" in text
+    size = f"{page.stat().st_size:,}"
+    assert capsys.readouterr().err == f"pert-report: {page}: {size} bytes, certified 4\n"
+
+
+def test_the_page_that_checks_pages(tmp_path: Path, capsys: pytest.CaptureFixture[str]) -> None:
+    assert run("--verify-page", tmp_path / "verify.html") == 0
+    assert (tmp_path / "verify.html").read_text("utf-8") == build_verify_page()
+    assert capsys.readouterr().err.endswith("the page that checks a report or a certificate\n")
+
+
+@pytest.mark.parametrize(
+    ("words", "status", "line"),
+    [
+        ([], 2, "name a deck and a page: pert-report DECK -o PAGE"),
+        ([HOUSE], 2, "name a deck and a page: pert-report DECK -o PAGE"),
+        (["none.csv", "-o", "x.html"], 1, "none.csv: No such file or directory"),
+        ([HOUSE, "-o", "x.html", "--length", 26], 1, f"{HOUSE}: length 26 is outside 18 to 25"),
+        ([HOUSE, "-o", "no/x.html"], 1, "No such file or directory"),
+        ([HOUSE, "-o", "x.html", "--length", "x"], 2, "'x' is no length in whole units"),
+    ],
+)
+def test_faults_are_one_line(
+    words: list[object],
+    status: int,
+    line: str,
+    tmp_path: Path,
+    monkeypatch: pytest.MonkeyPatch,
+    capsys: pytest.CaptureFixture[str],
+) -> None:
+    monkeypatch.chdir(tmp_path)
+    assert run(*words) == status
+    error = capsys.readouterr().err
+    assert line in error
+    assert error.count("\n") == 1
+    assert os.listdir(tmp_path) == []
+
+
+def test_a_refused_deck_gives_no_page(tmp_path: Path, capsys: pytest.CaptureFixture[str]) -> None:
+    deck = tmp_path / "broken.csv"
+    deck.write_bytes(HOUSE.read_bytes().replace(b"ACT,WALLS,30", b"ACT,WALLS,31"))
+    assert run(deck, "-o", tmp_path / "page.html") == 1
+    assert capsys.readouterr().err == "pert-report: F13 record 26: unknown event 31\n"
+    assert not (tmp_path / "page.html").exists()
+
+
+def test_a_certificate_that_is_not_confirmed_gives_no_page(
+    tmp_path: Path, capsys: pytest.CaptureFixture[str]
+) -> None:
+    folder = tmp_path / "bin"
+    folder.mkdir()
+    (folder / "pert").symlink_to(PROGRAMS.find("pert"))
+    check = folder / "pert_check"
+    check.write_text("#!/bin/sh\necho not certified line 3 reason 9\nexit 6\n")
+    check.chmod(0o755)
+    assert run(HOUSE, "-o", tmp_path / "page.html", "--bin", folder) == 1
+    assert capsys.readouterr().err == (
+        f"pert-report: {HOUSE}: pert_check says not certified line 3 reason 9; there is no page\n"
+    )
+    assert not (tmp_path / "page.html").exists()
+
+
+def test_progress_is_shown_on_a_terminal_alone(monkeypatch: pytest.MonkeyPatch) -> None:
+    shown = io.StringIO()
+    monkeypatch.setattr(sys, "stderr", shown)
+    meter = report.Meter(True)
+    meter.begun -= 10
+    meter("certify: segment 3, length 30, 50 %")
+    meter("too soon after the one before, 51 %")
+    meter.clear()
+    assert shown.getvalue() == (
+        "\r\x1b[Kcertify: segment 3, length 30, 50 %, about 10 s left\r\x1b[K\r"
+    )
+    assert report.Meter(True).estimate("certify: segment 1, length 30, 4 %", 0) == ""
+    quiet = report.Meter(False)
+    quiet("certify: segment 3, length 30, 50 %")
+    quiet.clear()
+    assert shown.getvalue().count("certify") == 1
+
+
+def test_ctrl_c_leaves_no_half_file(tmp_path: Path) -> None:
+    (tmp_path / "plan.csv").write_bytes(bench(400))
+    (tmp_path / "plan.html").write_text("the page before")
+    folder = tmp_path / "bin"
+    folder.mkdir()
+    real = PROGRAMS.find("pert")
+    begun = tmp_path / "begun"
+    (folder / "pert").write_text(
+        f'#!/bin/sh\n[ $1 != certify ] || touch {begun}\nexec {real} "$@"\n'
+    )
+    (folder / "pert").chmod(0o755)
+    (folder / "pert_check").symlink_to(PROGRAMS.find("pert_check"))
+    command = [sys.executable, "-m", "pert_companion.cli.report", "plan.csv", "-o", "plan.html"]
+    running = subprocess.Popen(
+        [*command, "--bin", str(folder)],
+        cwd=tmp_path,
+        env={**os.environ, "PYTHONPATH": str(SOURCE)},
+        stderr=subprocess.PIPE,
+        start_new_session=True,
+    )
+    while not begun.exists():
+        assert running.poll() is None
+        time.sleep(0.01)
+    os.killpg(running.pid, signal.SIGINT)
+    _, errors = running.communicate(timeout=60)
+    assert running.returncode == 1
+    assert errors.decode() == "pert-report: interrupted\n"
+    assert (tmp_path / "plan.html").read_text() == "the page before"
+    assert sorted(os.listdir(tmp_path)) == ["begun", "bin", "plan.csv", "plan.html"]

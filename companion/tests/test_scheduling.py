@@ -1,0 +1,83 @@
+"""The dates of real tasks are those of a plain critical path method, in one piece."""
+
+from dataclasses import replace
+from datetime import date
+from decimal import Decimal
+from fractions import Fraction
+from pathlib import Path
+
+from hypothesis import assume, given
+from plans import Feature, plans
+from test_carry import DATES, PROGRAMS, early_dates, has_exact_links, property_settings
+
+from pert_companion.calendar import Calendar
+from pert_companion.carry import carry
+from pert_companion.earned_value import planned_tasks
+from pert_companion.money import money_over_time
+from pert_companion.opening import OpenPlan
+from pert_companion.plan import Lag, Link, LinkKind, Plan, Task
+from pert_companion.scheduling import in_one_piece, normal_tasks, span
+
+DAY = 480
+
+
+FINISHES = Plan(
+    "P",
+    date(2026, 3, 2),
+    Calendar(),
+    tuple(Task(name, name, name, days * DAY) for name, days in (("A", 5), ("B", 7), ("C", 2))),
+    (
+        Link("A", "B", LinkKind.FINISH_FINISH, Lag(10 * DAY)),
+        Link("B", "C", lag=Lag(-2 * DAY)),
+    ),
+)
+
+
+def test_a_task_in_parts_that_ends_after_another_is_in_one_piece() -> None:
+    """B ends 10 days after A, C begins 2 days before that: B's parts have no time between them."""
+    carried = carry(FINISHES)
+    tasks = {task.code: task for task in normal_tasks(PROGRAMS, carried.deck, carried.side)}
+    assert carried.side.tasks[1].parts == ("B", "B.2")
+    assert tasks["B"].start.date() == date(2026, 3, 12)
+    assert tasks["B"].finish.date() == date(2026, 3, 20)
+    assert tasks["C"].start.date() == date(2026, 3, 19)
+
+
+@given(plans(DATES | {Feature.LEADS, Feature.ELAPSED_LAGS, Feature.GROUP_LINKS}))
+@property_settings(4)
+def test_tasks_have_the_dates_of_the_calendar(plan: Plan) -> None:
+    """Each real task begins and ends on the days of a CPM over tasks in one piece."""
+    carried = carry(plan)
+    assume(has_exact_links(carried))
+    dates = early_dates(plan)
+    network = PROGRAMS.network(carried.deck)
+    point = PROGRAMS.normal(network)
+    held = in_one_piece(network, carried.side, point)
+    again = PROGRAMS.normal(held)
+    begins = {card.code: again.events[card.begins] for card in held.activities}
+    cards = {card.code: card for card in network.activities}
+    assert (again.length, again.cost) == (point.length, point.cost)
+    for entry in carried.side.tasks:
+        start, _ = span(entry, cards, point.events, point.durations)
+        assert begins[entry.parts[0]] == start, entry.code
+    for task in normal_tasks(PROGRAMS, carried.deck, carried.side):
+        if not task.is_milestone:
+            assert task.start.date() == dates[task.uid].first_day(plan.calendar), task.uid
+            assert task.finish.date() == dates[task.uid].last_day(plan.calendar), task.uid
+
+
+def test_money_and_earned_value_follow_the_dates_of_one_piece() -> None:
+    """Nothing of B is planned before day 9: A costs 500 by day 5, then comes 100 a day.
+
+    Money over time has B's cost on its first part, 5 days of 140, since `pert load` spreads cards.
+    """
+    cost = {"A": 500, "B": 700, "C": 20}
+    tasks = tuple(replace(task, cost=Decimal(cost[task.uid])) for task in FINISHES.tasks())
+    carried = carry(replace(FINISHES, outline=tasks))
+    plan = OpenPlan(Path("plan.csv"), b"", carried.deck, carried.side, True)
+    planned = planned_tasks(PROGRAMS, plan)
+    sums = [sum(task.value_at(Fraction(day)) for task in planned.values()) for day in (5, 10, 15)]
+    assert sums == [500, 700, 1220]
+    money = {point.day: point.amount for point in money_over_time(PROGRAMS, plan).planned}
+    days = (date(2026, 3, 6), date(2026, 3, 11), date(2026, 3, 13), date(2026, 3, 20))
+    assert [money[day] for day in days] == [500, 500, 780, 1220]

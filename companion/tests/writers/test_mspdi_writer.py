@@ -1,0 +1,272 @@
+"""MS Project's XML that is written shows the chosen schedule, by a CPM of the test's own."""
+
+from dataclasses import replace
+from pathlib import Path
+from xml.etree import ElementTree
+
+import pytest
+from hypothesis import HealthCheck, assume, given, settings
+
+from cpm import Dates, dates_of
+from pert_companion.carry import Carried, carry
+from pert_companion.errors import InputError
+from pert_companion.plan import LinkKind, Plan, Task
+from pert_companion.predecessors import first_day_waits, real_links
+from pert_companion.programs import Programs
+from pert_companion.readers import mspdi
+from pert_companion.readers.base import ReaderOptions, Source
+from pert_companion.schedule import Schedule
+from pert_companion.scheduling import normal_schedule, schedule_at
+from pert_companion.writers.mspdi import NAMESPACE, into_mspdi, to_mspdi
+from planner_files import mspdi_bytes
+from plans import FIRST_DAY, Feature, plans
+from sample_plan import sample_plan
+
+PROGRAMS = Programs()
+FEATURES = frozenset(
+    (
+        Feature.LINK_KINDS,
+        Feature.LAGS,
+        Feature.CRASH,
+        Feature.COSTS,
+        Feature.CONSTRAINTS,
+        Feature.HOLIDAYS,
+        Feature.WEEKS,
+        Feature.LISTED_DATES,
+        Feature.RESOURCES,
+    )
+)
+SLOW = settings(max_examples=12, deadline=None, suppress_health_check=list(HealthCheck))
+
+
+def read(data: bytes) -> Plan:
+    """Reads a file."""
+    return mspdi.read(Source(Path("plan.xml"), data), ReaderOptions()).plan
+
+
+def in_one_piece(plan: Plan) -> Plan:
+    """Returns a plan with links that tie starts alone, so that no task pauses when shortened."""
+    kinds = {
+        LinkKind.FINISH_FINISH: LinkKind.FINISH_START,
+        LinkKind.START_FINISH: LinkKind.START_START,
+    }
+    links = tuple(replace(link, kind=kinds.get(link.kind, link.kind)) for link in plan.links)
+    return replace(plan, links=links)
+
+
+def three_lengths(carried: Carried) -> list[Schedule]:
+    """Returns the schedules of the normal, the shortest, and a length between them."""
+    deck, side = carried.deck, carried.side
+    curve = PROGRAMS.curve(PROGRAMS.network(deck))
+    first, last = curve[0].length, curve[-1].length
+    lengths = dict.fromkeys((min(first, last), (first + last) // 2, max(first, last)))
+    return [schedule_at(PROGRAMS, deck, side, length) for length in lengths]
+
+
+def check_dates(data: bytes, schedule: Schedule) -> None:
+    """Compares the dates that a file lists with those that its links and durations give."""
+    plan = read(data)
+    calendar = plan.calendar
+    chosen = {task.uid: task for task in schedule.tasks}
+    found: dict[str, Dates] = dates_of(plan)
+    for task in plan.tasks():
+        assert task.minutes == chosen[task.uid].chosen_minutes
+        dates = found[task.uid]
+        listed = (task.listed_start, task.listed_finish)
+        if task.is_milestone:
+            moment = calendar.end_at(dates.start) if dates.start else calendar.at(dates.start)
+            days = {calendar.at(dates.start).date(), moment.date()}
+            assert listed[0] in days and listed[1] in days
+            continue
+        assert listed == (dates.first_day(calendar), dates.last_day(calendar)), task
+
+
+@SLOW
+@given(plans(features=FEATURES, least=2, most=9))
+def test_into_the_original(plan: Plan) -> None:
+    """At three lengths the original shows the dates of the CPM at the chosen durations."""
+    plan = in_one_piece(plan)
+    assume(any(isinstance(entry, Task) for entry in plan.outline))
+    data = mspdi_bytes(plan)
+    carried = carry(read(data))
+    for schedule in three_lengths(carried):
+        changed, missing = into_mspdi(data, "plan.xml", schedule, plan.calendar)
+        assert missing == []
+        check_dates(changed, schedule)
+        check_rest(data, changed)
+
+
+@SLOW
+@given(plans(features=FEATURES - {Feature.RESOURCES}, least=2, most=9))
+def test_new_file(plan: Plan) -> None:
+    """At three lengths a new file shows the dates of the CPM over its own links and calendar."""
+    plan = in_one_piece(plan)
+    assume(any(isinstance(entry, Task) for entry in plan.outline))
+    carried = carry(read(mspdi_bytes(plan)))
+    links = real_links(carried.deck, carried.side)
+    waits = first_day_waits(carried.deck, carried.side)
+    for schedule in three_lengths(carried):
+        data = to_mspdi(schedule, carried.side.calendar, links, waits)
+        check_dates(data, schedule)
+        names = [task.name for task in read(data).tasks()]
+        assert names == [task.name for task in plan.tasks()]
+
+
+CHANGED = frozenset(
+    "Duration Start Finish EarlyStart EarlyFinish ManualStart ManualFinish ManualDuration"
+    " RemainingDuration FinishDate".split()
+)
+
+
+def everything_else(data: bytes) -> list[tuple[str, str]]:
+    """Returns all elements of a file with their texts, but for durations and dates of tasks."""
+    root = ElementTree.fromstring(data)
+    found = []
+    for element in root.iter():
+        name = element.tag.removeprefix(f"{{{NAMESPACE}}}")
+        found.append((name, "" if name in CHANGED else element.text or ""))
+    return found
+
+
+def check_rest(before: bytes, after: bytes) -> None:
+    """Checks that ids, links, resources, assignments and calendars are what they were."""
+    assert everything_else(before) == everything_else(after)
+
+
+TASKS = """
+<Task><UID>1</UID><Name>Group</Name><OutlineLevel>1</OutlineLevel><Summary>1</Summary>
+<Start>2026-03-02T08:00:00</Start><Finish>2026-03-02T17:00:00</Finish>
+<Duration>PT1H0M0S</Duration></Task>
+<Task><UID>2</UID><Name>Done</Name><OutlineLevel>2</OutlineLevel><Duration>PT8H0M0S</Duration>
+<Start>2026-03-02T08:00:00</Start><Finish>2026-03-02T17:00:00</Finish>
+<PercentComplete>100</PercentComplete><ActualStart>2026-03-02T08:00:00</ActualStart>
+<ActualFinish>2026-03-02T17:00:00</ActualFinish></Task>
+<Task><UID>3</UID><Name>Begun</Name><OutlineLevel>2</OutlineLevel><Duration>PT32H0M0S</Duration>
+<Start>2026-03-03T08:00:00</Start><Finish>2026-03-06T17:00:00</Finish>
+<PercentComplete>25</PercentComplete><ActualStart>2026-03-03T08:00:00</ActualStart>
+<RemainingDuration>PT24H0M0S</RemainingDuration></Task>
+<Task><UID>4</UID><Name>Cure</Name><OutlineLevel>2</OutlineLevel><Duration>PT48H0M0S</Duration>
+<DurationFormat>8</DurationFormat><Start>2026-03-09T08:00:00</Start>
+<Finish>2026-03-11T08:00:00</Finish></Task>
+<Task><UID>5</UID><Name>Not done</Name><OutlineLevel>2</OutlineLevel><Active>0</Active>
+<Duration>PT8H0M0S</Duration><Start>2026-01-02T08:00:00</Start>
+<Finish>2030-01-02T17:00:00</Finish></Task>
+<Task><UID>6</UID><IsNull>1</IsNull></Task>
+"""
+
+
+def project(tasks: str) -> bytes:
+    """Returns a small file with tasks."""
+    return (
+        f'<Project xmlns="{NAMESPACE}"><StartDate>2026-03-02T08:00:00</StartDate>'
+        "<FinishDate>2026-03-02T08:00:00</FinishDate>"
+        f"<StatusDate>2026-03-03T17:00:00</StatusDate><Tasks>{tasks}</Tasks></Project>"
+    ).encode()
+
+
+def task_texts(data: bytes, uid: str) -> dict[str, str]:
+    """Returns the texts of one task of a file."""
+    root = ElementTree.fromstring(data)
+    for element in root.iter(f"{{{NAMESPACE}}}Task"):
+        texts = {child.tag.rpartition("}")[2]: child.text or "" for child in element}
+        if texts["UID"] == uid:
+            return texts
+    raise AssertionError(uid)
+
+
+def test_tasks_with_progress() -> None:
+    """Finished tasks stay, begun ones keep their start, elapsed ones their duration."""
+    data = project(TASKS)
+    carried = carry(read(data))
+    schedule = normal_schedule(PROGRAMS, carried.deck, carried.side)
+    changed, missing = into_mspdi(data, "plan.xml", schedule, carried.side.calendar)
+    assert missing == []
+    assert task_texts(changed, "2") == task_texts(data, "2")
+    assert task_texts(changed, "3") == task_texts(data, "3")
+    assert task_texts(changed, "4")["Duration"] == "PT48H0M0S"
+    assert task_texts(changed, "4")["Start"] == "2026-03-02T08:00:00"
+    assert task_texts(changed, "5") == task_texts(data, "5")
+    group = task_texts(changed, "1")
+    assert (group["Start"], group["Finish"]) == ("2026-03-02T08:00:00", "2026-03-06T17:00:00")
+    assert group["Duration"] == "PT40H0M0S"
+
+
+def test_a_shortened_elapsed_task() -> None:
+    """A task by the clock that is shortened counts working time from then on."""
+    data = project(TASKS)
+    carried = carry(read(data))
+    schedule = normal_schedule(PROGRAMS, carried.deck, carried.side)
+    shorter = [
+        replace(task, chosen_minutes=480) if task.uid == "4" else task for task in schedule.tasks
+    ]
+    schedule = replace(schedule, tasks=tuple(shorter))
+    changed, _ = into_mspdi(data, "plan.xml", schedule, carried.side.calendar)
+    texts = task_texts(changed, "4")
+    assert (texts["Duration"], texts["DurationFormat"]) == ("PT8H0M0S", "7")
+
+
+def test_a_task_that_the_original_lacks() -> None:
+    """It is named, and the others are changed."""
+    carried = carry(read(project(TASKS)))
+    schedule = normal_schedule(PROGRAMS, carried.deck, carried.side)
+    data = project(TASKS.replace("<UID>4</UID>", "<UID>44</UID>"))
+    _, missing = into_mspdi(data, "plan.xml", schedule, carried.side.calendar)
+    assert missing == ["plan.xml: no task with UID 4 (Cure)"]
+
+
+def test_levels_that_are_no_numbers() -> None:
+    """An outline level that is no number counts as 1, as in the reader."""
+    data = project(
+        TASKS.replace("<OutlineLevel>2</OutlineLevel>", "<OutlineLevel>x</OutlineLevel>")
+    )
+    carried = carry(read(data))
+    schedule = normal_schedule(PROGRAMS, carried.deck, carried.side)
+    changed, _ = into_mspdi(data, "plan.xml", schedule, carried.side.calendar)
+    assert task_texts(changed, "3")["Duration"] == "PT32H0M0S"
+
+
+@pytest.mark.parametrize(
+    "data",
+    (
+        b"",
+        b"<Project",
+        b"<other/>",
+        b'<!DOCTYPE x [<!ENTITY a "b">]><Project>&a;</Project>',
+        b"\xff\xfe\x00",
+        b"Name,Duration\nDig,4\n",
+    ),
+)
+def test_hostile_originals(data: bytes) -> None:
+    """An original that is no file of MS Project is refused in one line."""
+    carried = carry(read(project(TASKS)))
+    schedule = normal_schedule(PROGRAMS, carried.deck, carried.side)
+    with pytest.raises(InputError) as caught:
+        into_mspdi(data, "plan.xml", schedule, carried.side.calendar)
+    assert str(caught.value).startswith("plan.xml: ") and "\n" not in str(caught.value)
+
+
+def test_new_file_of_hostile_titles() -> None:
+    """Characters that XML cannot hold are replaced, all others stay."""
+    plan = sample_plan()
+    first = next(plan.tasks())
+    outline = tuple(
+        replace(entry, name="a\x00b <&> \ud800\u202e\ufffe") if entry is first else entry
+        for entry in plan.outline
+    )
+    carried = carry(replace(plan, outline=outline))
+    tasks = normal_schedule(PROGRAMS, carried.deck, carried.side)
+    names = [replace(task, name="a\x00b <&> \ud800\u202e\ufffe") for task in tasks.tasks]
+    data = to_mspdi(replace(tasks, tasks=tuple(names)), carried.side.calendar, {}, {})
+    assert next(read(data).tasks()).name == "a\ufffdb <&> \ufffd\u202e\ufffd"
+
+
+def test_ids_of_a_new_file() -> None:
+    """Ids of the source stay if all are numbers; else tasks are counted."""
+    carried = carry(read(mspdi_bytes(sample_plan())))
+    schedule = normal_schedule(PROGRAMS, carried.deck, carried.side)
+    data = to_mspdi(schedule, carried.side.calendar, {}, {})
+    assert [task.uid for task in read(data).tasks()] == [task.uid for task in schedule.tasks]
+    renamed = tuple(replace(task, uid=f"x{task.uid}") for task in schedule.tasks)
+    data = to_mspdi(replace(schedule, tasks=renamed), carried.side.calendar, {}, {})
+    assert [task.uid for task in read(data).tasks()] == [str(n) for n in range(1, 61)]
+    assert read(data).start == FIRST_DAY
