@@ -3,199 +3,365 @@
 
     python3 check.py DECK < CERTIFICATE
 
-Prints `certified N` and ends with 0, or prints `not certified line K reason R` and ends with 6: K is the first line at which
-something is wrong, R the condition that fails there (docs/certificate.md), or 0 if the line is malformed or missing. A deck that
-cannot be used ends it with one line on standard error: status 1 if a card is wrong, 4 if the file cannot be read.
+Prints `certified N` and ends with 0, or prints `not certified line K reason R` and ends with 6: K is
+the first line at which something is wrong, R the condition that fails there (docs/certificate.md),
+or 0 if the line is malformed or missing. A deck that cannot be used ends it with one line on
+standard error: status 1 if a card is wrong, 4 if the file cannot be read.
 
-Of the deck it tests what a certificate depends on: known kinds of cards, PROJECT first and END last, codes, numbers, no code
-twice, events and activities that are there, durations and pieces in order. Everything else is left to `pert check`.
+Of the deck it tests what a certificate depends on: known kinds of cards, PROJECT first and END
+last, codes, numbers, no code twice, events and activities that are there, durations and pieces in
+order. Everything else is left to `pert check`.
 """
-import csv, re, sys
 
-CODE, NUMBER = "([A-Za-z0-9._-]{1,16})", "(0|[1-9][0-9]{0,17})"
+from __future__ import annotations
+
+import csv
+import re
+import sys
+from collections.abc import Callable, Container
+from dataclasses import dataclass, field
+from typing import BinaryIO
+
+CODE = "([A-Za-z0-9._-]{1,16})"
+NUMBER = "(0|[1-9][0-9]{0,17})"
+FLOWS = "((?: (?:0|[1-9][0-9]{0,17})){2,6})"
 HEAD = f"CERT ([12]) {CODE} {NUMBER} {NUMBER}"
 STEP = f"STEP {CODE}"
 SEGMENT = f"SEGMENT {NUMBER} {NUMBER} {NUMBER} {NUMBER}"
 EVENT = f"EVENT {CODE} {NUMBER} ([01])"
-ACT = f"ACT {CODE} {NUMBER}((?: (?:0|[1-9][0-9]{{0,17}})){{2,6}})"
+ACT = f"ACT {CODE} {NUMBER}{FLOWS}"
+LONGEST = 192  # bytes of a line with its line feed
 
 KINDS = "PROJECT ASOF TERMS WBS EVENT ACT PIECE ACCT CHARGE TOGO STATUS RES LOAD END".split()
 
-class Refused(Exception):  # with what is wrong with the deck
-    pass
 
-def code(record, card, field):
-    if len(card) <= field or not re.fullmatch(CODE, card[field]):
-        raise Refused(f"record {record}: field {field + 1} is not a code")
-    return card[field]
+# ---- The deck
 
-def number(record, card, field):
-    if len(card) <= field or not re.fullmatch("0|[1-9][0-9]{0,12}", card[field]):
-        raise Refused(f"record {record}: field {field + 1} is not a number")
-    return int(card[field])
 
+class Refused(Exception):
+    """Something is wrong with the deck. The text says what."""
+
+
+@dataclass
+class Card:
+    """A record of the deck: its number, counted from 1, and its fields."""
+
+    number: int
+    fields: list[str]
+
+    @property
+    def kind(self) -> str:
+        return self.fields[0]
+
+    def code(self, at: int) -> str:
+        return self._field(at, "[A-Za-z0-9._-]{1,16}", "a code")
+
+    def amount(self, at: int) -> int:
+        return int(self._field(at, "0|[1-9][0-9]{0,12}", "a number"))
+
+    def _field(self, at: int, form: str, what: str) -> str:
+        if len(self.fields) <= at or not re.fullmatch(form, self.fields[at]):
+            raise Refused(f"record {self.number}: field {at + 1} is not {what}")
+        return self.fields[at]
+
+    def known(self, at: int, codes: Container[str]) -> str:
+        """Returns the code in a field, which an earlier or later card must have."""
+        code = self.code(at)
+        if code not in codes:
+            raise Refused(f"record {self.number}: {code} is on no card")
+        return code
+
+
+@dataclass
 class Activity:
-    def __init__(self, record, card):
-        self.code, self.start, self.end = (code(record, card, field) for field in (1, 2, 3))
-        self.normal, self.crash, self.cost, self.slope = (number(record, card, field) for field in (8, 9, 10, 11))
-        if self.crash > self.normal:
-            raise Refused(f"record {record}: the crash duration is above the normal one")
-        self.pieces = []
+    """An ACT card, with the units and slopes of its PIECE cards in card order."""
 
-    def knees(self):
-        """The durations at which one unit less begins to cost more, each with by how much more."""
-        knees, slope = [(self.normal, self.slope)], self.slope
-        for k, (_, dearer) in enumerate(self.pieces):
-            knees.append((self.crash + sum(units for units, _ in self.pieces[k:]), dearer - slope))
-            slope = dearer
-        return knees
+    code: str
+    start: str
+    end: str
+    normal: int
+    crash: int
+    cost: int
+    slope: int
+    pieces: list[tuple[int, int]] = field(default_factory=list)
+    knees: list[tuple[int, int]] = field(default_factory=list)
+
+    def find_knees(self) -> None:
+        """Lists the durations at which one unit less begins to cost more, each with its rise."""
+        self.knees = [(self.normal, self.slope)]
+        slope_before = self.slope
+        for k, (_, slope) in enumerate(self.pieces):
+            below = sum(units for units, _ in self.pieces[k:])
+            if slope <= slope_before:
+                raise Refused(f"the pieces of {self.code} do not rise")
+            if self.crash + below >= self.normal:
+                raise Refused(f"the pieces of {self.code} leave nothing to its first slope")
+            self.knees.append((self.crash + below, slope - slope_before))
+            slope_before = slope
+
 
 class Deck:
-    def __init__(self, name):
-        with open(name, encoding="utf-8-sig", newline="") as file:
-            cards = [(at, card) for at, card in enumerate((record for record in csv.reader(file) if record), 1) if any(card)]
-        if not cards or cards[0][1][0] != "PROJECT" or cards[-1][1][0] != "END":
-            raise Refused("the first card is not PROJECT, or the last one not END")
-        self.events, self.named, self.items = {}, {}, set()
-        for at, card in cards:
-            if card[0] not in KINDS:
-                raise Refused(f"record {at}: unknown kind of card")
-            if card[0] == "EVENT":
-                self.once(at, self.events, code(at, card, 1), None)
-            elif card[0] == "ACT":
-                self.once(at, self.named, code(at, card, 1), Activity(at, card))
-            elif card[0] == "WBS":
-                self.items.add(code(at, card, 1))
-        first = cards[0]
-        self.code, self.start, self.end = (code(*first, field) for field in (1, 2, 3))
+    """What a certificate depends on: version, code, events, and activities in card order."""
+
+    def __init__(self, name: str) -> None:
+        self.events: list[str] = []
+        self.named: dict[str, Activity] = {}
+        cards = read_cards(name)
+        project = cards[0]
+        self.code = project.code(1)
+        self.events = codes_of(cards, "EVENT")
+        self.start = project.known(2, self.events)
+        self.end = project.known(3, self.events)
+        self.read_activities(cards)
         self.activities = list(self.named.values())
-        self.known(1, self.events, self.start), self.known(1, self.events, self.end)
-        for at, card in cards:
-            if card[0] == "ACT":
-                for event in card[2:4]:
-                    self.known(at, self.events, event)
-                self.known(at, self.items, code(at, card, 4))
-            elif card[0] == "PIECE":
-                self.known(at, self.named, code(at, card, 1))
-                self.named[card[1]].pieces.append((number(at, card, 2), number(at, card, 3)))
-        for a in self.activities:
-            slopes = [a.slope] + [slope for _, slope in a.pieces]
-            if sorted(set(slopes)) != slopes and a.pieces or a.pieces and sum(units for units, _ in a.pieces) >= a.normal - a.crash:
-                raise Refused(f"the pieces of {a.code} do not rise, or leave nothing to its first slope")
-        self.version = 2 if any(a.pieces for a in self.activities) else 1
+        for activity in self.activities:
+            activity.find_knees()
+        self.version = 2 if any(activity.pieces for activity in self.activities) else 1
 
-    def once(self, at, table, key, value):
-        if key in table:
-            raise Refused(f"record {at}: {key} stands twice")
-        table[key] = value
+    def read_activities(self, cards: list[Card]) -> None:
+        events = set(self.events)
+        items = set(codes_of(cards, "WBS"))
+        codes = set(codes_of(cards, "ACT"))
+        for card in cards:
+            if card.kind == "ACT":
+                card.known(4, items)
+                ends = card.known(2, events), card.known(3, events)
+                normal, crash, cost, slope = (card.amount(at) for at in range(8, 12))
+                if crash > normal:
+                    raise Refused(
+                        f"record {card.number}: the crash duration is above the normal one"
+                    )
+                self.named[card.code(1)] = Activity(card.code(1), *ends, normal, crash, cost, slope)
+        for card in cards:
+            if card.kind == "PIECE":
+                activity = self.named[card.known(1, codes)]
+                activity.pieces.append((card.amount(2), card.amount(3)))
 
-    def known(self, at, table, key):
-        if key not in table:
-            raise Refused(f"record {at}: {key} is on no card")
 
-class Wrong(Exception):  # with the number of the condition, or 0
-    pass
+def read_cards(name: str) -> list[Card]:
+    """Returns the cards of a file. An empty line is no record, one of commas is no card."""
+    with open(name, encoding="utf-8-sig", newline="") as file:
+        records = [record for record in csv.reader(file) if record]
+    cards = [Card(number, fields) for number, fields in enumerate(records, 1) if any(fields)]
+    if not cards or cards[0].kind != "PROJECT" or cards[-1].kind != "END":
+        raise Refused("the first card is not PROJECT, or the last one not END")
+    for card in cards:
+        if card.kind not in KINDS:
+            raise Refused(f"record {card.number}: unknown kind of card")
+    return cards
 
-def ask(condition, holds):
+
+def codes_of(cards: list[Card], kind: str) -> list[str]:
+    """Returns the codes of the cards of a kind, none of which may occur twice."""
+    codes: dict[str, None] = {}
+    for card in cards:
+        if card.kind == kind:
+            if card.code(1) in codes:
+                raise Refused(f"record {card.number}: {card.code(1)} occurs twice")
+            codes[card.code(1)] = None
+    return list(codes)
+
+
+# ---- The lines of a certificate
+
+
+class Wrong(Exception):
+    """A condition fails, or a line is malformed. The argument is the condition, or 0."""
+
+
+def ask(condition: int, holds: bool) -> None:
     if not holds:
         raise Wrong(condition)
 
-class Lines:
-    def __init__(self, stream):
-        self.stream, self.count = stream, 0
 
-    def next(self):
+class Lines:
+    """The lines of a certificate, one by one. `count` is the number of the line read last."""
+
+    def __init__(self, stream: BinaryIO) -> None:
+        self.stream = stream
+        self.count = 0
+
+    def next(self) -> str:
         self.count += 1
-        line = self.stream.readline(192)  # the longest line with its line feed
+        line = self.stream.readline(LONGEST)
         ask(0, line.endswith(b"\n"))
         return line[:-1].decode("ascii", "replace")
 
-def read(form, line):
-    ask(0, re.fullmatch(form, line))
-    return re.fullmatch(form, line).groups()
+    def end(self) -> None:
+        self.count += 1
+        ask(0, self.stream.read(1) == b"")
 
-def read_walk(lines, most):
-    codes, line = [], lines.next()
+
+def read(form: str, line: str) -> tuple[str, ...]:
+    """Returns the words of a line, which must have this form."""
+    found = re.fullmatch(form, line)
+    if found is None:
+        raise Wrong(0)
+    return found.groups()
+
+
+def read_walk(lines: Lines, most: int) -> tuple[list[str], str]:
+    """Returns the activities of a walk, and the line after it."""
+    codes: list[str] = []
+    line = lines.next()
     while line.startswith("STEP ") and len(codes) < most:
         codes.append(read(STEP, line)[0])
         line = lines.next()
     return codes, line
 
-def is_through_walk(deck, codes, lengths, length):
-    """The activities lead from the start to the end, each from where the one before ends, and their lengths add up."""
+
+# ---- The fifteen conditions
+
+
+@dataclass
+class Segment:
+    """A SEGMENT line, and what the lines after it have added up to so far."""
+
+    upper: int
+    lower: int
+    cost: int
+    slope: int
+    time: dict[str, int] = field(default_factory=dict)
+    moves: dict[str, int] = field(default_factory=dict)
+    inflow: dict[str, int] = field(default_factory=dict)
+    outflow: dict[str, int] = field(default_factory=dict)
+    paid: int = 0
+    gain: int = 0
+    stops: bool = False
+
+    @property
+    def fall(self) -> int:
+        """By how much the length falls from the upper end to the lower one."""
+        return self.upper - self.lower
+
+
+def check(deck: Deck, lines: Lines) -> int:
+    """Returns how many segments the certificate has, or raises `Wrong`."""
+    version, code, events, activities = read(HEAD, lines.next())
+    ask(1, int(version) == deck.version and code == deck.code)
+    ask(1, (int(events), int(activities)) == (len(deck.events), len(deck.activities)))
+    ask(0, lines.next() == "NORMAL")
+    normal_walk, line = read_walk(lines, len(deck.events))
+    ask(0, line == "CRASH")
+    crash_walk, line = read_walk(lines, len(deck.events))
+    segments = 0
+    before: Segment | None = None
+    while before is None or line != "END":
+        upper, lower, cost, slope = map(int, read(SEGMENT, line))
+        segment = Segment(upper, lower, cost, slope)
+        if before is None:
+            ask(2, is_through_walk(deck, normal_walk, lambda a: a.normal, upper))
+        ask(15, begins_right(before, segment))
+        check_segment(deck, lines, segment, before is None)
+        segments += 1
+        before = segment
+        line = lines.next()
+    ask(3, is_through_walk(deck, crash_walk, lambda a: a.crash, before.lower))
+    lines.end()
+    return segments
+
+
+def is_through_walk(
+    deck: Deck, codes: list[str], duration: Callable[[Activity], int], length: int
+) -> bool:
+    """The activities lead from the start to the end, each from where the one before ends, and
+    their durations add up to the length."""
     at, total = deck.start, 0
     for code in codes:
         activity = deck.named.get(code)
         if activity is None or activity.start != at:
             return False
-        at, total = activity.end, total + lengths(activity)
+        at = activity.end
+        total += duration(activity)
     return at == deck.end and total == length
 
-def check_segment(deck, lines, version, is_first, upper, lower, cost, slope):
-    fall, time, moves = upper - lower, {}, {}
+
+def begins_right(before: Segment | None, segment: Segment) -> bool:
+    """Condition 15 at a SEGMENT line. No segment follows one with equal ends."""
+    if before is None:
+        return segment.fall > 0 or (segment.fall == 0 and segment.slope == 0)
+    return before.fall > 0 and segment.upper == before.lower and segment.fall > 0
+
+
+def check_segment(deck: Deck, lines: Lines, segment: Segment, is_first: bool) -> None:
     for code in deck.events:
-        said, at, bit = read(EVENT, lines.next())
-        time[code], moves[code] = int(at), int(bit)
-        ask(4, said == code)
-        ask(5, code != deck.start or (time[code], moves[code]) == (0, 0))
-        ask(5, code != deck.end or (time[code] == upper and (moves[code] or fall == 0)))
-        ask(15, fall > 0 or not moves[code])
-    enters, leaves = dict.fromkeys(deck.events, 0), dict.fromkeys(deck.events, 0)
-    paid, gain, stops = 0, 0, False
-    for a in deck.activities:
-        said, duration, flows = read(ACT, lines.next())
-        duration, flows, knees = int(duration), [int(flow) for flow in flows.split()], a.knees()
-        ask(0, version == "2" or len(flows) == 2)
-        ask(4, said == a.code and len(flows) == len(knees) + 1)
-        at_upper = time[a.end] - time[a.start]
-        at_lower = at_upper - fall * (moves[a.end] - moves[a.start])
-        ask(6, at_upper >= a.crash and at_lower >= a.crash)
-        ask(7, duration == min(a.normal, at_upper) and (not is_first or duration == a.normal))
-        ask(8, all(flow <= rise for flow, (_, rise) in zip(flows, knees)))
-        for gap in (at_upper, at_lower):
-            ask(11, all(flow == 0 for flow, (knee, _) in zip(flows, knees) if gap > knee))
-            ask(11, all(flow == rise for flow, (knee, rise) in zip(flows, knees) if gap < knee))
-            ask(11, flows[-1] == 0 or gap <= a.crash)
-        ask(15, fall > 0 or sum(flows) == 0)
-        leaves[a.start] += sum(flows)
-        enters[a.end] += sum(flows)
-        paid += a.cost + sum(rise * max(0, knee - duration) for knee, rise in knees)
-        if moves[a.end] > moves[a.start]:  # forward: the gap shrinks
-            gain += sum(rise for knee, rise in knees if knee > at_lower)
-            stops |= at_lower == a.crash or any(at_upper > knee == at_lower for knee, _ in knees)
-        elif moves[a.end] < moves[a.start]:  # backward: the gap grows
-            gain -= sum(rise for knee, rise in knees if knee > at_upper)
-            stops |= any(at_upper < knee == at_lower for knee, _ in knees)
+        check_event(deck, segment, code, lines.next())
+    for activity in deck.activities:
+        line = lines.next()
+        said, duration, flows = read(ACT, line)
+        numbers = [int(flow) for flow in flows.split()]
+        ask(0, deck.version == 2 or len(numbers) == 2)
+        ask(4, said == activity.code and len(numbers) == len(activity.knees) + 1)
+        check_activity(segment, activity, int(duration), numbers, is_first)
     ask(0, lines.next() == "CLOSE")
-    ask(9, all(enters[e] == leaves[e] for e in deck.events if e not in (deck.start, deck.end)))
-    ask(10, leaves[deck.start] == slope)
-    ask(12, paid == cost)
-    ask(13, fall == 0 or gain == slope)
-    ask(14, fall == 0 or stops)
+    check_close(deck, segment)
 
-def check(deck, lines):
-    version, code, events, activities = read(HEAD, lines.next())
-    ask(1, [int(version), code, int(events), int(activities)] == [deck.version, deck.code, len(deck.events), len(deck.activities)])
-    ask(0, lines.next() == "NORMAL")
-    normal_walk, line = read_walk(lines, int(events))
-    ask(0, line == "CRASH")
-    crash_walk, line = read_walk(lines, int(events))
-    segments, before = 0, None
-    while segments == 0 or line != "END":
-        upper, lower, cost, slope = map(int, read(SEGMENT, line))
-        ask(2, segments > 0 or is_through_walk(deck, normal_walk, lambda a: a.normal, upper))
-        ask(15, lower < upper == before if segments > 0 else lower < upper or (lower == upper and slope == 0))
-        check_segment(deck, lines, version, segments == 0, upper, lower, cost, slope)
-        segments, before, line = segments + 1, lower, lines.next()
-    ask(3, is_through_walk(deck, crash_walk, lambda a: a.crash, before))
-    lines.count += 1
-    ask(0, lines.stream.read(1) == b"")
-    return segments
 
-def main(words):
-    if len(words) != 1 or words == ["--help"]:
-        print(__doc__.strip(), file=sys.stdout if words == ["--help"] else sys.stderr)
-        return 0 if words == ["--help"] else 2
+def check_event(deck: Deck, segment: Segment, code: str, line: str) -> None:
+    said, time, bit = read(EVENT, line)
+    ask(4, said == code)
+    if code == deck.start:
+        ask(5, int(time) == 0 and bit == "0")
+    if code == deck.end:
+        ask(5, int(time) == segment.upper and (bit == "1" or segment.fall == 0))
+    ask(15, segment.fall > 0 or bit == "0")
+    segment.time[code] = int(time)
+    segment.moves[code] = int(bit)
+
+
+def check_activity(
+    segment: Segment, activity: Activity, duration: int, flows: list[int], is_first: bool
+) -> None:
+    turn = segment.moves[activity.end] - segment.moves[activity.start]
+    at_upper = segment.time[activity.end] - segment.time[activity.start]
+    at_lower = at_upper - segment.fall * turn
+    ask(6, at_upper >= activity.crash and at_lower >= activity.crash)
+    ask(7, duration == min(activity.normal, at_upper))
+    ask(7, not is_first or duration == activity.normal)
+    for flow, (_, rise) in zip(flows, activity.knees):
+        ask(8, flow <= rise)
+    for gap in (at_upper, at_lower):
+        for flow, (knee, rise) in zip(flows, activity.knees):
+            ask(11, flow == 0 or gap <= knee)
+            ask(11, flow == rise or gap >= knee)
+        ask(11, flows[-1] == 0 or gap <= activity.crash)
+    ask(15, segment.fall > 0 or sum(flows) == 0)
+    add(segment.outflow, activity.start, sum(flows))
+    add(segment.inflow, activity.end, sum(flows))
+    segment.paid += activity.cost
+    for knee, rise in activity.knees:
+        segment.paid += rise * max(0, knee - duration)
+    if turn > 0:  # forward: the gap shrinks
+        segment.gain += sum(rise for knee, rise in activity.knees if knee > at_lower)
+        segment.stops |= at_lower == activity.crash
+        segment.stops |= any(at_upper > knee == at_lower for knee, _ in activity.knees)
+    if turn < 0:  # backward: the gap grows
+        segment.gain -= sum(rise for knee, rise in activity.knees if knee > at_upper)
+        segment.stops |= any(at_upper < knee == at_lower for knee, _ in activity.knees)
+
+
+def add(sums: dict[str, int], event: str, flow: int) -> None:
+    sums[event] = sums.get(event, 0) + flow
+
+
+def check_close(deck: Deck, segment: Segment) -> None:
+    for event in deck.events:
+        if event not in (deck.start, deck.end):
+            ask(9, segment.inflow.get(event, 0) == segment.outflow.get(event, 0))
+    ask(10, segment.outflow.get(deck.start, 0) == segment.slope)
+    ask(12, segment.paid == segment.cost)
+    if segment.fall > 0:
+        ask(13, segment.gain == segment.slope)
+        ask(14, segment.stops)
+
+
+def main(words: list[str]) -> int:
+    if words == ["--help"]:
+        print(__doc__.strip())
+        return 0
+    if len(words) != 1:
+        print(__doc__.strip(), file=sys.stderr)
+        return 2
     try:
         deck = Deck(words[0])
     except Refused as refused:
@@ -211,6 +377,7 @@ def main(words):
         print("not certified line", lines.count, "reason", wrong.args[0])
         return 6
     return 0
+
 
 if __name__ == "__main__":
     sys.exit(main(sys.argv[1:]))

@@ -15,9 +15,10 @@ class Refused(Exception):
 
 
 def find(name, folder=None):
-    """Returns the path of a program: in `folder` if one is given, else in bin/ next to the folder of this script, else on the PATH."""
-    here = Path(__file__).resolve().parent.parent / "bin"
-    found = shutil.which(name, path=os.fspath(folder or here)) or (None if folder else shutil.which(name))
+    """Returns the path of a program: in `folder` if one is given, else in bin/ or companion/bin/ next to the folder of this script, else on the PATH."""
+    top = Path(__file__).resolve().parent.parent
+    here = top / "bin"
+    found = shutil.which(name, path=os.fspath(folder or f"{here}:{top / 'companion' / 'bin'}")) or (None if folder else shutil.which(name))
     if not found:
         places = folder or f"{here} or on the PATH"
         raise Refused(f"no program {name} in {places}; build it with `make`, or name its folder with --bin")
