@@ -1,0 +1,88 @@
+"""What manual pages say beyond help texts; pages of other commands are written by hand."""
+
+from dataclasses import dataclass
+
+
+@dataclass(frozen=True)
+class Text:
+    """The purpose for the head of a page, paragraphs, what status 1 means, and other pages."""
+
+    purpose: str
+    paragraphs: tuple[str, ...]
+    refused: str
+    see: tuple[str, ...]
+
+
+SIDE_FILE = (
+    "The side file has the name of the deck with .json at its end. It has the calendar, the unit of"
+    " durations, currency, and for each code of the deck the task that it stands for. A deck"
+    " written by hand needs none."
+)
+WHOLE = (
+    "A file is written completely or not at all: if the command is interrupted, an older one"
+    " stays."
+)
+
+TEXTS = {
+    "pert-import": Text(
+        "makes a deck from a list or a planner's file",
+        (
+            "A deck has no place for some of what planners know, such as calendars of single tasks."
+            " Each thing that is not carried over is named with its task, its kind, and where it is"
+            " in the file. The deck is written only if all of these kinds are accepted.",
+            "After that, the dates that pert(1) computes are compared with those of the file, and"
+            " the number of tasks that differ is reported.",
+            SIDE_FILE,
+            WHOLE,
+        ),
+        "The file cannot be used; or something is not carried over and not accepted; or dates"
+        " differ and --strict is given.",
+        ("pert-days(1)", "pert-schedule(1)", "pert-export(1)"),
+    ),
+    "pert-days": Text(
+        "turns the dates of a deck into counts of working time, and back",
+        (
+            "pert(1) counts one day for each unit of a duration. If durations are working days or"
+            " hours, its dates are right only for a deck whose own dates are counts too: the first"
+            " day, and one day more for each unit of working time since then. This command writes"
+            " that deck, and turns the dates of a report back into days of the calendar.",
+            SIDE_FILE,
+            "The other commands of the companion count by themselves: they take the deck as it is.",
+        ),
+        "The deck, its side file or the report cannot be used.",
+        ("pert-import(1)", "pert-schedule(1)"),
+    ),
+    "pert-portfolio": Text(
+        "makes one page of several projects",
+        (
+            "The page has one row for each deck. Each project has a unit and a calendar of its own:"
+            " no figure adds or averages the performance of several projects, and there is no curve"
+            " of all of them.",
+            "Decks are read side by side. What was computed for a deck is kept by the checksum of"
+            " the deck, its side file and the programs: a second run computes only what changed.",
+            SIDE_FILE,
+            WHOLE,
+        ),
+        "A deck was refused, or a file cannot be read or written. The page is written all the"
+        " same if only decks were refused, with their faults.",
+        ("pert-report(1)", "pert-schedule(1)"),
+    ),
+    "pert-schedule": Text(
+        "makes a dated schedule of a deck",
+        (SIDE_FILE, WHOLE),
+        "The deck or its side file cannot be used.",
+        ("pert-export(1)", "pert-report(1)"),
+    ),
+    "pert-export": Text(
+        "writes a schedule for planners, spreadsheets and calendars",
+        (SIDE_FILE, WHOLE),
+        "The deck or its side file cannot be used, or something cannot be written in this format.",
+        ("pert-import(1)", "pert-schedule(1)"),
+    ),
+    "pert-report": Text(
+        "makes the report page of a deck",
+        (SIDE_FILE, WHOLE),
+        "The deck or its side file cannot be used, or its figures do not agree.",
+        ("pert-schedule(1)", "pert-compare(1)"),
+    ),
+}

@@ -1,0 +1,95 @@
+# Completion of the companion's commands; tools/command-files writes this file.
+_pert_companion() {
+    local options='' choices='' value=''
+    case ${1##*/} in
+    pert-compare)
+        options='-h --help --version --baseline --left --by --earned --money --csv --bin'
+        case $3 in
+        --baseline) value='file' ;;
+        --left) value='file' ;;
+        --bin) value='file' ;;
+        --by) value='none' ;;
+        esac
+        ;;
+    pert-days)
+        options='-h --help --version --back --count --as-of --calendar --weekdays --holidays --unit -o --output'
+        case $3 in
+        --holidays) value='file' ;;
+        --unit) choices='days hours' ;;
+        -o | --output) value='file' ;;
+        --count | --as-of | --weekdays) value='none' ;;
+        esac
+        ;;
+    pert-export)
+        options='-h --help --version --length --optimum --normal --bin -o --output --into'
+        case $3 in
+        --bin) value='file' ;;
+        -o | --output) value='file' ;;
+        --into) value='file' ;;
+        --length) value='none' ;;
+        esac
+        ;;
+    pert-import)
+        options='-h --help --version -o --output --accept --strict --differences --unit --cents --no-progress --crash-sheet --with-crash --overtime --name --start --as-of --calendar --holidays --crash-field --crash-cost-field --column --sheet --decimal --encoding --day-first --month-first --day-hours --week-hours --month-days --bin'
+        case $3 in
+        -o | --output) value='file' ;;
+        --crash-sheet) value='file' ;;
+        --with-crash) value='file' ;;
+        --holidays) value='file' ;;
+        --decimal) choices='. ,' ;;
+        --month-days) choices='1 2 3 4 5 6 7 8 9 10 11 12 13 14 15 16 17 18 19 20 21 22 23 24 25 26 27 28 29 30 31' ;;
+        --bin) value='file' ;;
+        --accept | --unit | --overtime | --name | --start | --as-of | --calendar | --crash-field | --crash-cost-field | --column | --sheet | --encoding | --day-hours | --week-hours) value='none' ;;
+        esac
+        ;;
+    pert-portfolio)
+        options='-h --help --version -o --output --csv --previous --stale --cache --no-cache --hosts --remote --worker --bin'
+        case $3 in
+        -o | --output) value='file' ;;
+        --previous) value='file' ;;
+        --cache) value='file' ;;
+        --hosts) value='file' ;;
+        --bin) value='file' ;;
+        --stale | --remote) value='none' ;;
+        esac
+        ;;
+    pert-remaining)
+        options='-h --help --version -o --output --left --bin'
+        case $3 in
+        -o | --output) value='file' ;;
+        --left) value='file' ;;
+        --bin) value='file' ;;
+        esac
+        ;;
+    pert-report)
+        options='-h --help --version --length --optimum --normal --bin -o --output --baseline --previous --currency --brief --verify-page'
+        case $3 in
+        --bin) value='file' ;;
+        -o | --output) value='file' ;;
+        --baseline) value='file' ;;
+        --previous) value='file' ;;
+        --verify-page) value='file' ;;
+        --length | --currency) value='none' ;;
+        esac
+        ;;
+    pert-schedule)
+        options='-h --help --version --length --optimum --normal --bin --gantt --critical --next --resource --order --csv --forecast --baseline --left'
+        case $3 in
+        --bin) value='file' ;;
+        --order) choices='start plan' ;;
+        --baseline) value='file' ;;
+        --left) value='file' ;;
+        --length | --next | --resource) value='none' ;;
+        esac
+        ;;
+    esac
+    COMPREPLY=()
+    if [ -n "$choices" ]; then
+        mapfile -t COMPREPLY < <(compgen -W "$choices" -- "$2")
+    elif [ "$value" = none ]; then
+        compopt +o default +o bashdefault
+    elif [ "$value" != file ] && [[ $2 == -* ]]; then
+        mapfile -t COMPREPLY < <(compgen -W "$options" -- "$2")
+    fi
+}
+complete -o bashdefault -o default -F _pert_companion pert-compare pert-days pert-export pert-import pert-portfolio pert-remaining pert-report pert-schedule

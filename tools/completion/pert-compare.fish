@@ -1,0 +1,10 @@
+# Completion of the companion's commands; tools/command-files writes this file.
+complete -c pert-compare -s h -l help -d 'show this help message and exit'
+complete -c pert-compare -l version -d 'show program\'s version number and exit'
+complete -c pert-compare -l baseline -r -F -d 'the plan to measure by (default: the first)'
+complete -c pert-compare -l left -r -F -d 'rows activity,left[,crash] for the last state'
+complete -c pert-compare -l by -x -d 'the last day to end on, and what that costs (default: the directed end of the deck)'
+complete -c pert-compare -l earned -d 'earned value of the last state'
+complete -c pert-compare -l money -d 'money over time of the last state'
+complete -c pert-compare -l csv -d 'print CSV instead of text'
+complete -c pert-compare -l bin -r -F -d 'folder of pert, pert_check and pert_whatif'

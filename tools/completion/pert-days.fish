@@ -1,0 +1,11 @@
+# Completion of the companion's commands; tools/command-files writes this file.
+complete -c pert-days -s h -l help -d 'show this help message and exit'
+complete -c pert-days -l version -d 'show program\'s version number and exit'
+complete -c pert-days -l back -d 'write the report on standard input with real days'
+complete -c pert-days -l count -x -d 'write the units before that morning'
+complete -c pert-days -l as-of -x -d 'write the deck, with real dates, as of that morning: without later statuses'
+complete -c pert-days -l calendar -d 'write the side file of a deck written by hand'
+complete -c pert-days -l weekdays -x -d 'the days of work, as mon-fri or sun-thu,sat'
+complete -c pert-days -l holidays -r -F -d 'a file of days that are not worked'
+complete -c pert-days -l unit -x -a 'days hours' -d 'what the durations of the deck are counted in'
+complete -c pert-days -s o -l output -r -F -d 'where a deck goes (standard output)'

@@ -1,0 +1,13 @@
+# Completion of the companion's commands; tools/command-files writes this file.
+complete -c pert-portfolio -s h -l help -d 'show this help message and exit'
+complete -c pert-portfolio -l version -d 'show program\'s version number and exit'
+complete -c pert-portfolio -s o -l output -r -F -d 'the page to write'
+complete -c pert-portfolio -l csv -d 'write the rows as CSV too, next to the page'
+complete -c pert-portfolio -l previous -r -F -d 'a folder with the decks of the report before, under the same names'
+complete -c pert-portfolio -l stale -x -d 'flag figures that are so many days older than the newest (31)'
+complete -c pert-portfolio -l cache -r -F -d 'where rows are kept (the user\'s cache)'
+complete -c pert-portfolio -l no-cache -d 'keep no rows, and use none'
+complete -c pert-portfolio -l hosts -r -F -d 'read decks on these hosts, by GNU parallel'
+complete -c pert-portfolio -l remote -x -d 'what runs on a host (pert-portfolio, from the path there)'
+complete -c pert-portfolio -l worker -d 'what runs on a host: decks in, rows out'
+complete -c pert-portfolio -l bin -r -F -d 'folder of pert, pert_check and pert_whatif'

@@ -1,0 +1,13 @@
+# Completion of the companion's commands; tools/command-files writes this file.
+complete -c pert-report -s h -l help -d 'show this help message and exit'
+complete -c pert-report -l version -d 'show program\'s version number and exit'
+complete -c pert-report -l length -x -d 'cheapest for N units'
+complete -c pert-report -l optimum -d 'cheapest with the price of time (TERMS)'
+complete -c pert-report -l normal -d 'normal durations (the default)'
+complete -c pert-report -l bin -r -F -d 'folder of pert, pert_check and pert_whatif'
+complete -c pert-report -s o -l output -r -F -d 'the page to write'
+complete -c pert-report -l baseline -r -F -d 'the plan that progress is compared with'
+complete -c pert-report -l previous -r -F -d 'the deck of the report before this one'
+complete -c pert-report -l currency -x -d 'what stands after amounts, as EUR'
+complete -c pert-report -l brief -d 'only what fits on one sheet'
+complete -c pert-report -l verify-page -r -F -d 'write the page that checks such pages'

@@ -1,0 +1,1 @@
+"""Prints the definitions behind the top calls. `tools/reading-list` is the command."""

@@ -1,0 +1,7 @@
+"""Lets the tests import the packages of tools/."""
+
+import sys
+from pathlib import Path
+
+sys.dont_write_bytecode = True
+sys.path.insert(0, str(Path(__file__).resolve().parent.parent))
