@@ -5,6 +5,7 @@
 # make install      copies programs, manual pages, docs, examples and completion below $(PREFIX)
 # make uninstall    takes them away again
 # make dist         packs them into one archive in out/, for offices that have no kit: the same bytes from the same sources
+# make deb          packs them into one Debian package in out/, with the dependencies of the companion: the same bytes from the same sources
 # make soak         tries generated decks, certificates and failing memory for MINUTES minutes (SEED=.. repeats a run), then the edits of tests/edits/
 # make clean        removes all that was built, and the proofs that are kept in out/
 
@@ -17,16 +18,24 @@ PROGRAMS := pert pert_check pert_whatif
 INSTALLED := $(shell cat tools/installed 2>/dev/null)
 SECTION1 := $(patsubst docs/man/%,%,$(filter docs/man/%.1,$(INSTALLED)))
 PAGES := README.md CONTRIBUTING.md CHANGELOG.md $(filter docs/%.md,$(INSTALLED))
-PICTURES := $(filter docs/%.png,$(INSTALLED))
+PICTURES := $(filter docs/%.png docs/%.svg,$(INSTALLED))
 EXAMPLES := $(filter examples/%,$(INSTALLED))
+
+# The companion: its commands, and the files of its package
+COMMANDS := $(sort $(notdir $(wildcard companion/bin/*)))
+PACKAGE := $(shell cd companion/src 2>/dev/null && find pert_companion -type f ! -name '*.pyc' | LC_ALL=C sort)
 
 VERSION := $(shell cat VERSION)
 SOURCES := crates.txt VERSION Makefile tools/prove \
 	$(shell find crates -path '*/out' -prune -o -type f \( -name '*.rt' -o -name '*.antt' \) -print)
 ROOT := $(DESTDIR)$(PREFIX)
+LIBRARY := $(ROOT)/lib/pert-companion
 DOC := $(ROOT)/share/doc/pert
 MAN := $(ROOT)/share/man
 COMPLETIONS := $(ROOT)/share/bash-completion/completions
+# Debian's package puts the one for zsh elsewhere.
+ZSH ?= share/zsh/site-functions
+FISH := share/fish/vendor_completions.d
 
 all: $(PROGRAMS:%=bin/%)
 
@@ -58,29 +67,40 @@ reading:
 # escaped, since they mean something in what sed puts in. How to build the programs is left out of the installed README.
 QUOTED = $(subst ','\'',$(PLACE)/share/doc/pert)
 SHOWN = sed -e 's/@VERSION@/$(VERSION)/' -e "s:@DOC@:$$(printf '%s' '$(QUOTED)' | sed 's/[\\&:]/\\&/g'):g" -e '/^    \$$ /s:bin/pert:pert:g' \
-	-e '/^\#\# Look before you wait$$/,/^\#\# A tour$$/{/^\#\# A tour$$/!d;}'
+	-e '/^\#\# Build it$$/,/^\#\# What is promised$$/{/^\#\# What is promised$$/!d;}'
 
 # A prefix with one of these characters would not get through the commands below.
 placed:
-	@case '$(subst ','\'',$(ROOT) $(PLACE))' in *[\"\`\$$\\]*) echo 'make: PREFIX must not have any of the characters " ` $$ \' >&2; exit 1 ;; esac
+	@case '$(subst ','\'',$(ROOT) $(PLACE))' in *[\"\`\$$\\%]*) echo 'make: PREFIX must not have any of the characters " ` $$ \ %' >&2; exit 1 ;; esac
 	@[ -n "$(INSTALLED)" ] || { echo "make: tools/installed, the list of what is installed, is missing" >&2; exit 1; }
 
 install: placed all
 	install -d "$(ROOT)/bin" "$(MAN)/man1" "$(MAN)/man5" "$(DOC)/docs" "$(DOC)/examples" "$(COMPLETIONS)"
-	install -m 755 $(PROGRAMS:%=bin/%) "$(ROOT)/bin"
+	install -m 755 $(PROGRAMS:%=bin/%) $(COMMANDS:%=companion/bin/%) "$(ROOT)/bin"
+	install -d "$(LIBRARY)" $(foreach folder,$(sort $(dir $(PACKAGE))),"$(LIBRARY)/$(folder)")
+	for file in $(PACKAGE); do install -m 644 "companion/src/$$file" "$(LIBRARY)/$$file" || exit 1; done
 	for page in $(SECTION1); do $(SHOWN) "docs/man/$$page" >"$(MAN)/man1/$$page" || exit 1; done
 	tools/deck-page docs/deck.md | $(SHOWN) >"$(MAN)/man5/pert-deck.5"
 	for page in $(PAGES); do $(SHOWN) "$$page" >"$(DOC)/$$page" || exit 1; done
 	for picture in $(PICTURES); do install -m 644 "$$picture" "$(DOC)/docs" || exit 1; done
-	install -m 644 $(EXAMPLES) "$(DOC)/examples"
+	install -d $(foreach folder,$(sort $(dir $(EXAMPLES))),"$(DOC)/$(folder)")
+	for file in $(EXAMPLES); do install -m 644 "$$file" "$(DOC)/$$file" || exit 1; done
 	chmod 644 $(SECTION1:%="$(MAN)/man1/%") "$(MAN)/man5/pert-deck.5" $(PAGES:%="$(DOC)/%")
 	for program in $(PROGRAMS); do install -m 644 tools/completion.bash "$(COMPLETIONS)/$$program" || exit 1; done
-	@if [ ! -d crates/pert_cli ]; then :; elif command -v python3 >/dev/null; then tools/reading-list "$(DOC)/reading"; \
+	for command in $(COMMANDS); do install -m 644 tools/completion/companion.bash "$(COMPLETIONS)/$$command" || exit 1; done
+	install -d "$(ROOT)/$(ZSH)" "$(ROOT)/$(FISH)"
+	install -m 644 tools/completion/_pert-companion "$(ROOT)/$(ZSH)"
+	install -m 644 $(COMMANDS:%=tools/completion/%.fish) "$(ROOT)/$(FISH)"
+	@if [ ! -d crates/pert_cli ]; then :; elif command -v python3 >/dev/null; then umask 022 && tools/reading-list "$(DOC)/reading"; \
 		else echo "make: without python3 the pages of out/reading/ are not installed"; fi
 
+# Folders go too if nothing else is in them.
 uninstall: placed
-	rm -f $(PROGRAMS:%="$(ROOT)/bin/%") $(SECTION1:%="$(MAN)/man1/%") "$(MAN)/man5/pert-deck.5" $(PROGRAMS:%="$(COMPLETIONS)/%")
-	rm -rf "$(DOC)"
+	rm -f $(PROGRAMS:%="$(ROOT)/bin/%") $(COMMANDS:%="$(ROOT)/bin/%") $(SECTION1:%="$(MAN)/man1/%") "$(MAN)/man5/pert-deck.5" $(PROGRAMS:%="$(COMPLETIONS)/%")
+	rm -f $(COMMANDS:%="$(COMPLETIONS)/%") "$(ROOT)/$(ZSH)/_pert-companion" $(COMMANDS:%="$(ROOT)/$(FISH)/%.fish")
+	rm -rf "$(DOC)" "$(LIBRARY)"
+	@cd "$(ROOT)" && rmdir -p --ignore-fail-on-non-empty bin lib share/man/man1 share/man/man5 share/doc share/bash-completion/completions \
+		$(ZSH) $(FISH)
 
 # The archive holds a folder with bin/ and share/, whose pages name /usr/local, and the checksum of each file. Names are sorted, and
 # owners, times and modes are fixed, so that whoever builds the same sources gets the same archive.
@@ -94,10 +114,13 @@ dist: all
 	rm -rf "out/$(ARCHIVE)"
 	@sha256sum "out/$(ARCHIVE).tar.gz"
 
+deb: all
+	@tools/deb/build
+
 soak:
 	tests/soak $(MINUTES) $(SEED)
 
 clean:
 	rm -rf bin out crates/*/out
 
-.PHONY: all placed try check reading install uninstall dist soak clean
+.PHONY: all placed try check reading install uninstall dist deb soak clean
