@@ -353,10 +353,16 @@ def many(decks: Path) -> list[str]:
 WANTED = [*[f"P{number}" for number in range(10)], "SHED", "H1", ""]
 
 
-def test_hosts_by_a_stub_for_ssh(decks: Path) -> None:
-    """A stub takes the place of ssh: it runs the command here, and notes the host."""
+@pytest.mark.parametrize("shell", [None, "/bin/false"])
+def test_hosts_by_a_stub_for_ssh(
+    decks: Path, shell: str | None, monkeypatch: pytest.MonkeyPatch
+) -> None:
+    """A stub takes the place of ssh and notes the host; the user's shell does not matter."""
     if shutil.which("parallel") is None:
         pytest.skip("no GNU parallel")
+    monkeypatch.delenv("SHELL", raising=False)
+    if shell is not None:
+        monkeypatch.setenv("SHELL", shell)
     stub = decks / "stub-ssh"
     stub.write_text(
         f'#!/bin/sh\necho "$1" >>{decks}/met\nshift\n[ "$1" != -- ] || shift\nexec sh -c "$*"\n'

@@ -107,7 +107,9 @@ def _there(hosts: Hosts, jobs: Sequence[tuple[int, Job]]) -> Iterator[tuple[int,
             lines.write(packed(number, job).encode() + b"\n")
         lines.seek(0)
         try:
-            running = subprocess.Popen(words, stdin=lines, stdout=subprocess.PIPE)
+            running = subprocess.Popen(
+                words, stdin=lines, stdout=subprocess.PIPE, env=_with_shell()
+            )
         except FileNotFoundError:
             raise UsageError("no program parallel: apt install parallel") from None
         with running:
@@ -119,6 +121,11 @@ def _there(hosts: Hosts, jobs: Sequence[tuple[int, Job]]) -> Iterator[tuple[int,
                 yield number, row
         if running.returncode != 0:
             raise CompanionError(f"{hosts.logins}: parallel ended with {running.returncode}")
+
+
+def _with_shell() -> dict[str, str]:
+    """Returns the environment with a plain shell: where SHELL is not set, parallel starts nothing."""
+    return {**os.environ, "SHELL": "/bin/sh"}
 
 
 def packed(number: int, job: Job) -> str:
