@@ -35,7 +35,7 @@ use pc_text::Code;
 use std::alloc::{AllocError, Global};
 use std::marker::Model;
 
-/// The card of a kind of which a deck has one, if it was read.
+/// The card of a kind that a deck has at most once, if it was read.
 #[derive(Drop)]
 pub struct Once<C: Card> {
     card: Option<C>,

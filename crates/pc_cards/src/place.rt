@@ -17,7 +17,7 @@ pub struct CardPlace {
 }
 
 impl CardPlace {
-    /// Returns the fault of a second card of a kind of which a deck has one (F5), after `count` cards of the kind.
+    /// Returns the fault of a second card of a kind that a deck has at most once (F5), after `count` cards of the kind.
     pub fn second(&self, count: usize) -> Option<Fault>
         ensures { result ≡ not_alone self.now count }
     {

@@ -53,9 +53,10 @@ pub fn wrong_fields<F: Fields>(
     None
 }
 
-/// The fault of a card, of whose fields this is the first that is not what it must be. A wrong shape (F7) goes before a
-/// limit (F8), also where the field of a wrong shape stands behind the other: only the fields behind are still to be
-/// read.
+/// Returns the fault of a card whose first wrong field is this one.
+///
+/// A wrong shape (F7) is reported before a limit (F8), even if the field with the wrong shape comes after the other. So
+/// only the fields after this one are still to be read.
 fn fault_of_misfit<F: Fields>(row: u32, misfit: Misfit, slots: &[Slot], fields: &F) -> Fault
     requires { IsFirstMisfit slots.now (F.fields fields.now) misfit }
     ensures { flaw_of_fields row slots.now (F.fields fields.now) ≡ Some result }

@@ -8,7 +8,7 @@ use pc_faults::Kind;
 use pc_records::RowWriter;
 use std::alloc::AllocError;
 
-/// Appends the record of a card of a kind of which a deck has one, if there is one.
+/// Appends the record of a card, if there is one, of a kind that a deck has at most once.
 ///
 /// # Errors
 ///

@@ -99,6 +99,30 @@ impl<'n> CrashNet<'n> {
     /// # Errors
     ///
     /// Returns `AllocError` if memory runs out.
+    ///
+    /// # Examples
+    ///
+    /// ```
+    /// let net = Net::build(alloc, 2, 0, 1, &[Arc { from: 0, to: 1 }]).ok()?;
+    /// // The activity lasts 4 units and costs 10. The first unit less costs 3, the second 6.
+    /// let terms = [Term {
+    ///     normal: 4,
+    ///     crash: 2,
+    ///     cost: 10,
+    ///     slope: 3,
+    /// }];
+    /// let pieces = [PieceRow {
+    ///     activity: 0,
+    ///     units: 1,
+    ///     slope: 6,
+    /// }];
+    /// let (s, t, dig) = (Code::read(b"S")?, Code::read(b"T")?, Code::read(b"DIG")?);
+    /// let project = Code::read(b"E1")?;
+    /// let priced = CrashNet::build(alloc, &net, &terms, &pieces, project, &[s, t], &[dig]).ok()?;
+    /// Some(priced.knees(0).len() == 2)
+    /// ```
+    ///
+    /// These are the lines of `pc_low_tests::examples::build_crash_net`. A test sees that it returns `Some(true)`.
     pub fn build(
         alloc: Global,
         net: &'n Net,

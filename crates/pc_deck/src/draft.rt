@@ -52,7 +52,7 @@ impl Draft {
         }
     }
 
-    /// Where a card of the kind stands behind the cards so far.
+    /// Returns the place of a card of the kind after the cards so far.
     fn place(&self, kind: Kind, row: u32) -> CardPlace
         ensures { result ≡ place_of (seen_in self.now) kind row }
     {
@@ -65,7 +65,7 @@ impl Draft {
         }
     }
 
-    /// Takes the next card, which the record spells. After an error the cards are of no use any more.
+    /// Takes the card of the next record. After an error, do not use the draft again.
     ///
     /// # Errors
     ///

@@ -37,8 +37,20 @@ const ROW_FIELDS: usize = 64;
 ///
 /// # Errors
 ///
-/// The first fault of the deck: that it is not UTF-8, or else the fault with the least number at the earliest record. A
-/// missing END card is a fault of the record after the last one. Or out of memory.
+/// - `DeckError::Fault` with the first fault of the deck: that it is not UTF-8 (F2), or else the fault with the least
+///   number at the earliest record. A missing END card is a fault of the record after the last one.
+/// - `DeckError::OutOfMemory` if memory runs out.
+///
+/// # Examples
+///
+/// ```
+/// let deck = b"PROJECT,E1,S,T,2024-01-01,1,,\nWBS,1,,\nEVENT,S,\nEVENT,T,\n\
+/// ACT,DIG,S,T,1,3,4,5,4,2,10,3,\nACCT,X,1,10,\nEND\n";
+/// let cards = read_cards(alloc, deck).ok()?;
+/// Some((cards.events().len() == 2) & (cards.acts().len() == 1))
+/// ```
+///
+/// These are the lines of `pc_tests::examples::read_a_deck`. A test sees that it returns `Some(true)`.
 pub fn read_cards(alloc: Global, bytes: &[u8]) -> Result<Cards, DeckError>
     requires { length bytes.now ≤ longest_deck }
     ensures accepted { IfOk result (IsDeckOf bytes.now) }
@@ -141,7 +153,7 @@ fn cards_of(alloc: Global, key: u128, sort: Sort, bytes: &[u8]) -> Result<DeckCa
     }
 }
 
-/// Takes the cards of a deck one by one, up to the first fault, and gives the number behind the last record.
+/// Takes the cards of a deck one by one, up to the first fault, and returns the number after that of the last record.
 fn take_all(alloc: Global, bytes: &[u8], draft: &mut Draft) -> Result<u32, DeckError>
     requires short { length bytes.now ≤ DECK_LIMIT }
     requires utf8 { is_utf8 bytes.now ≡ true }

@@ -51,7 +51,22 @@ impl Net {
     ///
     /// # Errors
     ///
-    /// Returns the first of the causes of [`NetError`] that applies.
+    /// Returns the first cause of [`NetError`] that applies, or `NetError::OutOfMemory` if memory runs out.
+    ///
+    /// # Examples
+    ///
+    /// ```
+    /// // A leads from event 0 to event 1, B from there to event 2, and C runs alongside both.
+    /// let arcs = [
+    ///     Arc { from: 0, to: 1 },
+    ///     Arc { from: 1, to: 2 },
+    ///     Arc { from: 0, to: 2 },
+    /// ];
+    /// let net = Net::build(alloc, 3, 0, 2, &arcs).ok()?;
+    /// Some(net.order() == [0, 1, 2].as_slice())
+    /// ```
+    ///
+    /// These are the lines of `pc_low_tests::examples::build_net`. A test sees that it returns `Some(true)`.
     pub fn build(
         alloc: Global,
         events: u32,

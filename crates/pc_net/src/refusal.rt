@@ -33,7 +33,7 @@ impl Indices {
     }
 }
 
-/// Why there is no network. A cause is named only if none of those before it applies.
+/// Why there is no network. A cause is named only if none of those before it applies. Memory may run out at any time.
 #[derive(Debug, Drop)]
 pub enum NetError {
     /// The first activity that ends at the start.

@@ -32,10 +32,27 @@ use std::alloc::Global;
 /// Linear in the cards.
 ///
 /// # Errors
-/// The first fault of the first phase that has one, or out of memory. The phases are: the cards one by one (F13 to F19,
-/// F41), the tree of the items (F20 to F23), the network of the activities (F24 to F27), the items of activities and
-/// accounts (F28), the budgets of packages (F29), statuses and as-of (F30), second amounts to go (F31), the pieces of
-/// the activities' costs (F33 to F35), and the terms of time (F36).
+///
+/// - `DeckError::Fault` with the first fault of the first phase that has one. The phases are: the cards one by one (F13
+///   to F19, F41), the tree of the items (F20 to F23), the network of the activities (F24 to F27), the items of
+///   activities and accounts (F28), the budgets of packages (F29), statuses and as-of (F30), second amounts to go
+///   (F31), the pieces of the activities' costs (F33 to F35), and the terms of time (F36).
+/// - `DeckError::OutOfMemory` if memory runs out.
+///
+/// # Examples
+///
+/// ```
+/// let deck = b"PROJECT,E1,S,T,2024-01-01,1,,\nWBS,1,,\nEVENT,S,\nEVENT,T,\n\
+/// ACT,DIG,S,T,1,3,4,5,4,2,10,3,\nACCT,X,1,10,\nEND\n";
+/// let cards = read_cards(alloc, deck).ok()?;
+/// let project = project_of(alloc, cards).ok()?;
+/// // Estimates of 3, 4 and 5 units expect 4 units, kept in sixths.
+/// let is_expected = project.expected() == [24].as_slice();
+/// drop(project);
+/// Some(is_expected)
+/// ```
+///
+/// These are the lines of `pc_tests::examples::make_a_project`. A test sees that it returns `Some(true)`.
 pub fn project_of(alloc: Global, cards: Cards) -> Result<Project, DeckError>
     ensures project { IfOk result (IsProjectOfDeck cards) }
     ensures makes { IfOk result (λ _. MakesProject cards) }

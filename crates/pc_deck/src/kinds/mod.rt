@@ -193,7 +193,7 @@ fn work_kind(sort: Sort, field: &[u8]) -> Option<Kind>
     }
 }
 
-/// The kind that a field names, of those that come behind these in decks of both sorts.
+/// Returns the kind that a field names, among the later kinds that decks of both sorts have.
 fn further_kind(field: &[u8]) -> Option<Kind>
     ensures { result ≡ kind_among further_kinds field.now }
 {

@@ -24,7 +24,7 @@ pub struct TermsCard {
     pub target: u64,
     /// What is gained for each unit before the target.
     pub bonus: u64,
-    /// What is lost for each unit behind the target.
+    /// What is lost for each unit after the target.
     pub penalty: u64,
 }
 
