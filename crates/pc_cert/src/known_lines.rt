@@ -1,4 +1,4 @@
-//! The lines of one segment, most of which occur again in the next.
+//! The lines of one segment. Most of them occur again in the next.
 ghost use Rattle.std.specs.Prelude.{◌<◌};
 
 use crate::known::KnownLine;

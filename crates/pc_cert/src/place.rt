@@ -48,27 +48,27 @@ pub struct Shape {
 pub enum Place {
     /// at the beginning
     Start,
-    /// behind the first line
+    /// after the first line
     AfterHead(Shape),
-    /// among the steps of the normal walk, of which so many more may come
+    /// among the steps of the normal walk; at most `steps` more may come
     NormalWalk {
         shape: Shape,
         steps: u64,
     },
-    /// among the steps of the crash walk, of which so many more may come
+    /// among the steps of the crash walk; at most `steps` more may come
     CrashWalk {
         shape: Shape,
         steps: u64,
     },
-    /// in a segment, of which so many events and activities are still to come
+    /// in a segment; so many of its events and activities are still to come
     InSegment {
         shape: Shape,
         events: u64,
         activities: u64,
     },
-    /// behind a segment
+    /// after a segment
     Between(Shape),
-    /// behind the last line
+    /// after the last line
     Ended,
 }
 

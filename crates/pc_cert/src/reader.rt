@@ -75,7 +75,7 @@ impl Model for CertReader {
 }
 
 impl CertReader {
-    /// Returns a reader for a text of which nothing was fed yet.
+    /// Returns a reader that was fed nothing yet.
     pub fn begin() -> CertReader
         ensures stands { StandsFor result [] [] }
         ensures nothing { (result.held ≡ []) × (result.malformed ≡ None) }

@@ -100,8 +100,8 @@ fn cut_so_far(kept: &Kept) -> Cut
     }
 }
 
-/// Goes on behind the line at the front of the piece, where it is that of this activity as it passed last, and passes
-/// again across the cut: the answer is how many bytes it is with its end. Else nothing changes, and the answer is 0.
+/// Moves past the line at the front of the piece, if it is the line of this activity that passed last and passes again
+/// across the cut. Returns how many bytes it has, with its line end. Otherwise nothing changes, and it returns 0.
 #[inline(always)]
 fn pass_across(
     net: &CrashNet<'_>,
@@ -143,9 +143,8 @@ fn pass_across(
     used
 }
 
-/// Returns what an activity adds to the cut if what passed last of it passes again behind the first segment, in one
-/// with two ends: its gap at the upper end is one that the flows and the duration fit, and its gap at the lower end one
-/// that the flows fit.
+/// Returns what an activity adds to the cut if what passed last of it passes again in a later segment with two ends:
+/// the flows and the duration fit its gap at the upper end, and the flows fit its gap at the lower end.
 #[inline(never)]
 fn crossed(net: &CrashNet<'_>, kept: &Kept, a: u32, passed: &Passed) -> Option<Cut>
     requires known { a < length net.now.network.arcs }

@@ -44,8 +44,9 @@ use pc_crash::CrashNet;
 use pc_model::Knee;
 use pc_text::Code;
 
-/// Takes a line that may come, behind which the next one stands there: adds it to what is kept, or answers the first
-/// condition that is reported there and does not hold.
+/// Takes a line that is allowed here; `behind` is the place after it.
+///
+/// Adds the line to what is kept, or returns the first condition that is reported at this line and does not hold.
 pub(crate) fn advance(
     net: &CrashNet<'_>,
     kept: &mut Kept,
@@ -217,7 +218,7 @@ pub(crate) fn add_event(net: &CrashNet<'_>, tally: &mut Tally, time: u64, moves:
     tally.moves.push_reserved(moves);
 }
 
-/// Adds an activity with these gaps, of which this has passed.
+/// Adds an activity with these gaps and the values of its line, which passed.
 pub(crate) fn add_act(net: &CrashNet<'_>, tally: &mut Tally, crossing: &Crossing, passed: Passed)
     requires safe { IsSafe net.now tally.old }
     requires known { tally.old.acts < length net.now.network.arcs }

@@ -1,4 +1,4 @@
-//! Going on by a line that comes again, or that is told by how it begins.
+//! Taking a line that occurs again, or that its first bytes identify.
 ghost use Rattle.std.specs.Prelude.{◌≡◌, ◌≢◌, ◌+◌, ◌^◌, ◌<◌, ◌≤◌, None, length};
 ghost use Rattle.pc_check.specs.inside.Again.{AddsLine, AreEnds, across_at, going};
 ghost use Rattle.pc_check.specs.inside.Along.{TakesAlong};
@@ -30,10 +30,10 @@ pub(crate) fn ends_of(net: &CrashNet<'_>) -> EndEvents
     }
 }
 
-/// Takes lines at the front of the piece, where each is one of the next event and is told not to fail: the answer is
-/// how many bytes they are with their ends. Where there is none, nothing changes, and the answer is 0.
+/// Takes lines at the front of the piece, as long as each is a line of the next event and cannot fail. Returns how many
+/// bytes they have, with their line ends. If there is none, nothing changes, and it returns 0.
 ///
-/// The place and the number of lines are counted beside the loop, and kept once behind it.
+/// The loop counts the place and the lines in variables of its own, and stores them once at its end.
 #[inline(never)]
 pub(crate) fn advance_events(
     net: &CrashNet<'_>,
@@ -83,8 +83,8 @@ pub(crate) fn advance_events(
     piece.len() - rest.len()
 }
 
-/// Reads the line at the front of the piece and adds it to what is kept, where it is one of the next event, of which
-/// nothing is asked but its code: it is neither the start nor the end, and the segment has two ends.
+/// Reads the line at the front of the piece and adds it to what is kept, if it is a line of the next event and only its
+/// code can be wrong: the event is neither the start nor the end, and the segment has two ends.
 #[inline(always)]
 fn add_told(
     net: &CrashNet<'_>,
@@ -117,8 +117,8 @@ fn add_told(
     }
 }
 
-/// Goes on behind the line at the front of the piece, where it is that of this activity as it passed last, and passes
-/// again: the answer is how many bytes it is with its end. Else nothing changes, and the answer is 0.
+/// Moves past the line at the front of the piece, if it is the line of this activity that passed last and passes again.
+/// Returns how many bytes it has, with its line end. Otherwise nothing changes, and it returns 0.
 #[inline(always)]
 pub(crate) fn pass_same(
     net: &CrashNet<'_>,

@@ -175,13 +175,27 @@ pub enum AuditError {
 ///
 /// - `AuditError::ReadFault` if a pull fails before any line has failed.
 /// - `AuditError::OutOfMemory` if out of memory; nothing was pulled then.
+///
+/// # Examples
+///
+/// `net` is a `CrashNet` of one activity, A, from event A to event B. It lasts 3 units, costs 7 and cannot be cut.
+///
+/// ```
+/// let text = b"CERT 1 A 2 1\nNORMAL\nSTEP A\nCRASH\nSTEP A\nSEGMENT 3 3 7 0\n\
+/// EVENT A 0 0\nEVENT B 3 0\nACT A 3 0 0\nCLOSE\nEND\n";
+/// let mut source = MemSource::new(alloc, text, 4096, &[]).ok()?;
+/// let verdict = audit_source(alloc, net, &mut source).ok()?;
+/// Some(verdict == Verdict::Yes { segments: 1 })
+/// ```
+///
+/// These are the lines of `pc_low_tests::examples::audit_a_text`. A test sees that it returns `Some(true)`.
 pub fn audit_source<C: Source>(
     alloc: Global,
     net: &CrashNet<'_>,
     source: &mut C,
 ) -> Result<Verdict, AuditError>
     ensures finds { IfOk result (λ verdict. IfSome (C.left source.old) (λ text. Finds net.now text verdict)) }
-    // nothing is pulled behind the failing line
+    // nothing is pulled after the failing line
     ensures stops { IfOk result (λ verdict. IsSettled net.now verdict STREAM_ROOM C.left C.pulls source.old
         source.new) }
     ensures end { IfOk result (λ verdict. OnYes verdict (IsAtEnd (C.left source.new))) }

@@ -143,9 +143,9 @@ impl<'n> Checker<'n> {
         }
     }
 
-    /// Reads lines at the front of the piece and takes them, where each is one of the next event, or that of the next
-    /// activity as it passed last, and is told not to fail: the answer is how many bytes they are with their ends.
-    /// Where there is none, nothing changes, and the answer is 0.
+    /// Reads lines at the front of the piece and takes them, as long as each is a line of the next event or the line of
+    /// the next activity that passed last, and cannot fail. Returns how many bytes they have, with their line ends. If
+    /// there is none, nothing changes, and it returns 0.
     #[inline(always)]
     pub(crate) fn take_rows(&mut self, reader: &mut CertReader, piece: &[u8]) -> usize
         requires no_fail { self.old.fail ≡ None }
@@ -173,7 +173,7 @@ impl<'n> Checker<'n> {
         ensures curve { (lines : List CertLine) → StandsFor self.entry lines →
             OnYes result (AreCurve self.entry.net (segments_of self.entry.net lines)) }
     {
-        // What is known of the network says that lines of which none fails show its curve.
+        // What is known of the network says that lines that do not fail show its curve.
         let _priced = self.net.net();
         match self.fail {
             Some(fail) => Verdict::No {

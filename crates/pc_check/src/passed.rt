@@ -74,8 +74,7 @@ pub(crate) fn none_passed(alloc: Global, net: &CrashNet<'_>) -> Result<Vec<Passe
     Ok(rows)
 }
 
-/// What has passed of an activity by the line that is known, with this duration and these flows, of which none is above
-/// its rise.
+/// Returns what has passed of an activity with this known line, duration and flows. No flow is above its rise.
 pub(crate) fn passed_of(
     net: &CrashNet<'_>,
     a: u32,
@@ -166,8 +165,8 @@ fn lowered(high: u64, knee: Knee, flow: u64) -> u64
     if flow == 0 { high } else { high.min(knee.at) }
 }
 
-/// Whether what passed last of an activity passes again behind the first segment, in one with two ends: the activity
-/// does not cross the cut, and its gap is one that the flows and the duration fit.
+/// Whether what passed last of an activity passes again in a later segment with two ends: the activity does not cross
+/// the cut, and the flows and the duration fit its gap.
 #[inline(always)]
 pub(crate) fn passes_again(net: &CrashNet<'_>, kept: &Kept, a: u32, passed: &Passed) -> bool
     requires known { a < length net.now.network.arcs }

@@ -76,6 +76,34 @@ pub fn cells_needed(events: usize, activities: usize, pieces: usize) -> usize
 impl<'n> Solver<'n> {
     /// Creates a solver before its first segment, in the free cells of a region. Allocates nothing. Linear in events
     /// and activities.
+    ///
+    /// # Examples
+    ///
+    /// Takes the segments of a curve one after another. `net` is a `CrashNet` of three activities: A can be cut from 4
+    /// units to 2 at 3 per unit, B, after it, from 5 to 3 at 5 per unit, and C, alongside both, from 7 to 5 at 2 per
+    /// unit. `blank` is a `Blank` of the ledger `L`, in which the steps are counted.
+    ///
+    /// ```
+    /// let region = Region::with_cells(alloc, cells_needed(3, 3, 0)).ok()?;
+    /// let mut solver = Solver::begin(region, net);
+    /// let mut steps = Steps::<L>::new(blank);
+    /// let mut segments = [[0; 4]; 3];
+    /// for segment in &mut segments {
+    ///     if !solver.next_segment(&mut steps) {
+    ///         break;
+    ///     }
+    ///     *segment = [
+    ///         solver.upper(),
+    ///         solver.lower(),
+    ///         solver.cost(),
+    ///         solver.slope(),
+    ///     ];
+    /// }
+    /// // From 9 to 7 units each unit less costs 3, from 7 to 5 units 7.
+    /// Some(segments == [[9, 7, 45, 3], [7, 5, 51, 7], [0; 4]])
+    /// ```
+    ///
+    /// These are the lines of `pc_low_tests::examples::take_segments`. A test sees that it returns `Some(true)`.
     pub fn begin(region: Region, net: &'n CrashNet<'n>) -> Solver<'n>
         requires { 8 * net.now.network.events + 6 * length net.now.network.arcs + 2 * length net.now.pieces + 16
             ≤ free_of region }
