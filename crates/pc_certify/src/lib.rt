@@ -7,6 +7,7 @@
 
 mod certified;
 mod certifying;
+mod filled_view;
 mod gathered;
 mod last_lines;
 mod segment;
@@ -18,6 +19,7 @@ mod writing;
 
 pub use certified::{certified_is_found, written_is_certified};
 pub use certifying::{CertifyError, certify};
+pub use filled_view::FilledView;
 pub use last_lines::LastLines;
 pub use segment::put_segment_by;
 pub use texts::{written_fits, written_is_one_text};

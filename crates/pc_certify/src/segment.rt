@@ -10,16 +10,17 @@ ghost use Rattle.pc_cert.specs.Document.{HasSmallNumbers};
 ghost use Rattle.pc_certify.specs.inside.Gathers.{Gathers};
 ghost use Rattle.pc_certify.specs.inside.Spelled.{AreEventsSpelled, AreActsSpelled, SpellsAct, filled_along};
 
+use crate::filled_view::FilledView;
 use crate::gathered::Gathered;
 use crate::last_lines::{ActRow, EventRow, LastLines};
 use pc_cert::put_ends;
-use pc_crash::{CrashNet, SegmentView};
+use pc_crash::CrashNet;
 use pc_edges::Sink;
 use pc_edges::page::Page;
 
 /// Puts the lines of a segment on a page, as [`pc_cert::put_segment`] does, but by the lines of the segment that was
 /// put last: a line that says the same again is not formatted again. Linear in events, activities and pieces.
-pub fn put_segment_by<O: Sink, V: SegmentView>(
+pub fn put_segment_by<O: Sink, V: FilledView>(
     page: &mut Page,
     sink: &mut O,
     net: &CrashNet<'_>,
@@ -54,7 +55,7 @@ pub fn put_segment_by<O: Sink, V: SegmentView>(
     page.put(sink, b"CLOSE\n");
 }
 
-fn put_events<O: Sink, V: SegmentView>(
+fn put_events<O: Sink, V: FilledView>(
     page: &mut Page,
     sink: &mut O,
     net: &CrashNet<'_>,
@@ -76,7 +77,7 @@ fn put_events<O: Sink, V: SegmentView>(
     }
 }
 
-fn put_event<O: Sink, V: SegmentView>(
+fn put_event<O: Sink, V: FilledView>(
     page: &mut Page,
     sink: &mut O,
     net: &CrashNet<'_>,
@@ -100,7 +101,7 @@ fn put_event<O: Sink, V: SegmentView>(
     gathered.put(page, sink, &row.spelling);
 }
 
-fn put_acts<O: Sink, V: SegmentView>(
+fn put_acts<O: Sink, V: FilledView>(
     page: &mut Page,
     sink: &mut O,
     net: &CrashNet<'_>,
@@ -122,7 +123,7 @@ fn put_acts<O: Sink, V: SegmentView>(
     }
 }
 
-fn put_act<O: Sink, V: SegmentView>(
+fn put_act<O: Sink, V: FilledView>(
     page: &mut Page,
     sink: &mut O,
     net: &CrashNet<'_>,
@@ -148,7 +149,7 @@ fn put_act<O: Sink, V: SegmentView>(
 
 /// Makes the line of an activity say what the segment says of it. Its text is changed only if its duration or the sum
 /// of its flows is another.
-fn say_act<V: SegmentView>(net: &CrashNet<'_>, view: &V, a: u32, row: &mut ActRow)
+fn say_act<V: FilledView>(net: &CrashNet<'_>, view: &V, a: u32, row: &mut ActRow)
     requires present { V.IsPresent view.now }
     requires net { V.net view.now ≡ net.now }
     requires activity { a < length net.now.network.arcs }
@@ -165,7 +166,7 @@ fn say_act<V: SegmentView>(net: &CrashNet<'_>, view: &V, a: u32, row: &mut ActRo
 }
 
 /// Returns the sum of the flows along an activity, which determines each of them.
-fn whole_along<V: SegmentView>(net: &CrashNet<'_>, view: &V, a: u32) -> u64
+fn whole_along<V: FilledView>(net: &CrashNet<'_>, view: &V, a: u32) -> u64
     requires present { V.IsPresent view.now }
     requires net { V.net view.now ≡ net.now }
     requires activity { a < length net.now.network.arcs }

@@ -1,7 +1,6 @@
 //! A segment of the time-cost curve as its parts, wherever they are kept.
-ghost use Rattle.std.specs.Prelude.{◌≡◌, ℕ, ◌<◌, ◌≤◌, length};
+ghost use Rattle.std.specs.Prelude.{◌≡◌, ◌<◌, ◌≤◌, length};
 ghost use Rattle.pc_laws.specs.Segment.{Segment};
-ghost use Rattle.pc_laws.specs.Stair.{stair_of, knee_flow, crash_flow};
 ghost use Rattle.pc_crash.specs.Priced.{PricedNetwork, knees_in};
 
 /// One segment of the time-cost curve of a network, if there is one yet. Without a segment no getter may be called.
@@ -60,15 +59,4 @@ pub trait SegmentView {
         requires knee { k ≤ (knees_in (net self.now)).count a }
         ensures at_knee { k < (knees_in (net self.now)).count a → result ≡ (segment self.now).flow a k }
         ensures beside { k ≡ (knees_in (net self.now)).count a → result ≡ (segment self.now).beside a };
-
-    /// Returns the whole flow along an activity. It alone fixes the flow at each of its knees, which it fills in order,
-    /// and beyond them.
-    fn whole(&self, a: u32) -> u64
-        requires present { IsPresent self.now }
-        requires activity { a < length (net self.now).network.arcs }
-        ensures at_knees { (k : ℕ) → k < (knees_in (net self.now)).count a
-            → (segment self.now).flow a k ≡ knee_flow
-            (stair_of (net self.now).terms (knees_in (net self.now)) a) result k }
-        ensures beside { (segment self.now).beside a
-            ≡ crash_flow (stair_of (net self.now).terms (knees_in (net self.now)) a) result };
 }

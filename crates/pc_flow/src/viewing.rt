@@ -1,5 +1,7 @@
 //! The present segment of a solver.
-ghost use Rattle.std.specs.Prelude.{◌≡◌, true};
+ghost use Rattle.std.specs.Prelude.{◌≡◌, ℕ, ◌<◌, true, length};
+ghost use Rattle.pc_laws.specs.Stair.{stair_of, knee_flow, crash_flow};
+ghost use Rattle.pc_crash.specs.Priced.{knees_in};
 ghost use Rattle.pc_flow.specs.inside.Courses.{present};
 
 use crate::solver::Solver;
@@ -53,8 +55,20 @@ impl<'n> SegmentView for Solver<'n> {
             beside(knees.as_slice(), flow)
         }
     }
+}
 
-    fn whole(&self, a: u32) -> u64 {
+impl<'n> Solver<'n> {
+    /// Returns the sum of the flows along an activity.
+    ///
+    /// It determines them all: in order, each knee takes as much as it can, and what is left flows beyond them.
+    pub fn whole_flow(&self, a: u32) -> u64
+        requires present { self.now.given ≡ true }
+        requires activity { a < length self.now.net.network.arcs }
+        ensures at_knees { (k : ℕ) → k < (knees_in self.now.net).count a → (present self.now).flow a k
+            ≡ knee_flow (stair_of self.now.net.terms (knees_in self.now.net) a) result k }
+        ensures beside { (present self.now).beside a
+            ≡ crash_flow (stair_of self.now.net.terms (knees_in self.now.net) a) result }
+    {
         self.search.board.flow(a)
     }
 }

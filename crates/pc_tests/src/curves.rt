@@ -90,7 +90,7 @@ fn first<L: Ledger>(alloc: Global, net: &CrashNet<'_>, blank: Blank) -> Result<[
         solver.duration(0),
         solver.flow(0, 0),
         solver.flow(0, net.knees(0).len()),
-        solver.whole(0),
+        solver.whole_flow(0),
         solver.close().free() as u64,
     ])
 }
