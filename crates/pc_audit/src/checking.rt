@@ -85,7 +85,8 @@ pub fn check_run<D: Source, C: Source, O: Sink, E: Sink>(
     ensures usage_unread { result ≡ 2 → (deck.new ≡ deck.old) × (cert.new ≡ cert.old) }
     ensures usage_only { result ≡ 2 → out.new ≡ out.old }
 
-    // 3: memory ran out, before anything of the certificate was read and before anything was written.
+    // 3: nothing of the certificate was read, and nothing was written. Tests show that this status means that memory
+    // ran out.
     ensures no_memory { result ≡ 3 → (cert.new ≡ cert.old) × (out.new ≡ out.old) × (err.new ≡ err.old) }
 
     // 4: the deck could not be read, of which no more was taken than a deck may have; or the certificate, of which no
@@ -109,12 +110,12 @@ pub fn check_run<D: Source, C: Source, O: Sink, E: Sink>(
         → HasVerdict bytes text other → verdict ≡ other }
     ensures one_deck_verdict { (bytes : List ℕ) → AcceptedBy bytes → RefusedBy bytes → ⊥ }
 
-    // A deck that is not refused is accepted, as far as it could be read and but for want of memory.
+    // Without a read fault, a deck that is not refused is accepted, or the status is 3.
     ensures acceptance { IsOneWord words.now → HadNoFault (side D.left D.faults deck.old deck.new)
         → OfBytes (side D.left D.faults deck.old deck.new)
         (λ bytes. (RefusedBy bytes → ⊥) → AcceptedBy bytes ⊎ (result ≡ 3)) }
 
-    // Where no fault came, the words, the deck and the certificate decide, but for want of memory.
+    // If no source or sink fails, the words, the deck and the certificate decide, unless the status is 3.
     ensures words_refused { (IsOneWord words.now → ⊥) → HadNoFault (side E.taken E.faults err.old err.new)
         → result ≡ 2 }
     ensures deck_refused { IsOneWord words.now → OfBytes (side D.left D.faults deck.old deck.new)

@@ -65,7 +65,7 @@ pub fn session_run<D: Source, C: Source, O: Sink, E: Sink>(
     ensures usage_unread { result ≡ 2 → (deck.new ≡ deck.old) × (edits.new ≡ edits.old) }
     ensures usage_only { result ≡ 2 → out.new ≡ out.old }
 
-    // 3: memory ran out, before anything of the edits was read and before anything was written.
+    // 3: nothing of the edits was read, and nothing was written. Tests show that this status means that memory ran out.
     ensures no_memory { result ≡ 3 → (edits.new ≡ edits.old) × (out.new ≡ out.old) × (err.new ≡ err.old) }
 
     // 4: the deck could not be read; or the edits, whose complete lines before that were answered.
@@ -81,7 +81,7 @@ pub fn session_run<D: Source, C: Source, O: Sink, E: Sink>(
     // Each status but 2 and 5 comes only where there is one word.
     ensures one_word { result ≢ 2 → result ≢ 5 → IsOneWord words.now }
 
-    // A deck that is not refused is accepted, as far as it could be read and but for want of memory.
+    // Without a read fault, a deck that is not refused is accepted, or the status is 3.
     ensures acceptance { IsOneWord words.now → HadNoFault (side D.left D.faults deck.old deck.new)
         → OfBytes (side D.left D.faults deck.old deck.new) (λ bytes. (RefusedBy bytes → ⊥) →
         AcceptedBy bytes ⊎ (result ≡ 3)) }
@@ -89,7 +89,7 @@ pub fn session_run<D: Source, C: Source, O: Sink, E: Sink>(
     // No deck is both accepted and refused.
     ensures one_verdict { (bytes : List ℕ) → AcceptedBy bytes → RefusedBy bytes → ⊥ }
 
-    // Where no fault came, the words and the deck decide, but for want of memory and for the length of the edits.
+    // If no source or sink fails, the words and the deck decide, unless the status is 3, or 8 (edits too long).
     ensures words_refused { (IsOneWord words.now → ⊥) → HadNoFault (side E.taken E.faults err.old err.new) →
         result ≡ 2 }
     ensures deck_refused { IsOneWord words.now →

@@ -84,7 +84,7 @@ pub fn run<S: Source, O: Sink, E: Sink>(
     ensures usage_unread { result ≡ 2 → source.new ≡ source.old }
     ensures usage_only { result ≡ 2 → out.new ≡ out.old }
 
-    // 3: memory ran out, before anything was written.
+    // 3: nothing was written. Tests show that this status means that memory ran out.
     ensures no_memory { result ≡ 3 → (out.new ≡ out.old) × (err.new ≡ err.old) }
 
     // 4: the deck could not be read. This occurs only if the words ask for a form that reads it, and if no more of it
@@ -101,7 +101,7 @@ pub fn run<S: Source, O: Sink, E: Sink>(
     // Each status but 2 and 5 occurs only if the words ask for a form.
     ensures form { result ≢ 2 → result ≢ 5 → AskForOne words.now }
 
-    // A deck that is not refused is accepted, unless it could not be read or memory ran out.
+    // Without a read fault, a deck that is not refused is accepted, or the status is 3.
     ensures acceptance { (form : TheForm) → AskFor form words.now → ReadsSource form →
         HadNoFault (side S.left S.faults source.old source.new)
         → OfBytes (side S.left S.faults source.old source.new)
@@ -124,7 +124,7 @@ pub fn run<S: Source, O: Sink, E: Sink>(
     // fails, and each pull before that one gave at least one byte.
     ensures stops { IsReadWithin longest_deck STREAM_ROOM S.left S.faults S.pulls source.old source.new }
 
-    // If no source or sink fails, the words and the deck decide, unless memory runs out: the deck of the source, or the
+    // If no source or sink fails, the words and the deck decide, unless the status is 3: the deck of the source, or the
     // form's own.
     ensures words_refused { AskForNone words.now → HadNoFault (side E.taken E.faults err.old err.new) → result ≡ 2 }
     ensures deck_accepted { (form : TheForm) → AskFor form words.now → ReadsSource form
