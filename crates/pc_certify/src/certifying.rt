@@ -40,6 +40,20 @@ pub enum CertifyError {
 /// # Source
 ///
 /// Kelley 1961 and Fulkerson 1961 for the curve; the certificate's format is this project's own.
+///
+/// # Examples
+///
+/// `net` is a `CrashNet` of three activities: A can be cut from 4 units to 2 at 3 per unit, B, after it, from 5 to 3 at
+/// 5 per unit, and C, alongside both, from 7 to 5 at 2 per unit.
+///
+/// ```
+/// let region = Region::with_cells(alloc, cells_needed(3, 3, 0)).ok()?;
+/// let mut sink = MemSink::new(alloc, 1000, 1000, &[]).ok()?;
+/// let is_written = certify(alloc, net, region, &mut sink).is_ok();
+/// Some(is_written && sink.bytes().starts_with(b"CERT 1 E1 3 3\nNORMAL\nSTEP A\n"))
+/// ```
+///
+/// These are the lines of `pc_tests::examples::certify_a_net`. A test sees that it returns `Some(true)`.
 pub fn certify<O: Sink>(
     alloc: Global,
     net: &CrashNet<'_>,

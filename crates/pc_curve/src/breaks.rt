@@ -83,6 +83,28 @@ impl Breaks {
     /// The solver goes on until its present segment begins or ends there; consecutive segments of the same slope have
     /// no breakpoint between them. It takes at most four looks at each activity for each unit by which the slope rises
     /// or the lower end comes down. Allocates nothing.
+    ///
+    /// # Examples
+    ///
+    /// `net` is a `CrashNet` of three activities: A can be cut from 4 units to 2 at 3 per unit, B, after it, from 5 to
+    /// 3 at 5 per unit, and C, alongside both, from 7 to 5 at 2 per unit. `blank` is a `Blank` of the ledger `L`, in
+    /// which the steps are counted.
+    ///
+    /// ```
+    /// let region = Region::with_cells(alloc, cells_needed(3, 3, 0)).ok()?;
+    /// let mut solver = Solver::begin(region, net);
+    /// let mut steps = Steps::<L>::new(blank);
+    /// let mut breaks = Breaks::new();
+    /// let first = breaks.next(&mut solver, &mut steps)?;
+    /// let second = breaks.next(&mut solver, &mut steps)?;
+    /// let third = breaks.next(&mut solver, &mut steps)?;
+    /// let lengths = [first.length, second.length, third.length];
+    /// let costs = [first.cost, second.cost, third.cost];
+    /// let is_last = breaks.next(&mut solver, &mut steps).is_none();
+    /// Some((lengths == [9, 7, 5]) & (costs == [45, 51, 65]) & is_last)
+    /// ```
+    ///
+    /// These are the lines of `pc_tests::examples::take_breaks`. A test sees that it returns `Some(true)`.
     pub fn next<L: Ledger>(
         &mut self,
         solver: &mut Solver<'_>,

@@ -22,6 +22,27 @@ use std::sync::ledger::Ledger;
 /// the length is shorter, and each activity lasts as long as this allows, at most its normal duration. It takes at most
 /// four looks at each activity for each unit by which the slope rises or the lower end comes down, and is then linear
 /// in events and activities. Allocates nothing.
+///
+/// # Examples
+///
+/// `net` is a `CrashNet` of three activities: A can be cut from 4 units to 2 at 3 per unit, B, after it, from 5 to 3 at
+/// 5 per unit, and C, alongside both, from 7 to 5 at 2 per unit. `blank` is a `Blank` of the ledger `L`, in which the
+/// steps are counted.
+///
+/// ```
+/// let region = Region::with_cells(alloc, cells_needed(3, 3, 0)).ok()?;
+/// let mut solver = Solver::begin(region, net);
+/// let mut steps = Steps::<L>::new(blank);
+/// if solver.shortest() > 8 || solver.longest() < 8 {
+///     return None;
+/// }
+/// let (mut times, mut durations) = ([0; 3], [0; 3]);
+/// let cost = point_at(&mut solver, 8, &mut times, &mut durations, &mut steps);
+/// // A lasts 3 units in place of 4, for 3 more.
+/// Some((cost == 48) & (times == [0, 3, 8]) & (durations == [3, 5, 7]))
+/// ```
+///
+/// These are the lines of `pc_tests::examples::read_a_point`. A test sees that it returns `Some(true)`.
 pub fn point_at<L: Ledger>(
     solver: &mut Solver<'_>,
     length: u64,

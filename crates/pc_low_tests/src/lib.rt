@@ -23,6 +23,8 @@ mod days;
 #[cfg(test)]
 mod edges;
 #[cfg(test)]
+mod examples;
+#[cfg(test)]
 mod faults;
 #[cfg(test)]
 mod net;

@@ -16,6 +16,8 @@ mod curves;
 #[cfg(test)]
 mod decks;
 #[cfg(test)]
+mod examples;
+#[cfg(test)]
 mod figures;
 #[cfg(test)]
 mod loads;

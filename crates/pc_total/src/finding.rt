@@ -25,6 +25,29 @@ use std::sync::ledger::Ledger;
 /// it saves, and stays at the segment that holds the optimum, so that a schedule for it can be read there. It takes a
 /// few steps per segment, and at most four looks at each activity for each unit by which the slope rises or the lower
 /// end comes down. Allocates nothing.
+///
+/// # Examples
+///
+/// `net` is a `CrashNet` of three activities: A can be cut from 4 units to 2 at 3 per unit, B, after it, from 5 to 3 at
+/// 5 per unit, and C, alongside both, from 7 to 5 at 2 per unit. `blank` is a `Blank` of the ledger `L`, in which the
+/// steps are counted.
+///
+/// ```
+/// let region = Region::with_cells(alloc, cells_needed(3, 3, 0)).ok()?;
+/// let mut solver = Solver::begin(region, net);
+/// let mut steps = Steps::<L>::new(blank);
+/// // Each unit of time costs 5, and nothing else depends on the length.
+/// let terms = TimeTerms {
+///     overhead: 5,
+///     target: 0,
+///     bonus: 0,
+///     penalty: 0,
+/// };
+/// let found = best(&mut solver, &terms, &mut steps);
+/// Some((found.length == 7) & (found.direct == 51) & (found.time == 35) & (found.total == 86))
+/// ```
+///
+/// These are the lines of `pc_tests::examples::find_the_best`. A test sees that it returns `Some(true)`.
 pub fn best<L: Ledger>(solver: &mut Solver<'_>, terms: &TimeTerms, steps: &mut Steps<L>) -> Best
     requires before { solver.old.given ≡ false }
     requires terms { AreTimeTerms terms.now }

@@ -71,6 +71,24 @@ impl<'p> Session<'p> {
     /// # Errors
     ///
     /// `AllocError` if memory runs out.
+    ///
+    /// # Examples
+    ///
+    /// `project` has three activities: A can be cut from 4 units to 2 at 3 per unit, B, after it, from 5 to 3 at 5 per
+    /// unit, and C, alongside both, from 7 to 5 at 2 per unit. `blank` is a `Blank` of the ledger `L`, in which the
+    /// steps are counted.
+    ///
+    /// ```
+    /// let mut session = Session::begin(alloc, project).ok()?;
+    /// let mut out = MemSink::new(alloc, 1000, 1000, &[]).ok()?;
+    /// let mut steps = Steps::<L>::new(blank);
+    /// // The first is an edit: each unit less of activity A costs 9.
+    /// session.answer(b"SLOPE A 9", &mut out, &mut steps).ok()?;
+    /// session.answer(b"CURVE", &mut out, &mut steps).ok()?;
+    /// Some(out.bytes() == b"OK\n9 45 5\n7 55 11\n5 77 -\n".as_slice())
+    /// ```
+    ///
+    /// These are the lines of `pert_tests::examples::answer_lines`. A test sees that it returns `Some(true)`.
     pub fn begin(alloc: Global, project: &'p Project) -> Result<Session<'p>, AllocError>
         ensures project { IfOk result (λ session. session.project ≡ project.now) }
         ensures editing { IfOk result (λ session. session.editing ≡ begun project.now) }

@@ -38,6 +38,21 @@ use std::alloc::Global;
 /// The order is: the words, the complete deck, its faults, whether the form refuses it, all memory that the answer
 /// needs, the answer and a flush. A deck is a plan, except for `arrows`, which reads a deck of tasks: what accepted
 /// and refused mean depends on that.
+///
+/// # Examples
+///
+/// ```
+/// let deck = b"PROJECT,E1,S,T,2024-01-01,1,,\nWBS,1,,\nEVENT,S,\nEVENT,T,\n\
+/// ACT,DIG,S,T,1,3,4,5,4,2,10,3,\nACCT,X,1,10,\nEND\n";
+/// let words = ["curve".to_string(alloc).ok()?];
+/// let mut source = MemSource::new(alloc, deck, 4096, &[]).ok()?;
+/// let mut out = MemSink::new(alloc, 1000, 1000, &[]).ok()?;
+/// let mut err = MemSink::new(alloc, 1000, 1000, &[]).ok()?;
+/// let status = run(alloc, &words, &mut source, &mut out, &mut err);
+/// Some(status == 0 && out.bytes() == b"4 10 3\n2 16 -\n".as_slice())
+/// ```
+///
+/// These are the lines of `pert_tests::examples::run_on_a_deck`. A test sees that it returns `Some(true)`.
 pub fn run<S: Source, O: Sink, E: Sink>(
     alloc: Global,
     words: &[String],

@@ -9,6 +9,8 @@ mod checks;
 #[cfg(test)]
 mod edges;
 #[cfg(test)]
+mod examples;
+#[cfg(test)]
 mod flushes;
 #[cfg(test)]
 mod keys;
