@@ -5,7 +5,7 @@ ghost use Rattle.pc_crash.specs.inside.Steps.{IsBlankOf};
 use std::marker::Model;
 use std::sync::ledger::{Blank, Book, Ledger, Share};
 
-/// A counter of steps. It takes no bytes, and only `tick` changes it.
+/// A counter of steps. It takes no bytes, and only `CrashNet::look` raises it.
 ///
 /// If you count nothing, make one from a `Blank` and pass it in.
 #[derive(Drop)]
@@ -35,7 +35,7 @@ impl<L: Ledger> Steps<L> {
     }
 
     /// Counts one step. Does nothing when the program runs.
-    pub fn tick(&mut self)
+    pub(crate) fn tick(&mut self)
         ensures { self.new ≡ self.old + 1 }
     {
         self.book.add(&mut self.share, 1);

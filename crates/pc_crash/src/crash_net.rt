@@ -251,6 +251,7 @@ impl<'n> CrashNet<'n> {
     }
 
     /// Returns what a search along the network needs of an activity, and counts one step.
+    #[inline(always)]
     pub fn look<L: Ledger>(&self, a: u32, steps: &mut Steps<L>) -> Look<'_>
         requires { a < length self.now.network.arcs }
         ensures counted { steps.new ≡ steps.old + 1 }
