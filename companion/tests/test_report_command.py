@@ -10,9 +10,10 @@ from pathlib import Path
 
 import pytest
 
-from page.certificates import HOUSE, PROGRAMS, bench
+from page.certificates import HOUSE, PROGRAMS, bench, house_with_terms
 from pert_companion.cli import report
 from pert_companion.cli.common import run_command
+from pert_companion.page.gathering import Wishes, gather
 from pert_companion.page.verify import build_verify_page
 
 SOURCE = Path(__file__).resolve().parents[1] / "src"
@@ -30,6 +31,25 @@ def test_a_page_is_written(tmp_path: Path, capsys: pytest.CaptureFixture[str]) -
     assert "13,220" in text and "\u00a0EUR" in text
     size = f"{page.stat().st_size:,}"
     assert capsys.readouterr().err == f"pert-report: {page}: {size} bytes, certified 4\n"
+
+
+@pytest.mark.parametrize("has_terms", [False, True])
+def test_help_says_which_length_a_page_opens_with(has_terms: bool, tmp_path: Path) -> None:
+    deck = tmp_path / "house.csv"
+    deck.write_bytes(house_with_terms() if has_terms else HOUSE.read_bytes())
+    opened = {}
+    for word in ("", "--optimum", "--normal"):
+        words = [word] if word else []
+        options = report.parser().parse_args([str(deck), "-o", "page.html", *words])
+        wishes = Wishes(optimum=options.optimum, normal=options.normal)
+        opened[word] = gather(PROGRAMS, deck, wishes, lambda text: None).length
+    said = " ".join(report.parser().format_help().split())
+    if has_terms:
+        assert opened[""] == opened["--optimum"] != opened["--normal"]
+        assert "time (the default if the deck has TERMS)" in said
+    else:
+        assert opened[""] == opened["--normal"]
+        assert "durations (the default if the deck has no TERMS)" in said
 
 
 def test_the_page_that_checks_pages(tmp_path: Path, capsys: pytest.CaptureFixture[str]) -> None:

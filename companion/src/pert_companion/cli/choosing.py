@@ -9,14 +9,21 @@ from pert_companion.programs import Programs
 from pert_companion.schedule import Schedule
 
 
-def add_length_options(command: argparse.ArgumentParser) -> None:
-    """Adds `--length`, `--optimum`, `--normal` and `--bin`."""
+def add_length_options(command: argparse.ArgumentParser, prefers_optimum: bool = False) -> None:
+    """Adds `--length`, `--optimum`, `--normal` and `--bin`.
+
+    `prefers_optimum` says that, without any of them, the command takes the optimum if the deck has
+    TERMS; other commands take normal durations.
+    """
+    cheapest = "cheapest with the price of time (TERMS)"
+    normal = "normal durations (the default)"
+    if prefers_optimum:
+        cheapest = "cheapest with the price of time (the default if the deck has TERMS)"
+        normal = "normal durations (the default if the deck has no TERMS)"
     which = command.add_mutually_exclusive_group()
     which.add_argument("--length", metavar="N", type=length_word, help="cheapest for N units")
-    which.add_argument(
-        "--optimum", action="store_true", help="cheapest with the price of time (TERMS)"
-    )
-    which.add_argument("--normal", action="store_true", help="normal durations (the default)")
+    which.add_argument("--optimum", action="store_true", help=cheapest)
+    which.add_argument("--normal", action="store_true", help=normal)
     add_bin_option(command)
 
 

@@ -29,7 +29,7 @@ def parser() -> CommandParser:
     """Returns the parser of the command's words."""
     command = CommandParser(NAME, "Writes a page about a project as one HTML file.", EXAMPLES)
     command.add_argument("deck", type=Path, nargs="?", help="a deck or a deck of tasks")
-    add_length_options(command)
+    add_length_options(command, prefers_optimum=True)
     command.add_argument("-o", "--output", metavar="PAGE", type=Path, help="the page to write")
     command.add_argument(
         "--baseline", metavar="DECK", type=Path, help="the plan that progress is compared with"
