@@ -1,6 +1,8 @@
 """Files that are cut off, forged, huge or of another character set end in one line, in seconds."""
 
+import io
 import time
+import zipfile
 from collections.abc import Callable
 from pathlib import Path
 
@@ -24,7 +26,7 @@ WRITERS: dict[str, Callable[..., bytes]] = {
 }
 XML = [name for name in WRITERS if name != "xer"]
 SECONDS = 60
-"""How long a huge file may take on a busy machine."""
+"""How long a huge file may take, in seconds of the processor: other programs have no say in it."""
 
 
 def read(data: bytes) -> Reading:
@@ -127,9 +129,9 @@ def test_entities(name: str) -> None:
         '<!ENTITY a11 SYSTEM "file:///etc/passwd">',
     ):
         forged = f"{head}?><!DOCTYPE x [{inside}]>{body.replace('Dig', '&a11;', 1)}"
-        begun = time.monotonic()
+        begun = time.process_time()
         assert "document types and entities are not read" in fault(forged.encode())
-        assert time.monotonic() - begun < SECONDS
+        assert time.process_time() - begun < SECONDS
 
 
 @pytest.mark.parametrize("name", XML)
@@ -189,9 +191,22 @@ ROWS = {
 def test_100_000_rows(name: str) -> None:
     """A file of 100,000 tasks is refused in one line, within seconds."""
     data = many(name)
-    begun = time.monotonic()
+    begun = time.process_time()
     assert "more than 20000" in fault(data)
-    assert time.monotonic() - begun < SECONDS
+    assert time.process_time() - begun < SECONDS
+
+
+def test_a_spreadsheet_of_libreoffice() -> None:
+    """An .ods is refused with what to do; any other package is not taken for one."""
+    for kind, line in (
+        ("application/vnd.oasis.opendocument.spreadsheet", "(.ods); save it as .xlsx"),
+        ("application/epub+zip", "another program that is packed as zip"),
+    ):
+        packed = io.BytesIO()
+        with zipfile.ZipFile(packed, "w") as book:
+            book.writestr("mimetype", kind)
+            book.writestr("content.xml", "<office:document-content/>", zipfile.ZIP_DEFLATED)
+        assert line in fault(packed.getvalue())
 
 
 @pytest.mark.parametrize("name", ("gan", "gnome_planner"))

@@ -303,10 +303,19 @@ def free_days(plan: Plan, days: int = 40) -> list[date]:
             ),
             [2, 16],
         ),
+        (exception("4", "2026-03-02", "2026-12-31", "<MonthDay>5</MonthDay>"), [5]),
+        (
+            exception("4", "2026-01-05", "2027-01-05", "<MonthDay>5</MonthDay><Period>2</Period>"),
+            [5],
+        ),
+        (
+            exception("4", "2026-02-05", "2027-01-05", "<MonthDay>5</MonthDay><Period>2</Period>"),
+            [],
+        ),
     ),
 )
 def test_exceptions(part: str, days: list[int]) -> None:
-    """Stretches of days, days of each year, days of weeks."""
+    """Stretches of days, days of each year, of months, and of weeks."""
     reading = read(task(1, DAY), head(calendar(1, "C", f"<Exceptions>{part}</Exceptions>")))
     assert [day.day for day in free_days(reading.plan, 30)] == days and kinds(reading) == []
 
@@ -315,6 +324,9 @@ def test_exceptions(part: str, days: list[int]) -> None:
     "part",
     (
         exception("4", "2026-03-03", "2026-12-04"),
+        exception("4", "2026-03-03", "2026-12-04", "<MonthDay>31</MonthDay>"),
+        exception("4", "2026-03-03", "2026-12-04", "<MonthDay>2</MonthDay><Period>2</Period>"),
+        exception("5", "2026-03-03", "2026-12-04", "<MonthItem>4</MonthItem>"),
         exception("2", "2026-03-03", "2026-12-04"),
         exception("6", "2026-03-03", "2026-12-04"),
         exception("2", "2026-03-03", "2026-12-04", "<Month>1</Month><MonthDay>30</MonthDay>"),

@@ -13,6 +13,9 @@ from pert_companion.readers.base import Reading, ReaderOptions, Source
 _XML = ("mspdi", "pmxml", "gan", "gnome_planner")
 _PACKED = b"PK\x03\x04"
 
+_OPEN_DOCUMENT = b"mimetypeapplication/vnd.oasis.opendocument."
+"""The name and content of the first file in a package of OpenDocument, which is not compressed."""
+
 _BINARY = b"\xd0\xcf\x11\xe0"
 """How files of old Office programs begin, .mpp and .xls."""
 
@@ -77,6 +80,8 @@ def _is_xml(data: bytes) -> bool:
 
 
 def _unknown(data: bytes) -> str:
+    if data.startswith(_PACKED) and _OPEN_DOCUMENT in data[:200]:
+        return "a file of LibreOffice (.ods); save it as .xlsx"
     if data.startswith(_PACKED):
         return "no workbook (.xlsx); a file of another program that is packed as zip"
     if _is_xml(data):

@@ -17,6 +17,7 @@ from pert_companion.readers.xmltree import Node, whole
 
 _DAILY = ("", "0", "1")
 _YEARLY = "2"
+_MONTHLY = "4"
 _WEEKLY = "6"
 _MOST_YEARS = 300
 _MOST_DAYS = 20_000
@@ -109,6 +110,8 @@ def _exceptions(part: Node) -> Iterator[CalendarException]:
     days: Iterator[date] = iter(())
     if kind == _YEARLY:
         days = _yearly(first, last, part)
+    elif kind == _MONTHLY:
+        days = _monthly(first, last, part)
     elif kind == _WEEKLY:
         days = _weekly(first, last, part)
     for day in days:
@@ -125,6 +128,23 @@ def _yearly(first: date, last: date, part: Node) -> Iterator[date]:
             day = date(year, month + 1, number)
         except ValueError:
             continue
+        if first <= day <= last:
+            yield day
+
+
+def _monthly(first: date, last: date, part: Node) -> Iterator[date]:
+    """Yields the day of each month, or each second one, ..; none if a month may have no such day.
+
+    It is not known where to count from if only each second one counts and the first is over.
+    """
+    number, months = whole(part.text("MonthDay")), whole(part.text("Period") or "1")
+    if number is None or months is None or not 1 <= number <= 28 or not 1 <= months <= 99:
+        return
+    if months > 1 and number < first.day:
+        return
+    end = min(12 * last.year + last.month, 12 * first.year + 12 * _MOST_YEARS)
+    for month in range(12 * first.year + first.month - 1, end, months):
+        day = date(month // 12, month % 12 + 1, number)
         if first <= day <= last:
             yield day
 
