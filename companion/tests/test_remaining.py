@@ -243,6 +243,30 @@ def test_command_prints_a_table(capfdbinary: pytest.CaptureFixture[bytes]) -> No
     assert errors.count("\n") == 2 and errors.startswith("pert-remaining: FOUND: 1 left")
 
 
+def test_command_has_a_row_for_each_real_task(
+    tmp_path: Path, capfdbinary: pytest.CaptureFixture[bytes]
+) -> None:
+    """A task in parts is one row with what is left of all of them; waits are none."""
+    plan = imported(tmp_path, "ontime.csv", "--as-of", "2026-09-08")
+    assert len(plan.deck.tasks) > len(plan.side.tasks)
+    status, output, _ = run(capfdbinary, tmp_path / "ontime.csv")
+    assert status == 0
+    rows = [line.split() for line in output.split("\n")[1:-2]]
+    assert rows[0] == ["ACTIVITY", "STATE", "LEFT", "CRASH", "COST", "SUNK", "BY"]
+    assert [row[0] for row in rows[1:]] == [task.code for task in plan.side.tasks]
+    rest = rest_of(plan)
+    for task, row in zip(plan.side.tasks, rows[1:], strict=True):
+        parts = [left_of(rest, part) for part in task.parts]
+        assert int(row[2]) == sum(part.normal for part in parts)
+        assert int(row[3]) == sum(part.crash for part in parts)
+    divided = next(task for task in plan.side.tasks if len(task.parts) > 1)
+    states = [left_of(rest, part).state for part in divided.parts]
+    assert states == [State.FINISHED, State.FINISHED, State.BEGUN]
+    assert rows[1 + plan.side.tasks.index(divided)][1:3] == ["begun", "2"]
+    last = output.split("\n")[-2].split()
+    assert last[1:5] == ["0", "of", str(len(plan.side.tasks)), "finished"]
+
+
 def test_command_writes_the_deck_with_its_side_file(
     tmp_path: Path, capfdbinary: pytest.CaptureFixture[bytes]
 ) -> None:

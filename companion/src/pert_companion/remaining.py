@@ -104,6 +104,30 @@ def remaining(deck: Deck, side: SideFile, said: Mapping[str, Said] | None = None
     return _Maker(deck, side, said or {}).remaining()
 
 
+def left_of_tasks(rest: Remaining) -> tuple[Left, ...]:
+    """Returns what is left of each real task, in the order of the plan: the sum of its cards.
+
+    It rests on what its first unfinished card rests on; waits and moments belong to no task.
+    """
+    by_code = {left.code: left for left in rest.left}
+    return tuple(_sum_of([by_code[part] for part in task.parts]) for task in rest.side.tasks)
+
+
+def _sum_of(parts: list[Left]) -> Left:
+    """Returns what is left of a task in parts, of which the first gives its code."""
+    states = {part.state for part in parts}
+    state = states.pop() if len(states) == 1 else State.BEGUN
+    unfinished = [part for part in parts if part.state is not State.FINISHED]
+    return Left(
+        code=parts[0].code,
+        state=state,
+        normal=sum(part.normal for part in parts),
+        crash=sum(part.crash for part in parts),
+        basis=unfinished[0].basis if unfinished else Basis.STATUS,
+        sunk=sum(part.sunk for part in parts),
+    )
+
+
 def read_left(data: bytes, name: str) -> dict[str, Said]:
     """Returns what a `left.csv` says: rows `activity,left[,crash]`, with or without a heading."""
     try:

@@ -11,13 +11,20 @@ from pert_companion.deck import checksum
 from pert_companion.errors import UsageError
 from pert_companion.opening import OpenPlan, open_plan
 from pert_companion.output import write_together, write_whole
-from pert_companion.remaining import Left, Remaining, State, read_left, remaining
+from pert_companion.remaining import (
+    Left,
+    Remaining,
+    State,
+    left_of_tasks,
+    read_left,
+    remaining,
+)
 from pert_companion.sidefile import side_path, to_json
 from pert_companion.writers.aligned import aligned
 
 NAME = "pert-remaining"
 EXAMPLES = """\
-  pert-remaining wing.csv                        what is left of each activity, as of the as-of date
+  pert-remaining wing.csv                        what is left of each task, as of the as-of date
   pert-remaining wing.csv -o rest.csv            the deck of the work that is left
   pert-remaining wing.csv --left left.csv -o rest.csv   with remaining durations of your own
   pert-remaining wing.csv -o rest.csv && pert curve < rest.csv"""
@@ -52,7 +59,7 @@ def run(options: argparse.Namespace) -> int:
     programs_of(options).pert(rest.deck.to_bytes(), form)
     for note in rest.notes:
         say(NAME, note)
-    sys.stdout.write(table(rest))
+    sys.stdout.write(table(rest, plan.has_side_file))
     if options.output is not None:
         write_rest(plan, rest, options.output)
     return 0
@@ -68,15 +75,20 @@ def write_rest(plan: OpenPlan, rest: Remaining, path: Path) -> None:
     write_together([(path, data), (side_path(path), to_json(side))])
 
 
-def table(rest: Remaining) -> str:
-    """Returns a row for each activity: state, durations, costs, and what they rest on."""
-    cards = rest.deck.tasks or rest.deck.activities
-    costs = {card.code: card.cost for card in cards}
-    rows = [_row(left, costs[left.code]) for left in rest.left]
-    done = sum(left.state is State.FINISHED for left in rest.left)
-    sunk = sum(left.sunk for left in rest.left)
+def table(rest: Remaining, has_side_file: bool) -> str:
+    """Returns a row for each real task, or for each activity of a deck without a side file.
+
+    It has the state, durations, costs, and what they rest on.
+    """
+    lefts = left_of_tasks(rest) if has_side_file else rest.left
+    costs = {card.code: card.cost for card in rest.deck.work}
     total = sum(costs.values())
-    state = f"{done} of {len(rest.left)} finished"
+    if has_side_file:
+        costs = {task.code: sum(costs[part] for part in task.parts) for task in rest.side.tasks}
+    rows = [_row(left, costs[left.code]) for left in lefts]
+    done = sum(left.state is State.FINISHED for left in lefts)
+    sunk = sum(left.sunk for left in rest.left)
+    state = f"{done} of {len(lefts)} finished"
     rows.append(("TOTAL", state, "", "", str(total), str(sunk), ""))
     headings = ("ACTIVITY", "STATE", "LEFT", "CRASH", "COST", "SUNK", "BY")
     lines = [f"REMAINING {rest.deck.project.code} {rest.deck.as_of_day}"]
