@@ -253,6 +253,52 @@ def test_nothing_is_wider_than_the_window(browser: Browser, place: Path, name: s
         assert clipped == 0
 
 
+OVERLAPS = """
+(() => {
+    const texts = [...document.querySelectorAll(".chart.curve .plot > g text")]
+        .filter((it) => getComputedStyle(it.parentElement).display !== "none")
+        .map((it) => [it.textContent, it.getBoundingClientRect()]);
+    const found = [];
+    for (const [at, [one, a]] of texts.entries())
+        for (const [two, b] of texts.slice(at + 1))
+            if (a.left < b.right && b.left < a.right && a.top < b.bottom && b.top < a.bottom)
+                found.push(`${one} / ${two}`);
+    return [texts.filter(([text]) => / [0-9]{4}$/.test(text)).length, found];
+})()
+"""
+
+
+def plan_of_span(days: int) -> bytes:
+    """Returns the house as planned, of which only the second task can be shortened: by `days`."""
+    lines = []
+    for line in plan_without_status().split(b"\n"):
+        cells = line.split(b",")
+        if cells[:2] == [b"ACT", b"FOUND"]:
+            cells[8] = str(days + 5).encode()
+        elif cells[0] == b"ACT":
+            cells[9], cells[11] = cells[8], b"0"
+        lines.append(b",".join(cells))
+    return b"\n".join(lines)
+
+
+@needs_chromium
+@pytest.mark.parametrize("span", [None, 1, 2, 3, 6, 95, 995])
+def test_no_two_dates_of_the_curve_overlap(browser: Browser, place: Path, span: int | None) -> None:
+    deck = deck_at(place, "rest")
+    if span is not None:
+        deck = place / f"span{span}.csv"
+        deck.write_bytes(plan_of_span(span))
+    gathered = write_page(deck, place / "dates.html")
+    assert span in (None, gathered.status.longest - gathered.status.shortest)
+    for width in (360, 390, 561, 721, 800, 901, 1400):
+        page = open_checked(browser, place / "dates.html", width=width)
+        count, overlaps = page.run(OVERLAPS)
+        assert overlaps == [], width
+        assert count >= 2
+        if width == 1400 and span in (None, 95, 995):
+            assert count >= 4
+
+
 @needs_chromium
 def test_titles_are_neither_run_nor_turned(browser: Browser, place: Path) -> None:
     write_page(CASES / "evil.csv", place / "evil.html")

@@ -16,6 +16,10 @@ BOX = 1000
 """Points of lines are in a box of so many units on each side."""
 LETTER = 7.2
 """About the width of a letter of labels, in pixels."""
+GAP = 6
+"""The least pixels between two labels."""
+WIDE, MIDDLE, NARROW = 580, 420, 260
+"""The least pixels of an axis in a window of 721, of 561 and of 360 pixels, and on paper."""
 ROUND_STEPS = (1, 2, 5)
 
 
@@ -89,6 +93,56 @@ def anchor(share: Fraction) -> str:
     if share < Fraction(1, 20):
         return "start"
     return "end" if share > Fraction(19, 20) else "middle"
+
+
+def spread(labels: Sequence[tuple[Fraction, str]]) -> tuple[Tick, ...]:
+    """Returns ticks for places from the left to the right of an axis, as many as have room.
+
+    The first and the last one are always there. Of the others, those near the middle go first, and
+    each is left out of windows that are too narrow for it. A label's lines are parted by `|`.
+    """
+    last = len(labels) - 1
+    middle = (labels[0][0] + labels[-1][0]) / 2
+    others = sorted(range(1, last), key=lambda number: (abs(labels[number][0] - middle), number))
+    kept = list(dict.fromkeys((0, last)))
+    level = {number: 0 for number in kept}
+    for place, width in enumerate((NARROW, MIDDLE, WIDE)):
+        for number in others:
+            if number not in level and _has_room(labels, number, kept, width):
+                kept.append(number)
+                level[number] = place
+    return tuple(_spread_tick(labels, number, level[number]) for number in sorted(kept))
+
+
+def _spread_tick(labels: Sequence[tuple[Fraction, str]], number: int, level: int) -> Tick:
+    share, label = labels[number]
+    side = _side(number, len(labels))
+    return Tick(percent(share, 1), label, side, is_minor=level == 1, is_roomy=level == 2)
+
+
+def _side(number: int, count: int) -> str:
+    if number == 0:
+        return "start"
+    return "end" if number == count - 1 else "middle"
+
+
+def _has_room(
+    labels: Sequence[tuple[Fraction, str]], number: int, kept: Sequence[int], width: int
+) -> bool:
+    """Says whether a label is clear of those that are kept, on an axis of so many pixels."""
+    left, right = _extent(labels, number, width)
+    others = [_extent(labels, other, width) for other in kept]
+    return all(right + GAP <= begin or end + GAP <= left for begin, end in others)
+
+
+def _extent(
+    labels: Sequence[tuple[Fraction, str]], number: int, width: int
+) -> tuple[Fraction, Fraction]:
+    share, label = labels[number]
+    needed = Fraction(LETTER) * max(len(line) for line in label.split("|"))
+    before = {"start": Fraction(0), "middle": needed / 2, "end": needed}
+    left = share * width - before[_side(number, len(labels))]
+    return left, left + needed
 
 
 def date_ticks(first: date, days: int) -> list[tuple[int, str, bool]]:

@@ -25,8 +25,6 @@ from pert_companion.page.words import day_text
 HEIGHT = 240
 MOST_OPEN = 24
 """Breakpoints of a table that is not folded."""
-WIDE, NARROW = 560, 260
-"""The least pixels of the curve's width on a desk and on a telephone."""
 
 
 @dataclass(frozen=True)
@@ -253,24 +251,16 @@ def contract_line(gathered: Gathered, x: charts.Scale) -> tuple[Tick, ...]:
 
 
 def length_ticks(gathered: Gathered, x: charts.Scale) -> tuple[Tick, ...]:
-    """Returns ticks of lengths with their dates below."""
+    """Returns ticks of lengths with their dates below, as many as have room."""
     status = gathered.status
-    count = min(4, status.longest - status.shortest)
-    ticks = []
-    for number in range(count + 1):
-        length = status.shortest
-        if count:
-            length += (status.longest - status.shortest) * number // count
-        share = x.share(length)
-        label = f"{length}|{day_text(status.clock.end(length))}"
-        ticks.append(Tick(charts.percent(share, 1), label, _end(number, count), number % 2 == 1))
-    return tuple(ticks)
-
-
-def _end(number: int, count: int) -> str:
-    if number == 0:
-        return "start"
-    return "end" if number == count else "middle"
+    span = status.longest - status.shortest
+    count = max(1, min(4, span))
+    numbers = range(count + 1) if span else range(1)
+    labels = []
+    for number in numbers:
+        length = status.shortest + (span * number + count // 2) // count
+        labels.append((x.share(length), f"{length}|{day_text(status.clock.end(length))}"))
+    return charts.spread(labels)
 
 
 def prices(
@@ -285,10 +275,11 @@ def prices(
         width = x.share(upper.length) - x.share(lower.length)
         text = f"+{book.words.digits(upper.slope or 0)}"
         needed = Fraction(charts.LETTER) * len(text) + 6
-        if width * WIDE < needed:
+        if width * charts.WIDE < needed:
             continue
         middle = (x.share(upper.length) + x.share(lower.length)) / 2
         height = (y.share(upper.cost) + y.share(lower.cost)) / 2
         at = f"{charts.percent(middle, 1)}|{charts.pixels(height, HEIGHT)}"
-        found.append(Tick(at, text, is_minor=width * NARROW < needed))
+        is_minor = width * charts.NARROW < needed
+        found.append(Tick(at, text, "middle", is_minor, width * charts.MIDDLE < needed))
     return found

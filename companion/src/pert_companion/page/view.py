@@ -100,6 +100,9 @@ class Tick:
     label: str
     anchor: str = "middle"
     is_minor: bool = False
+    """Whether a telephone leaves it out."""
+    is_roomy: bool = False
+    """Whether windows of less than 720 pixels leave it out."""
 
 
 @dataclass(frozen=True)
