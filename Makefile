@@ -40,9 +40,11 @@ FISH := share/fish/vendor_completions.d
 all: $(PROGRAMS:%=bin/%)
 
 # All programs are proved and built by one run, which starts from the proofs that earlier runs and `rt check` kept. What an earlier run built is
-# removed first, and bin/ is written last.
+# removed first, and bin/ is written last. Since `make install`, `make dist` and `make deb` may come here too, a line says why it begins.
 $(PROGRAMS:%=bin/%): out/built
 out/built: $(SOURCES)
+	@if [ -e $@ ]; then echo "make: $(firstword $?)$(if $(word 2,$?), and $(words $(wordlist 2,$(words $?),$?)) more files are, is) newer than the programs:" \
+		"proving what changed, and building them again"; else echo "make: the programs are not built yet: proving and building them"; fi
 	@rm -f out/built $(PROGRAMS:%=bin/%)
 	@tools/prove $(PROGRAMS)
 	@mkdir -p bin
