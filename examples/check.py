@@ -3,10 +3,10 @@
 
     python3 check.py DECK < CERTIFICATE
 
-Prints `certified N` and ends with 0, or prints `not certified line K reason R` and ends with 6: K is
-the first line at which something is wrong, R the condition that fails there (docs/certificate.md),
-or 0 if the line is malformed or missing. A deck that cannot be used ends it with one line on
-standard error: status 1 if a card is wrong, 4 if the file cannot be read.
+Prints `certified N` and ends with 0, or prints `not certified line K reason R` and ends with 6: K
+is the first line at which something is wrong, R the condition that fails there
+(docs/certificate.md), or 0 if the line is malformed or missing. A deck that cannot be used ends it
+with one line on standard error: status 1 if a card is wrong, 4 if the file cannot be read.
 
 Of the deck it tests what a certificate depends on: known kinds of cards, PROJECT first and END
 last, codes, numbers, no code twice, events and activities that are there, durations and pieces in
@@ -51,15 +51,19 @@ class Card:
 
     @property
     def kind(self) -> str:
+        """The kind of the card, which is its first field."""
         return self.fields[0]
 
     def code(self, at: int) -> str:
+        """Returns the code in a field."""
         return self._field(at, "[A-Za-z0-9._-]{1,16}", "a code")
 
     def amount(self, at: int) -> int:
+        """Returns the number in a field."""
         return int(self._field(at, "0|[1-9][0-9]{0,12}", "a number"))
 
     def _field(self, at: int, form: str, what: str) -> str:
+        """Returns a field, which must have this form."""
         if len(self.fields) <= at or not re.fullmatch(form, self.fields[at]):
             raise Refused(f"record {self.number}: field {at + 1} is not {what}")
         return self.fields[at]
@@ -104,6 +108,7 @@ class Deck:
     """What a certificate depends on: version, code, events, and activities in card order."""
 
     def __init__(self, name: str) -> None:
+        """Reads the deck of a file."""
         self.events: list[str] = []
         self.named: dict[str, Activity] = {}
         cards = read_cards(name)
@@ -119,6 +124,7 @@ class Deck:
         self.version = 2 if any(activity.pieces for activity in self.activities) else 1
 
     def read_activities(self, cards: list[Card]) -> None:
+        """Reads the activities first, since a PIECE card may be before its ACT card."""
         events = set(self.events)
         items = set(codes_of(cards, "WBS"))
         codes = set(codes_of(cards, "ACT"))
@@ -170,6 +176,7 @@ class Wrong(Exception):
 
 
 def ask(condition: int, holds: bool) -> None:
+    """Raises a condition that does not hold."""
     if not holds:
         raise Wrong(condition)
 
@@ -178,16 +185,19 @@ class Lines:
     """The lines of a certificate, one by one. `count` is the number of the line read last."""
 
     def __init__(self, stream: BinaryIO) -> None:
+        """Begins before the first line."""
         self.stream = stream
         self.count = 0
 
     def next(self) -> str:
+        """Returns the next line, which must have its line feed."""
         self.count += 1
         line = self.stream.readline(LONGEST)
         ask(0, line.endswith(b"\n"))
         return line[:-1].decode("ascii", "replace")
 
     def end(self) -> None:
+        """Checks that nothing follows the last line."""
         self.count += 1
         ask(0, self.stream.read(1) == b"")
 
@@ -284,6 +294,7 @@ def begins_right(before: Segment | None, segment: Segment) -> bool:
 
 
 def check_segment(deck: Deck, lines: Lines, segment: Segment, is_first: bool) -> None:
+    """Checks the lines of a segment, in the order of the deck's cards."""
     for code in deck.events:
         check_event(deck, segment, code, lines.next())
     for activity in deck.activities:
@@ -298,6 +309,7 @@ def check_segment(deck: Deck, lines: Lines, segment: Segment, is_first: bool) ->
 
 
 def check_event(deck: Deck, segment: Segment, code: str, line: str) -> None:
+    """Checks an EVENT line, and keeps its time and whether the event moves."""
     said, time, bit = read(EVENT, line)
     ask(4, said == code)
     if code == deck.start:
@@ -312,6 +324,7 @@ def check_event(deck: Deck, segment: Segment, code: str, line: str) -> None:
 def check_activity(
     segment: Segment, activity: Activity, duration: int, flows: list[int], is_first: bool
 ) -> None:
+    """Checks an ACT line, and adds its flows, its cost and its gain to the segment's."""
     turn = segment.moves[activity.end] - segment.moves[activity.start]
     at_upper = segment.time[activity.end] - segment.time[activity.start]
     at_lower = at_upper - segment.fall * turn
@@ -341,10 +354,12 @@ def check_activity(
 
 
 def add(sums: dict[str, int], event: str, flow: int) -> None:
+    """Adds a flow to what goes through an event."""
     sums[event] = sums.get(event, 0) + flow
 
 
 def check_close(deck: Deck, segment: Segment) -> None:
+    """Checks the sums of a segment, after its last line."""
     for event in deck.events:
         if event not in (deck.start, deck.end):
             ask(9, segment.inflow.get(event, 0) == segment.outflow.get(event, 0))
@@ -356,6 +371,7 @@ def check_close(deck: Deck, segment: Segment) -> None:
 
 
 def main(words: list[str]) -> int:
+    """Reads the deck and the certificate, prints the answer and returns the status."""
     if words == ["--help"]:
         print(__doc__.strip())
         return 0
