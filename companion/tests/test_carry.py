@@ -10,11 +10,12 @@ from hypothesis import HealthCheck, assume, given, settings
 from hypothesis import strategies as st
 from plans import ALL_FEATURES, FIRST_DAY, Feature, plans
 
+from pert_companion.calendar import Calendar
 from pert_companion.carry import Carried, carry
 from pert_companion.days import counted
-from pert_companion.plan import Plan, Progress, Task
+from pert_companion.plan import Link, LinkKind, Plan, Progress, Task
 from pert_companion.programs import Programs
-from pert_companion.scheduling import with_durations
+from pert_companion.scheduling import normal_tasks, with_durations
 from pert_companion.sidefile import SideTask, card_codes, from_json, to_json
 
 EXAMPLES = int(os.environ.get("CARRY_EXAMPLES", "40"))
@@ -45,11 +46,10 @@ def property_settings(share: int = 1) -> settings:
 
 @dataclass(frozen=True)
 class Span:
-    """When a real task begins and ends in the deck at normal durations, and its slack, in units."""
+    """When a real task begins and ends in the deck at normal durations, in units."""
 
     start: int
     finish: int
-    slack: int
 
 
 def spans_of(carried: Carried) -> dict[str, Span]:
@@ -66,9 +66,7 @@ def spans_of(carried: Carried) -> dict[str, Span]:
         if task.finish_moment is not None:
             finish = begins[task.finish_moment]
             start = finish - task.normal if task.start_moment is None else start
-        cards = [*task.parts, task.start_moment, task.finish_moment]
-        slacks = [times.activities[code].slack // 6 for code in cards if code is not None]
-        return Span(start, finish, min(slacks))
+        return Span(start, finish)
 
     return {task.uid: span(task) for task in carried.side.tasks}
 
@@ -107,10 +105,21 @@ def test_late_dates_are_those_of_the_calendar(plan: Plan) -> None:
     """Every task has the total float of a plain CPM, if no link has a lead."""
     carried = carry(plan)
     assume(has_exact_links(carried))
-    unit = carried.side.unit_minutes
     dates = early_dates(plan)
-    for uid, span in spans_of(carried).items():
-        assert span.slack * unit == dates[uid].total_float, uid
+    for task in normal_tasks(PROGRAMS, carried.deck, carried.side):
+        assert task.total_float_minutes == dates[task.uid].total_float, task.uid
+        assert task.is_critical == (dates[task.uid].total_float <= 0), task.uid
+
+
+def test_a_finish_that_waits_is_no_later_than_its_start_allows() -> None:
+    """B ends after A and C begins with B: A has 3 days of float, though the deck's end has 8."""
+    days = {"A": 2, "B": 5, "C": 10}
+    tasks = tuple(Task(name, name, name, count * 480) for name, count in days.items())
+    links = (Link("A", "B", LinkKind.FINISH_FINISH), Link("B", "C", LinkKind.START_START))
+    carried = carry(Plan("P", FIRST_DAY, Calendar(), tasks, links))
+    found = normal_tasks(PROGRAMS, carried.deck, carried.side)
+    assert [task.total_float_minutes // 480 for task in found] == [3, 0, 0]
+    assert [task.is_critical for task in found] == [False, True, True]
 
 
 @st.composite

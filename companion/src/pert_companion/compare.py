@@ -19,7 +19,7 @@ from pert_companion.opening import OpenPlan
 from pert_companion.programs import Programs
 from pert_companion.remaining import Said
 from pert_companion.results import Breakpoint, cost_at
-from pert_companion.scheduling import SIXTHS
+from pert_companion.total_float import SIXTHS
 from pert_companion.writers.figures import day_words
 
 

@@ -16,8 +16,9 @@ from pert_companion.opening import OpenPlan
 from pert_companion.programs import Programs
 from pert_companion.remaining import Remaining, Said, State, remaining
 from pert_companion.schedule import Schedule, ScheduledTask
-from pert_companion.scheduling import SIXTHS, normal_schedule, normal_tasks
+from pert_companion.scheduling import normal_schedule, normal_tasks
 from pert_companion.sidefile import SideTask
+from pert_companion.total_float import SIXTHS
 
 ONE_DAY = timedelta(days=1)
 

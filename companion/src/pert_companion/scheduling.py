@@ -1,8 +1,8 @@
 """Builds the schedule of the real tasks of a deck at one length.
 
-`pert` computes it all: `point` the durations, and `times` of the same network with these durations
-as its estimates the times and slacks. This module reads both by real task and turns counts into
-moments of the plan's calendar.
+`pert` computes the durations (`point`) and the times (`times` of the same network with these
+durations as its estimates). This module reads both by real task and turns counts into moments of
+the plan's calendar. `total_float` has the float of tasks whose finish waits for others.
 """
 
 from collections.abc import Callable, Mapping, Sequence
@@ -13,13 +13,13 @@ from pert_companion import results
 from pert_companion.calendar import EVERY_DAY, Calendar
 from pert_companion.cards import ActivityCard, EventCard, PieceCard, TaskCard
 from pert_companion.deck import Deck
-from pert_companion.errors import ProgramError
+from pert_companion.errors import InputError, ProgramError
 from pert_companion.predecessors import real_links
 from pert_companion.programs import Programs
 from pert_companion.schedule import Schedule, ScheduledTask
 from pert_companion.sidefile import SideFile, SideTask
+from pert_companion.total_float import SIXTHS, LateDates
 
-SIXTHS = 6
 EVERY_DAY_CALENDAR = Calendar("Every day", EVERY_DAY, (), 480, 3360, 30)
 
 
@@ -66,8 +66,19 @@ def _outlines(deck: Deck) -> dict[str, tuple[str, ...]]:
 
 
 def schedule_at(programs: Programs, deck: Deck, side: SideFile, length: int) -> Schedule:
-    """Returns the cheapest schedule for a length in units, as `pert point` has it."""
-    return _schedule(programs, deck, side, lambda network: programs.point(network, length))
+    """Returns the cheapest schedule for a length in units, as `pert point` has it.
+
+    Raises `InputError` that says which lengths there are if this is none of them.
+    """
+    network = programs.network(deck)
+    curve = programs.curve(network)
+    shortest, longest = curve[-1].length, curve[0].length
+    if not shortest <= length <= longest:
+        raise InputError(
+            f"there is no schedule of length {length}: the shortest is {shortest}, and at normal"
+            f" durations it is {longest}"
+        )
+    return schedule_of(programs, deck, side, network, programs.point(network, length), curve)
 
 
 def normal_schedule(programs: Programs, deck: Deck, side: SideFile) -> Schedule:
@@ -208,7 +219,7 @@ class _Builder:
     ) -> None:
         self.side = side
         self.point = point
-        self.times = times
+        self.late = LateDates(network, side, point.durations, times)
         self.activities = {card.code: card for card in network.activities}
         self.early = {code: event.early // SIXTHS for code, event in times.events.items()}
         self.origin = side.calendar.position(side.calendar.morning(side.start))
@@ -245,7 +256,7 @@ class _Builder:
         """Returns a real task with its dates; a milestone is at the end of a day of work."""
         chosen = sum(self.point.durations[part] for part in task.parts)
         start, finish = span(task, self.activities, self.early, self.point.durations)
-        slack = self.slack(task)
+        slack = self.late.total_float(task, start * SIXTHS, finish * SIXTHS)
         begins = self.begin(start) if chosen else self.end(start)
         links = self.links.get(task.code, [])
         return ScheduledTask(
@@ -266,12 +277,6 @@ class _Builder:
             percent="" if task.percent is None else f"{task.percent.normalize():f}",
             resources=tuple(self.resources.get(task.code, [])),
         )
-
-    def slack(self, task: SideTask) -> int:
-        """Returns the least slack of the cards of a task, in sixths of a unit."""
-        cards = [*task.parts]
-        cards.extend(code for code in (task.start_moment, task.finish_moment) if code is not None)
-        return min(self.times.activities[code].slack for code in cards)
 
 
 def _resource_names(deck: Deck) -> dict[str, list[str]]:

@@ -7,6 +7,9 @@ import re
 import shutil
 import subprocess
 from collections.abc import Iterator
+from dataclasses import replace
+from datetime import date
+from decimal import Decimal
 from pathlib import Path
 from typing import Any
 
@@ -25,9 +28,14 @@ from page.reports import (
     write_page,
 )
 from pert_companion import results
+from pert_companion.calendar import Calendar
+from pert_companion.carry import carry
 from pert_companion.page import data
 from pert_companion.page.verify import build_verify_page
+from pert_companion.plan import Crash, Lag, Link, LinkKind, Plan, Task
 from pert_companion.remaining import State
+from pert_companion.scheduling import schedule_at
+from pert_companion.sidefile import to_json
 
 needs_chromium = pytest.mark.skipif(CHROMIUM is None, reason="chromium is missing")
 CASES = Path(__file__).resolve().parents[1] / "cases" / "hostile" / "report"
@@ -109,6 +117,38 @@ def test_each_length_of_400_activities_shows_a_schedule_with_its_cost(
     for length in (lengths.start, lengths.start + 500, lengths.stop - 1):
         point = PROGRAMS.point(network, length)
         assert number(found[length - lengths.start]["cost"]) == point.cost
+
+
+HELD = (
+    {"A": 2, "B": 5, "C": 10, "D": 6},
+    (
+        Link("A", "B", LinkKind.FINISH_FINISH),
+        Link("B", "C", LinkKind.START_START),
+        Link("D", "C", LinkKind.FINISH_FINISH, Lag(480)),
+    ),
+)
+
+
+@needs_chromium
+def test_the_slack_of_the_page_is_that_of_planners(browser: Browser, place: Path) -> None:
+    """A finish that waits for others gives no slack that the start of its task does not have."""
+    days, links = HELD
+    tasks = tuple(Task(name, name, name, count * 480) for name, count in days.items())
+    crash = Crash(5 * 480, slope=Decimal(10))
+    tasks = tuple(replace(task, crash=crash if task.uid == "C" else None) for task in tasks)
+    carried = carry(Plan("P", date(2026, 9, 1), Calendar(), tasks, links))
+    (place / "held.csv").write_bytes(carried.data)
+    (place / "held.json").write_bytes(to_json(carried.side))
+    gathered = write_page(place / "held.csv", place / "held.html")
+    page = open_checked(browser, place / "held.html")
+    lengths = range(gathered.status.shortest, gathered.status.longest + 1)
+    slacks = []
+    for length, shown in zip(lengths, moves(page, lengths), strict=True):
+        schedule = schedule_at(PROGRAMS, carried.deck, carried.side, length)
+        found = [number(shown["rows"][f"t{place}"][3]) for place in range(4)]
+        assert found == [task.total_float_minutes // 480 for task in schedule.tasks]
+        slacks.append(found)
+    assert slacks[-1] == [3, 0, 0, 3]
 
 
 @needs_chromium

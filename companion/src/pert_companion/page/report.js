@@ -158,11 +158,16 @@
             const { from, to } = deck.activities[place];
             early[to] = Math.max(early[to], early[from] + durations[place]);
         }
+        pushBack(durations, late);
+        return { early, late };
+    }
+
+    // Lets every event be early enough for those after it.
+    function pushBack(durations, late) {
         for (let at = order.length - 1; at >= 0; at -= 1) {
             const { from, to } = deck.activities[order[at]];
             late[from] = Math.min(late[from], late[to] - durations[order[at]]);
         }
-        return { early, late };
     }
 
     // ---- Costs
@@ -212,6 +217,38 @@
 
     const sum = (task, durations) => task.parts.reduce((total, part) => total + Number(durations[part]), 0);
 
+    // Returns the latest start of a task after which it ends in time, and so do its parts.
+    function lateStartOf(task, durations, late) {
+        const lateEnd = (card) => late[deck.activities[card].to];
+        const found = task.start >= 0 ? [lateEnd(task.start)] : [];
+        let done = 0;
+        for (const part of task.parts) {
+            done += Number(durations[part]);
+            found.push(lateEnd(part) - done);
+        }
+        if (task.finish >= 0) found.push(lateEnd(task.finish) - done);
+        return Math.min(...found);
+    }
+
+    // Tasks are done in one piece in late dates too: a finish that waits for others comes no later
+    // than the late start plus the work, and what leads to it ends in time. Late times never fall
+    // below early ones: a task that has to pause keeps what slack it has.
+    function holdTogether(durations, { early, late }) {
+        const tied = tasks.filter((task) => task.finish >= 0);
+        let hasChanged = tied.length > 0;
+        while (hasChanged) {
+            hasChanged = false;
+            for (const task of tied) {
+                const event = deck.activities[task.finish].from;
+                const latest = Math.max(early[event], lateStartOf(task, durations, late) + sum(task, durations));
+                if (latest >= late[event]) continue;
+                late[event] = latest;
+                hasChanged = true;
+            }
+            if (hasChanged) pushBack(durations, late);
+        }
+    }
+
     // Returns when a task begins and ends, in units after the start, and its slack.
     function spanOf(task, durations, { early, late }) {
         const [first, last] = [task.parts[0], task.parts[task.parts.length - 1]];
@@ -222,9 +259,9 @@
             finish = early[deck.activities[task.finish].from];
             if (task.start < 0) start = finish - chosen;
         }
-        const cards = [...task.parts, task.start, task.finish].filter((card) => card >= 0);
-        const slacks = cards.map((card) => late[deck.activities[card].to] - early[deck.activities[card].from] - durations[card]);
-        return { start, finish, chosen, slack: Math.min(...slacks) };
+        let slack = lateStartOf(task, durations, late) - start;
+        if (task.finish >= 0) slack = Math.min(slack, late[deck.activities[task.finish].to] - finish);
+        return { start, finish, chosen, slack };
     }
 
     function place(days) {
@@ -340,6 +377,7 @@
         const stop = PertCertificate.readingAt(curve, stopBefore(chosen));
         const durations = here.durations.map(Number);
         const times = timesOf(durations, Number(chosen));
+        holdTogether(durations, times);
         drawCosts(here);
         for (const task of tasks) drawTask(task, durations, times);
         drawChanges(drawChangedRows(here, plan, stop), stop);
