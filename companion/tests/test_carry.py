@@ -1,11 +1,11 @@
 """A plan becomes a deck whose dates are the planner's, or what cannot be is named."""
 
-import os
 from dataclasses import dataclass, replace
 from datetime import timedelta
 from decimal import Decimal
 
 from cpm import Dates, dates_of
+from examples import example_count
 from hypothesis import HealthCheck, assume, given, settings
 from hypothesis import strategies as st
 from plans import ALL_FEATURES, FIRST_DAY, Feature, plans
@@ -18,7 +18,7 @@ from pert_companion.programs import Programs
 from pert_companion.scheduling import normal_tasks, with_durations
 from pert_companion.sidefile import SideTask, card_codes, from_json, to_json
 
-EXAMPLES = int(os.environ.get("CARRY_EXAMPLES", "40"))
+EXAMPLES = example_count(40)
 PROGRAMS = Programs()
 DATES = frozenset(
     {

@@ -1,11 +1,11 @@
 """Random plans written as lists, CSV and xlsx, and read back, are the same plans."""
 
-import os
 from pathlib import Path
 
-from hypothesis import given, settings
+from hypothesis import HealthCheck, given, settings
 from hypothesis import strategies as st
 
+from examples import example_count
 from lists import (
     GERMAN,
     US,
@@ -21,8 +21,9 @@ from pert_companion.readers import table, xlsx
 from pert_companion.readers.base import ReaderOptions, Source
 from plans import ALL_FEATURES, FIRST_DAY, Feature, plans
 
-EXAMPLES = int(os.environ.get("COMPANION_EXAMPLES", "25"))
-"""How many random plans each test draws; set it to 1000 for a long run."""
+FEW = settings(
+    max_examples=example_count(25), deadline=None, suppress_health_check=[HealthCheck.too_slow]
+)
 
 # A list has no column for the week, and CSV none for holidays.
 IN_A_LIST = ALL_FEATURES - {Feature.WEEKS}
@@ -57,7 +58,7 @@ def check_same(read: Plan, written: Plan, form: Form, first_row: int, holidays: 
     )
 
 
-@settings(max_examples=EXAMPLES, deadline=None)
+@FEW
 @given(plans(features=IN_CSV), st.sampled_from((US, GERMAN)), OUTLINES)
 def test_csv(plan: Plan, base: Form, outline: str) -> None:
     """CSV in English and German, with each kind of outline."""
@@ -69,7 +70,7 @@ def test_csv(plan: Plan, base: Form, outline: str) -> None:
     check_same(reading.plan, plan, form, 2, holidays=False)
 
 
-@settings(max_examples=EXAMPLES, deadline=None)
+@FEW
 @given(plans(features=IN_CSV), st.sampled_from(("utf-16", "utf-8-sig", "cp1252")))
 def test_text_in_other_character_sets(plan: Plan, encoding: str) -> None:
     """Tab-separated text as Excel's Unicode Text, and semicolons in cp1252."""
@@ -80,7 +81,7 @@ def test_text_in_other_character_sets(plan: Plan, encoding: str) -> None:
     check_same(reading.plan, plan, form, 2, holidays=False)
 
 
-@settings(max_examples=EXAMPLES, deadline=None)
+@FEW
 @given(plans(features=IN_A_LIST), st.booleans(), st.sampled_from(("level", "wbs", "indent")))
 def test_xlsx(plan: Plan, german: bool, outline: str) -> None:
     """Workbooks with a title, real dates and numbers, and free days on a sheet of their own."""
@@ -92,7 +93,7 @@ def test_xlsx(plan: Plan, german: bool, outline: str) -> None:
     check_same(reading.plan, plan, form, 4, holidays=True)
 
 
-@settings(max_examples=EXAMPLES, deadline=None)
+@FEW
 @given(plans(features=frozenset((Feature.LINK_KINDS, Feature.LAGS))))
 def test_xlsx_with_grouped_rows(plan: Plan) -> None:
     """The outline of the workbook itself makes the groups."""

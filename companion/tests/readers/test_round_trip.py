@@ -11,6 +11,7 @@ from pert_companion import readers
 from pert_companion.calendar import Calendar
 from pert_companion.plan import Constraint, ConstraintKind, Plan, Progress, Task
 from pert_companion.readers.base import Reading, ReaderOptions, Source
+from examples import example_count
 from planner_files import (
     PLANNER_CONSTRAINTS,
     crews,
@@ -67,7 +68,9 @@ IN_PLANNER = frozenset(
         Feature.WEEKS,
     )
 )
-FEW = settings(max_examples=30, deadline=None, suppress_health_check=[HealthCheck.too_slow])
+FEW = settings(
+    max_examples=example_count(30), deadline=None, suppress_health_check=[HealthCheck.too_slow]
+)
 DAYS = 420
 
 

@@ -8,6 +8,7 @@ import pytest
 from hypothesis import HealthCheck, assume, given, settings
 
 from cpm import Dates, dates_of
+from examples import length_count
 from pert_companion.carry import Carried, carry
 from pert_companion.errors import InputError
 from pert_companion.plan import LinkKind, Plan, Task
@@ -36,7 +37,9 @@ FEATURES = frozenset(
         Feature.RESOURCES,
     )
 )
-SLOW = settings(max_examples=12, deadline=None, suppress_health_check=list(HealthCheck))
+SLOW = settings(
+    max_examples=length_count(12), deadline=None, suppress_health_check=list(HealthCheck)
+)
 
 
 def read(data: bytes) -> Plan:
