@@ -104,6 +104,19 @@ def test_csv_has_one_row_a_task(wing: Path, capsys: Capture) -> None:
     assert rows[1]["Predecessors"] == "T2" and rows[0]["Outline"] == "Floor 1"
 
 
+def test_a_length_that_does_not_exist(wing: Path, capsys: Capture) -> None:
+    """Both commands say which lengths there are, and nothing is written."""
+    least = shortest(wing)
+    target = wing.parent / "none.csv"
+    for length in (3, least - 1, 10_000):
+        for command, words in (("schedule", ()), ("export", ("-o", target))):
+            done = run(capsys, command, wing, "--length", length, *words)
+            assert (done.status, done.output) == (1, "")
+            assert f"no schedule of length {length}: the shortest is {least}, and at" in done.error
+            assert done.error.count("\n") == 1
+    assert not target.exists()
+
+
 def book_of(data: bytes) -> Workbook:
     """Returns a workbook as openpyxl reads it."""
     return load_workbook(io.BytesIO(data))
