@@ -2,8 +2,10 @@
 
 import os
 
-from hypothesis import settings
+from hypothesis import HealthCheck, settings
 
-settings.register_profile("gate", derandomize=True, database=None)
-if not os.environ.get("COMPANION_RANDOM"):
-    settings.load_profile("gate")
+# How long an example takes depends on what else the machine does, and is no reason to fail.
+UNTIMED = settings(deadline=None, suppress_health_check=[HealthCheck.too_slow])
+settings.register_profile("gate", parent=UNTIMED, derandomize=True, database=None)
+settings.register_profile("random", parent=UNTIMED)
+settings.load_profile("random" if os.environ.get("COMPANION_RANDOM") else "gate")

@@ -19,6 +19,8 @@ EXAMPLES = HERE.parents[1] / "examples"
 HOUSE = EXAMPLES / "house.csv"
 MONTHS = EXAMPLES / "months"
 PROGRAMS = Programs()
+WITH_INTERRUPTS = ("env", "--default-signal=INT")
+"""Runs a command that Ctrl-C ends, also where the tests ignore it (in the background)."""
 
 
 @dataclass(frozen=True)

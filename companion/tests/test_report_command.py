@@ -11,12 +11,14 @@ from pathlib import Path
 import pytest
 
 from page.certificates import HOUSE, PROGRAMS, bench, house_with_terms
-from pert_companion.cli import report
+from pert_companion.cli import remaining, report, schedule
 from pert_companion.cli.common import run_command
 from pert_companion.page.gathering import Wishes, gather
 from pert_companion.page.verify import build_verify_page
+from running import WITH_INTERRUPTS
 
-SOURCE = Path(__file__).resolve().parents[1] / "src"
+HERE = Path(__file__).resolve().parent
+SOURCE = HERE.parent / "src"
 
 
 def run(*words: object) -> int:
@@ -38,7 +40,7 @@ def test_help_says_which_length_a_page_opens_with(has_terms: bool, tmp_path: Pat
     deck = tmp_path / "house.csv"
     deck.write_bytes(house_with_terms() if has_terms else HOUSE.read_bytes())
     opened = {}
-    for word in ("", "--optimum", "--normal"):
+    for word in ("", "--optimum", "--normal") if has_terms else ("", "--normal"):
         words = [word] if word else []
         options = report.parser().parse_args([str(deck), "-o", "page.html", *words])
         wishes = Wishes(optimum=options.optimum, normal=options.normal)
@@ -50,6 +52,35 @@ def test_help_says_which_length_a_page_opens_with(has_terms: bool, tmp_path: Pat
     else:
         assert opened[""] == opened["--normal"]
         assert "durations (the default if the deck has no TERMS)" in said
+
+
+def test_the_optimum_without_terms_is_refused(
+    tmp_path: Path, capsys: pytest.CaptureFixture[str]
+) -> None:
+    """No length is the cheapest if time has no price; one line says so, and there is no page."""
+    page = tmp_path / "house.html"
+    assert run(HOUSE, "-o", page, "--optimum") == 1
+    assert capsys.readouterr().err == (
+        f"pert-report: {HOUSE}: no TERMS, so that no length is the cheapest\n"
+    )
+    assert not page.exists()
+
+
+def test_a_title_with_a_next_line_character(
+    tmp_path: Path, capsys: pytest.CaptureFixture[str]
+) -> None:
+    """U+0085 is a character of a title, not the end of a line, and is shown as an escape."""
+    deck = HERE / "cases" / "hostile" / "report" / "nel.csv"
+    assert "Ground\x85work" in deck.read_text("utf-8")
+    assert run(deck, "-o", tmp_path / "nel.html") == 0
+    text = (tmp_path / "nel.html").read_text("utf-8")
+    shown = text.partition('type="application/json"')[0]
+    assert "Ground\\x85work" in shown and "\x85" not in shown
+    for module in (schedule, remaining):
+        capsys.readouterr()
+        assert run_command(module.NAME, module.parser(), module.run, [str(deck)]) == 0
+        captured = capsys.readouterr()
+        assert "\x85" not in captured.out + captured.err and "Traceback" not in captured.err
 
 
 def test_the_page_that_checks_pages(tmp_path: Path, capsys: pytest.CaptureFixture[str]) -> None:
@@ -135,13 +166,14 @@ def test_ctrl_c_leaves_no_half_file(tmp_path: Path) -> None:
     real = PROGRAMS.find("pert")
     begun = tmp_path / "begun"
     (folder / "pert").write_text(
-        f'#!/bin/sh\n[ $1 != certify ] || touch {begun}\nexec {real} "$@"\n'
+        f'#!/bin/sh\n[ $1 = certify ] || exec {real} "$@"\n'
+        f"{real} certify | head -n 40\ntouch {begun}\nexec sleep 900\n"
     )
     (folder / "pert").chmod(0o755)
     (folder / "pert_check").symlink_to(PROGRAMS.find("pert_check"))
     command = [sys.executable, "-m", "pert_companion.cli.report", "plan.csv", "-o", "plan.html"]
     running = subprocess.Popen(
-        [*command, "--bin", str(folder)],
+        [*WITH_INTERRUPTS, *command, "--bin", str(folder)],
         cwd=tmp_path,
         env={**os.environ, "PYTHONPATH": str(SOURCE)},
         stderr=subprocess.PIPE,
@@ -151,7 +183,7 @@ def test_ctrl_c_leaves_no_half_file(tmp_path: Path) -> None:
         assert running.poll() is None
         time.sleep(0.01)
     os.killpg(running.pid, signal.SIGINT)
-    _, errors = running.communicate(timeout=60)
+    _, errors = running.communicate(timeout=600)
     assert running.returncode == 1
     assert errors.decode() == "pert-report: interrupted\n"
     assert (tmp_path / "plan.html").read_text() == "the page before"

@@ -16,7 +16,7 @@ from types import TracebackType
 from typing import Any
 
 CHROMIUM = shutil.which("chromium")
-PATIENCE = 120.0  # seconds for an answer; a busy machine is slow
+PATIENCE = 900.0  # seconds after which a browser hangs; a busy machine is slow
 COMMAND = 'exec "$0" "$@" 3<&"$PIPE_IN" 4>&"$PIPE_OUT"'
 
 

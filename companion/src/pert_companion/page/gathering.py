@@ -176,12 +176,12 @@ def gather(programs: Programs, path: Path, wishes: Wishes, progress: Progress) -
     status = status_of(programs, path)
     baseline = None if wishes.baseline is None else open_plan(wishes.baseline)
     previous = None if wishes.previous is None else status_of(programs, wishes.previous)
+    optimum = programs.optimum(status.network).point.length if status.deck.terms else None
+    length = _first_length(status, wishes, optimum)
     certificate = certified(programs, status, progress)
     answer = programs.check(status.text.encode(), certificate.encode())
     if not answer.startswith("certified "):
         raise ProgramError(f"{path}: pert_check says {answer}; there is no page")
-    optimum = programs.optimum(status.network).point.length if status.deck.terms else None
-    length = _first_length(status, wishes, optimum)
     plan = baseline or status.plan
     planned, planned_end = planned_tasks(programs, plan, status.plan)
     period = _period(status)
@@ -218,7 +218,11 @@ def _money(
 
 
 def _first_length(status: Status, wishes: Wishes, optimum: int | None) -> int:
-    """Returns the length that is chosen at first; refuses one that the curve does not have."""
+    """Returns the length that is chosen at first.
+
+    Raises `InputError` if the curve does not have it, or if it should be the cheapest one and the
+    deck has no TERMS to say which that is.
+    """
     if wishes.length is not None:
         if not status.shortest <= wishes.length <= status.longest:
             raise InputError(
@@ -226,6 +230,8 @@ def _first_length(status: Status, wishes: Wishes, optimum: int | None) -> int:
                 f" {status.shortest} to {status.longest}"
             )
         return wishes.length
+    if wishes.optimum and optimum is None:
+        raise InputError(f"{status.plan.path}: no TERMS, so that no length is the cheapest")
     if wishes.normal or optimum is None:
         return status.longest
     return optimum
