@@ -5,6 +5,7 @@ import io
 import json
 import os
 import shutil
+import signal
 import socket
 import subprocess
 import sys
@@ -26,6 +27,7 @@ from pert_companion.portfolio.row import Row, is_stale, row_of, week_name
 from pert_companion.portfolio.stored import Cache, row_from, row_text
 from pert_companion.portfolio.work import Job, packed, rows_of, serve
 from pert_companion.programs import Programs
+from running import WITH_INTERRUPTS
 
 PROGRAMS = Programs()
 BIN = Path(PROGRAMS.find("pert")).parent
@@ -393,7 +395,7 @@ def _server(folder: Path, port: int) -> Iterator[str]:
     assert sshd is not None
     with subprocess.Popen([sshd, "-D", "-e", "-f", str(settings)]) as running:
         try:
-            _wait_for(port)
+            _wait_for(port, running)
             yield (
                 f"1/ssh -p {port} -i {user} -o StrictHostKeyChecking=no -o LogLevel=ERROR"
                 f" -o UserKnownHostsFile={folder}/known 127.0.0.1"
@@ -402,8 +404,9 @@ def _server(folder: Path, port: int) -> Iterator[str]:
             running.terminate()
 
 
-def _wait_for(port: int) -> None:
-    for _ in range(200):
+def _wait_for(port: int, server: "subprocess.Popen[bytes]") -> None:
+    """Waits until a server answers; one that has ended never does."""
+    while server.poll() is None:
         with socket.socket() as probe:
             if probe.connect_ex(("127.0.0.1", port)) == 0:
                 return
@@ -479,22 +482,36 @@ def test_without_parallel_there_are_no_hosts(
     assert "apt install parallel" in capsys.readouterr().err
 
 
-def test_an_interrupt_leaves_no_page(decks: Path) -> None:
-    """Ctrl-C ends it with one line, and nothing is written; a stand-in for pert takes long."""
+@pytest.mark.parametrize("whole_group", [True, False])
+def test_an_interrupt_leaves_no_page(decks: Path, whole_group: bool) -> None:
+    """Ctrl-C ends it and the programs that run at once, with one line, and nothing is written.
+
+    A terminal interrupts the whole group; `kill` the one process. A stand-in for pert takes long.
+    """
     (decks / "bin").mkdir()
     for name in ("pert", "pert_check"):
         program = decks / "bin" / name
-        program.write_text(f"#!/bin/sh\ntouch {decks}/begun\nexec sleep 5\n")
+        program.write_text(
+            f"#!/bin/sh\necho $$ >{decks}/begun.new\nmv {decks}/begun.new {decks}/begun\n"
+            "exec sleep 900\n"
+        )
         program.chmod(0o755)
     words = [str(COMMAND), str(decks / "shed.csv"), "--no-cache", "--bin", str(decks / "bin")]
     words += ["-o", str(decks / "page.html")]
+    words = [*WITH_INTERRUPTS, *words]
     with subprocess.Popen(words, stderr=subprocess.PIPE, start_new_session=True) as running:
         while not (decks / "begun").exists():
+            assert running.poll() is None
             time.sleep(0.1)
-        os.killpg(running.pid, 2)
-        _, said = running.communicate(timeout=120)
+        if whole_group:
+            os.killpg(running.pid, signal.SIGINT)
+        else:
+            os.kill(running.pid, signal.SIGINT)
+        _, said = running.communicate(timeout=600)
     assert (running.returncode, said) == (1, b"pert-portfolio: interrupted\n")
     assert not (decks / "page.html").exists()
+    with pytest.raises(ProcessLookupError):
+        os.kill(int((decks / "begun").read_text()), 0)
 
 
 def test_a_worker_refuses_what_is_no_deck() -> None:

@@ -10,7 +10,9 @@ import tempfile
 from collections.abc import Callable, Iterable, Iterator, Sequence
 from concurrent.futures import ProcessPoolExecutor, as_completed
 from dataclasses import dataclass
+from multiprocessing import active_children
 from pathlib import Path
+from types import FrameType
 
 from pert_companion.errors import CompanionError, UsageError
 from pert_companion.portfolio.row import Row, row_of
@@ -74,7 +76,7 @@ def _here(programs: Programs, jobs: Sequence[tuple[int, Job]]) -> Iterator[tuple
     if not jobs:
         return
     workers = min(len(jobs), len(os.sched_getaffinity(0)))
-    with ProcessPoolExecutor(workers, initializer=_let_parent_stop) as pool:
+    with ProcessPoolExecutor(workers, initializer=_leave_stopping_to_parent) as pool:
         waiting = {
             pool.submit(row_of, programs, job.path, job.previous, job.name): number
             for number, job in jobs
@@ -84,12 +86,27 @@ def _here(programs: Programs, jobs: Sequence[tuple[int, Job]]) -> Iterator[tuple
                 yield waiting[future], future.result()
         except BaseException:
             pool.shutdown(wait=False, cancel_futures=True)
+            for worker in active_children():
+                worker.terminate()
             raise
 
 
-def _let_parent_stop() -> None:
-    """Leaves an interrupt to the process that started this one."""
-    signal.signal(signal.SIGINT, signal.SIG_IGN)
+def _leave_stopping_to_parent() -> None:
+    """Lets this process pass over an interrupt, and stop when its parent terminates it.
+
+    The interrupt has a handler and is not ignored, because programs would inherit that and run on.
+    """
+    signal.signal(signal.SIGINT, _pass_over)
+    signal.signal(signal.SIGTERM, _stop)
+
+
+def _pass_over(_signal: int, _frame: FrameType | None) -> None:
+    """Does nothing."""
+
+
+def _stop(_signal: int, _frame: FrameType | None) -> None:
+    """Ends this process; `subprocess.run` kills the program that runs on the way out."""
+    raise SystemExit
 
 
 def _there(hosts: Hosts, jobs: Sequence[tuple[int, Job]]) -> Iterator[tuple[int, Row]]:
