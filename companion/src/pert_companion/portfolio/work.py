@@ -141,7 +141,7 @@ def _there(hosts: Hosts, jobs: Sequence[tuple[int, Job]]) -> Iterator[tuple[int,
 
 
 def _with_shell() -> dict[str, str]:
-    """Returns the environment with a plain shell: where SHELL is not set, parallel starts nothing."""
+    """Returns the environment with a plain shell; without SHELL, parallel starts nothing."""
     return {**os.environ, "SHELL": "/bin/sh"}
 
 
