@@ -35,6 +35,20 @@ def test_a_page_is_written(tmp_path: Path, capsys: pytest.CaptureFixture[str]) -
     assert capsys.readouterr().err == f"pert-report: {page}: {size} bytes, certified 4\n"
 
 
+def test_a_charge_of_the_past_that_came_or_went(tmp_path: Path) -> None:
+    """A charge before the last report that only one of the two decks has is restated past."""
+    last_month = tmp_path / "march.csv"
+    deck = HOUSE.read_text("utf-8")
+    charge = next(line for line in deck.splitlines() if line.startswith("CHARGE,"))
+    last_month.write_text(deck.replace(f"{charge}\n", ""), "utf-8")
+    amount = int(charge.split(",")[3])
+    for now, before, sign in ((HOUSE, last_month, "+"), (last_month, HOUSE, "\u2212")):
+        page = tmp_path / "page.html"
+        assert run(now, "-o", page, "--previous", before) == 0
+        text = page.read_text("utf-8")
+        assert "Restated past" in text and f"{sign}{amount:,}" in text
+
+
 @pytest.mark.parametrize("has_terms", [False, True])
 def test_help_says_which_length_a_page_opens_with(has_terms: bool, tmp_path: Path) -> None:
     deck = tmp_path / "house.csv"

@@ -302,9 +302,14 @@ def _restated_charges(comparison: Comparison) -> dict[str, int]:
     found: dict[str, int] = {}
     for entry in comparison.restated:
         if entry.what == "charges":
-            more = int(entry.new or 0) - int(entry.old or 0)
+            more = _charged(entry.new) - _charged(entry.old)
             found[entry.subject] = found.get(entry.subject, 0) + more
     return found
+
+
+def _charged(amount: str) -> int:
+    """Returns the amount of a charge, 0 for one that a state does not have."""
+    return 0 if amount in ("", "none") else int(amount)
 
 
 def _more_tables(comparison: Comparison) -> Iterator[Table]:
