@@ -26,7 +26,7 @@ COMMANDS := $(sort $(notdir $(wildcard companion/bin/*)))
 PACKAGE := $(shell cd companion/src 2>/dev/null && find pert_companion -type f ! -name '*.pyc' | LC_ALL=C sort)
 
 VERSION := $(shell cat VERSION)
-SOURCES := crates.txt VERSION Makefile tools/prove \
+SOURCES := crates.txt VERSION Makefile tools/prove $(wildcard tools/proving/*.py) \
 	$(shell find crates -path '*/out' -prune -o -type f \( -name '*.rt' -o -name '*.antt' \) -print)
 ROOT := $(DESTDIR)$(PREFIX)
 LIBRARY := $(ROOT)/lib/pert-companion
