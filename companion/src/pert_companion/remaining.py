@@ -110,11 +110,12 @@ def left_of_tasks(rest: Remaining) -> tuple[Left, ...]:
     It rests on what its first unfinished card rests on; waits and moments belong to no task.
     """
     by_code = {left.code: left for left in rest.left}
-    return tuple(_sum_of([by_code[part] for part in task.parts]) for task in rest.side.tasks)
+    return tuple(_left_of(task, by_code) for task in rest.side.tasks)
 
 
-def _sum_of(parts: list[Left]) -> Left:
+def _left_of(task: SideTask, by_code: Mapping[str, Left]) -> Left:
     """Returns what is left of a task in parts, of which the first gives its code."""
+    parts = [by_code[part] for part in task.parts]
     states = {part.state for part in parts}
     state = states.pop() if len(states) == 1 else State.BEGUN
     unfinished = [part for part in parts if part.state is not State.FINISHED]

@@ -2,6 +2,7 @@
 
 import argparse
 import sys
+from collections.abc import Mapping
 from dataclasses import replace
 from pathlib import Path
 
@@ -19,7 +20,7 @@ from pert_companion.remaining import (
     read_left,
     remaining,
 )
-from pert_companion.sidefile import side_path, to_json
+from pert_companion.sidefile import SideTask, side_path, to_json
 from pert_companion.writers.aligned import aligned
 
 NAME = "pert-remaining"
@@ -84,7 +85,7 @@ def table(rest: Remaining, has_side_file: bool) -> str:
     costs = {card.code: card.cost for card in rest.deck.work}
     total = sum(costs.values())
     if has_side_file:
-        costs = {task.code: sum(costs[part] for part in task.parts) for task in rest.side.tasks}
+        costs = {task.code: _cost(task, costs) for task in rest.side.tasks}
     rows = [_row(left, costs[left.code]) for left in lefts]
     done = sum(left.state is State.FINISHED for left in lefts)
     sunk = sum(left.sunk for left in rest.left)
@@ -94,6 +95,11 @@ def table(rest: Remaining, has_side_file: bool) -> str:
     lines = [f"REMAINING {rest.deck.project.code} {rest.deck.as_of_day}"]
     lines.extend(aligned(headings, rows, "llrrrrl"))
     return "".join(f"{line}\n" for line in lines)
+
+
+def _cost(task: SideTask, costs: Mapping[str, int]) -> int:
+    """Returns what a real task costs: the sum of its cards."""
+    return sum(costs[part] for part in task.parts)
 
 
 def _row(left: Left, cost: int) -> tuple[str, ...]:
