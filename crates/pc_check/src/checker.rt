@@ -30,7 +30,7 @@ pub struct Checker<'n> {
 }
 
 impl<'n> Drop for Checker<'n> {
-    // Written out, so that who lets one go cites this proof.
+    // Written by hand so that the proof of dropping it is done once, here.
     fn drop(self) {
         let Checker {
             net: _net,

@@ -54,7 +54,7 @@ pub struct Tally {
 }
 
 impl Drop for Tally {
-    // Written out, so that who lets one go cites this proof.
+    // Written by hand so that the proof of dropping it is done once, here.
     fn drop(self) {
         let Tally {
             upper: _upper,

@@ -66,7 +66,7 @@ pub struct CrashNet<'n> {
 }
 
 impl<'n> Drop for CrashNet<'n> {
-    // Written out, so that who lets a network go cites this proof.
+    // Written by hand so that the proof of dropping a network is done once, here.
     fn drop(self) {
         let CrashNet {
             net: _net,

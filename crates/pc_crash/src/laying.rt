@@ -30,7 +30,7 @@ pub(crate) struct PriceTable {
 }
 
 impl Drop for PriceTable {
-    // Written out, so that who lets a layout go cites this proof.
+    // Written by hand so that the proof of dropping a layout is done once, here.
     fn drop(self) {
         let PriceTable {
             rows: _rows,

@@ -31,7 +31,7 @@ pub(crate) struct LinkTable {
 }
 
 impl Drop for LinkTable {
-    // Written out, so that who lets a table go cites this proof.
+    // Written by hand so that the proof of dropping a table is done once, here.
     fn drop(self) {
         let LinkTable {
             rows: _rows,

@@ -37,7 +37,7 @@ pub struct Solver<'n> {
 }
 
 impl<'n> Drop for Solver<'n> {
-    // Written out, so that who lets one go cites this proof.
+    // Written by hand so that the proof of dropping it is done once, here.
     fn drop(self) {
         let Solver {
             search: _search,

@@ -25,7 +25,7 @@ pub struct Net {
 }
 
 impl Drop for Net {
-    // Written out, so that who lets a network go cites this proof.
+    // Written by hand so that the proof of dropping a network is done once, here.
     fn drop(self) {
         let Net {
             graph: _graph,

@@ -15,7 +15,7 @@ use Rattle.pc_project.specs.Project.{Project}
 use Rattle.pc_accounts.specs.declared.status.StatusRow.{StatusRow}
 use Rattle.pc_accounts.specs.status.Statuses.{status_at, AreInOrder, IsOf, IsSixths, IsStateOf}
 use Rattle.pc_faults.specs.declared.fault.StatusFault.TheVariants.{Late}
-use Rattle.pc_times.specs.declared.TheConstants.{MAX_LENGTH, MAX_TIME}
+use Rattle.pc_times.specs.declared.TheConstants.{MAX_ACTIVITY_LENGTH, MAX_TIME}
 use Rattle.pc_times.specs.declared.forecasts.ActState.{ActState}
 use Rattle.pc_times.specs.declared.forecasts.ActState.TheVariants.{Waiting, Started, Finished}
 use Rattle.pc_times.specs.Times.{AreLengths}
@@ -44,12 +44,13 @@ state_up_to start as_of statuses a most (Started at) in_order last (none, (k, (f
 state_up_to start as_of statuses a most Waiting in_order last is = tt
 
 -- a finish is later than the times before it by no more than the greatest length
-finish_bound : (state : ActState) (len as_of begin most : ℕ) → IsStateUpTo most state → len ≤ MAX_LENGTH → as_of ≤ most → begin ≤ most → finish_of state len as_of begin ≤ most + MAX_LENGTH
+finish_bound : (state : ActState) (len as_of begin most : ℕ) → IsStateUpTo most state → len ≤ MAX_ACTIVITY_LENGTH → as_of ≤ most → begin ≤ most
+    → finish_of state len as_of begin ≤ most + MAX_ACTIVITY_LENGTH
 finish_bound (Finished at) len as_of begin most state short early below = omega (arith, state)
 finish_bound (Started at) len as_of begin most state short early below = omega (arith, state)
 finish_bound Waiting len as_of begin most state short early below = by_test (len == 0)
   where
-    by_test : (b : Bool) → cond b begin (max begin as_of + len) ≤ most + MAX_LENGTH
+    by_test : (b : Bool) → cond b begin (max begin as_of + len) ≤ most + MAX_ACTIVITY_LENGTH
     by_test true = omega arith
     by_test false = omega arith
 
@@ -64,7 +65,7 @@ module _ (net : Network) (lengths : List ℕ) (states : List ActState) (as_of : 
     IsStateUpTo as_of (state_at states a)) (forecast : IsForecast net lengths states as_of expected) where
   -- the k-th event of the order is forecast no later than that
   IsSoon : ℕ → Type 0
-  IsSoon k = slice_index expected.times (slice_index order k) ≤ as_of + k * MAX_LENGTH
+  IsSoon k = slice_index expected.times (slice_index order k) ≤ as_of + k * MAX_ACTIVITY_LENGTH
 
   soon_here : (k : ℕ) → k < length order → ((j : ℕ) → j < k → IsSoon j) → IsSoon k
   unfolding IsSoon
@@ -75,13 +76,14 @@ module _ (net : Network) (lengths : List ℕ) (states : List ActState) (as_of : 
     where
       of_last : (a : ℕ) → a < length net.arcs → to_of net.arcs a ≡ slice_index order k →
           slice_index expected.finishes a ≡ slice_index expected.times (slice_index order k) →
-          slice_index expected.times (slice_index order k) ≤ as_of + k * MAX_LENGTH
+          slice_index expected.times (slice_index order k) ≤ as_of + k * MAX_ACTIVITY_LENGTH
       of_last a in_arcs ends is =
           let (i, lower, at) = ordered.part.before k a in_order in_arcs ends in
-          let begins : slice_index expected.times (from_of net.arcs a) ≤ as_of + i * MAX_LENGTH = subst (λ (e : ℕ). slice_index expected.times e ≤ as_of + i * MAX_LENGTH) at (so_far i lower) in
-          let later : as_of ≤ as_of + i * MAX_LENGTH = omega arith in
+          let begins : slice_index expected.times (from_of net.arcs a) ≤ as_of + i * MAX_ACTIVITY_LENGTH =
+              subst (λ (e : ℕ). slice_index expected.times e ≤ as_of + i * MAX_ACTIVITY_LENGTH) at (so_far i lower) in
+          let later : as_of ≤ as_of + i * MAX_ACTIVITY_LENGTH = omega arith in
           let bound = finish_bound (state_at states a) (slice_index lengths a) as_of (slice_index expected.times (from_of net.arcs a))
-          (as_of + i * MAX_LENGTH) (state_more (state_at states a) as_of (as_of + i * MAX_LENGTH) later (known a in_arcs))
+          (as_of + i * MAX_ACTIVITY_LENGTH) (state_more (state_at states a) as_of (as_of + i * MAX_ACTIVITY_LENGTH) later (known a in_arcs))
           (fit.small a in_arcs) later begins in
           omega (arith, bound, forecast.activity a in_arcs, is)
 
@@ -95,7 +97,7 @@ module _ (net : Network) (lengths : List ℕ) (states : List ActState) (as_of : 
   unfolding IsSoon
   soon few e below =
       let (k, in_order, at) = stands_in_order net order ordered e below in
-      let here : slice_index expected.times (slice_index order k) ≤ as_of + k * MAX_LENGTH = soon_to (length order) (omega arith) k in_order in
+      let here : slice_index expected.times (slice_index order k) ≤ as_of + k * MAX_ACTIVITY_LENGTH = soon_to (length order) (omega arith) k in_order in
       omega (arith, here, ap (slice_index expected.times) at, ordered.whole)
 
 -- the times of a project's forecast are soon enough to be dated

@@ -10,7 +10,7 @@ use Rattle.pc_model.specs.Walk.{from_of, to_of}
 use Rattle.pc_model.specs.Network.{Network, IsInRange, IsSound, IsOrder, IsEntered}
 use Rattle.pc_model.proofs.Walks.WalkLaws.{last_of_walk, greatest_unique}
 use Rattle.pc_model.proofs.Walks.OrderLaws.{stands_in_order}
-use Rattle.pc_times.specs.declared.TheConstants.{MAX_LENGTH, MAX_TIME}
+use Rattle.pc_times.specs.declared.TheConstants.{MAX_ACTIVITY_LENGTH, MAX_TIME}
 use Rattle.pc_times.specs.declared.forecasts.ActState.{ActState}
 use Rattle.pc_times.specs.declared.forecasts.ActState.TheVariants.{Waiting, Started, Finished}
 use Rattle.pc_times.specs.Times.{AreLengths}
@@ -55,22 +55,22 @@ last_all net g items e k n sound below listed all so_far = record {
 pub record AreLastTo (net : Network) (lengths : List ℕ) (states : List ActState) (as_of : ℕ) (times order : List ℕ) (k : ℕ) : Type 0 where
   pub one_each : length times ≡ net.events
   pub each : (j : ℕ) → j < k → IsLastAt net (finish_at net lengths states as_of times) (slice_index order j) (slice_index times (slice_index order j))
-  pub small : (e : ℕ) → slice_index times e ≤ 2 ^ 40 + k * MAX_LENGTH
+  pub small : (e : ℕ) → slice_index times e ≤ 2 ^ 40 + k * MAX_ACTIVITY_LENGTH
 
 -- a finish is later than the times before it by no more than the greatest length
-finish_bound : (state : ActState) (len as_of begin most : ℕ) → IsSmallState state → len ≤ MAX_LENGTH → as_of < 2 ^ 40 → 2 ^ 40 ≤ most →
-    begin ≤ most → finish_of state len as_of begin ≤ most + MAX_LENGTH
+finish_bound : (state : ActState) (len as_of begin most : ℕ) → IsSmallState state → len ≤ MAX_ACTIVITY_LENGTH → as_of < 2 ^ 40 → 2 ^ 40 ≤ most →
+    begin ≤ most → finish_of state len as_of begin ≤ most + MAX_ACTIVITY_LENGTH
 finish_bound (Finished at) len as_of begin most state short early large below = omega (arith, state)
 finish_bound (Started at) len as_of begin most state short early large below = omega (arith, state)
 finish_bound Waiting len as_of begin most state short early large below = by_test (len == 0)
   where
-    by_test : (b : Bool) → cond b begin (max begin as_of + len) ≤ most + MAX_LENGTH
+    by_test : (b : Bool) → cond b begin (max begin as_of + len) ≤ most + MAX_ACTIVITY_LENGTH
     by_test true = omega arith
     by_test false = omega arith
 
 pub finish_at-bound : (net : Network) (lengths : List ℕ) (states : List ActState) (as_of most : ℕ) (times : List ℕ) (a : ℕ) →
     AreLengths net lengths → AreStates net states → as_of < 2 ^ 40 → 2 ^ 40 ≤ most → ((e : ℕ) → slice_index times e ≤ most) →
-    a < length net.arcs → finish_at net lengths states as_of times a ≤ most + MAX_LENGTH
+    a < length net.arcs → finish_at net lengths states as_of times a ≤ most + MAX_ACTIVITY_LENGTH
 finish_at-bound net lengths states as_of most times a fit known early large small in_arcs =
     finish_bound (state_at states a) (slice_index lengths a) as_of (slice_index times (from_of net.arcs a)) most (known.small a in_arcs) (fit.small a in_arcs) early large (small (from_of net.arcs a))
 
@@ -121,13 +121,13 @@ last_step net lengths states as_of times order k n ordered fit known early so_fa
         let apart : from_of net.arcs a ≢ event = λ same. ordered.part.once i k (omega arith) in_order (at ∙ same) in
         finish_same net lengths states as_of times (set times event n) a (sym (get_or-set_other times event (from_of net.arcs a) n 0 apart))
 
-    bound : n ≤ 2 ^ 40 + (k + 1) * MAX_LENGTH
+    bound : n ≤ 2 ^ 40 + (k + 1) * MAX_ACTIVITY_LENGTH
     bound =
         ⊎_elim (λ start. omega (arith, last.none start))
         (λ not_start. let (a, (in_arcs, ends, at)) = last.met not_start in
         omega (
           arith,
-          finish_at-bound net lengths states as_of (2 ^ 40 + k * MAX_LENGTH) times a fit known early
+          finish_at-bound net lengths states as_of (2 ^ 40 + k * MAX_ACTIVITY_LENGTH) times a fit known early
               (omega arith) so_far.small in_arcs,
         ))
         (cases_eq event net.start)
@@ -138,7 +138,7 @@ pub small_so_far : (net : Network) (lengths : List ℕ) (states : List ActState)
     slice_index times e ≤ 2 ^ 40 + MAX_TIME
 small_so_far net lengths states as_of times order k few le so_far e =
     let least : k ≤ MAX_EVENTS = omega arith in
-    omega (arith, so_far.small e, mul-le-mul_right MAX_LENGTH least)
+    omega (arith, so_far.small e, mul-le-mul_right MAX_ACTIVITY_LENGTH least)
 
 -- all events
 pub last_times : (net : Network) (lengths : List ℕ) (states : List ActState) (as_of : ℕ) (times order : List ℕ) (k : ℕ) →

@@ -11,11 +11,11 @@ use Rattle.pc_times.specs.inside.Times.{AreTails}
 use Rattle.pc_times.specs.Late.{AreLate}
 use Rattle.pc_times.specs.inside.Late.{IsUpTo}
 use Rattle.pc_times.specs.inside.Passes.{HasBoundedWalks}
-use Rattle.pc_times.specs.declared.TheConstants.{MAX_LENGTH, MAX_TIME}
+use Rattle.pc_times.specs.declared.TheConstants.{MAX_ACTIVITY_LENGTH, MAX_TIME}
 
 -- the longest walk that a network can have takes the greatest time
-greatest_time : (net : Network) (lengths : List ℕ) → HasBoundedWalks net lengths → net.events * MAX_LENGTH ≤ MAX_TIME
-greatest_time net lengths walks = omega (arith, mul-le-mul_right MAX_LENGTH walks.few)
+greatest_time : (net : Network) (lengths : List ℕ) → HasBoundedWalks net lengths → net.events * MAX_ACTIVITY_LENGTH ≤ MAX_TIME
+greatest_time net lengths walks = omega (arith, mul-le-mul_right MAX_ACTIVITY_LENGTH walks.few)
 
 -- no event's time is above the greatest one
 pub early_limit : (net : Network) (lengths times : List ℕ) → HasBoundedWalks net lengths → AreEarly net lengths times → All (λ time. time ≤ MAX_TIME) times

@@ -9,7 +9,7 @@ use Rattle.pc_model.specs.Network.{Network, IsInRange, IsSound, IsOrder, IsEnter
 use Rattle.pc_model.proofs.Walks.WalkLaws.{IsWalk-push, walk_sum-push, last_of_walk, walk_sum-bound}
 use Rattle.pc_model.proofs.Walks.OrderLaws.{walk_is_short, stands_in_order, same_place}
 use Rattle.pc_model.specs.declared.limits.TheConstants.{MAX_EVENTS}
-use Rattle.pc_times.specs.declared.TheConstants.{MAX_LENGTH}
+use Rattle.pc_times.specs.declared.TheConstants.{MAX_ACTIVITY_LENGTH}
 use Rattle.pc_times.specs.Times.{IsTail, AreLengths, AreEarly}
 use Rattle.pc_times.specs.inside.Times.{AreTails}
 use Rattle.pc_times.specs.inside.Passes.{HasBoundedWalks, AreEarlyBefore, AreTailsAfter}
@@ -178,7 +178,7 @@ has_bounded_walks net order lengths ranged sound ordered few lengths_of = record
   sound = sound;
   few = few;
   short = λ e f walk below walked. walk_is_short net order ordered e f walk walked below;
-  fits = walk_sum_fits net order ordered lengths MAX_LENGTH lengths_of.small;
+  fits = walk_sum_fits net order ordered lengths MAX_ACTIVITY_LENGTH lengths_of.small;
 }
 
 -- the times of the first k events of the order are the greatest sums to them

@@ -2,7 +2,7 @@
 ghost use Rattle.std.specs.Prelude.{◌≡◌, ◌*◌, ◌≤◌};
 ghost use Rattle.pc_times.specs.Estimates.{expected_time, variance_of};
 
-use crate::MAX_LENGTH;
+use crate::MAX_ACTIVITY_LENGTH;
 use pc_model::{MAX_DURATION, MAX_UNIT_DAYS};
 
 /// Returns the expected time of an activity, in sixths of a day: `(opt + 4·likely + pess) · unit_days`.
@@ -16,7 +16,7 @@ pub fn expected_sixths(opt: u64, likely: u64, pess: u64, unit_days: u64) -> u64
     ensures value { result ≡ expected_time opt likely pess unit_days }
     ensures least { 6 * (opt * unit_days) ≤ result }
     ensures most { result ≤ 6 * (pess * unit_days) }
-    ensures limit { result ≤ MAX_LENGTH }
+    ensures limit { result ≤ MAX_ACTIVITY_LENGTH }
 {
     (opt + 4 * likely + pess) * unit_days
 }

@@ -4,7 +4,7 @@ ghost use Rattle.pc_model.specs.Network.{IsInRange, IsSound};
 ghost use Rattle.pc_times.specs.Times.{AreLengths};
 ghost use Rattle.pc_times.specs.Forecast.{Expected, finish_of, IsSmallState, AreStates, IsForecast};
 ghost use Rattle.pc_times.specs.inside.Forecast.{finish_at, IsLastAt, AreFinishes, AreLast};
-ghost use Rattle.pc_times.specs.declared.TheConstants.{MAX_LENGTH};
+ghost use Rattle.pc_times.specs.declared.TheConstants.{MAX_ACTIVITY_LENGTH};
 
 use crate::expected::Forecast;
 use pc_net::Net;
@@ -134,7 +134,7 @@ fn finish_at(
 /// When an activity of this length is finished that begins at an event with this time.
 fn finish(state: ActState, length: u64, as_of: u64, begin: u64) -> u64
     requires state { IsSmallState state }
-    requires length { length ≤ MAX_LENGTH }
+    requires length { length ≤ MAX_ACTIVITY_LENGTH }
     requires as_of { as_of < 2 ^ 40 }
     requires begin { begin < 2 ^ 41 }
     ensures { result ≡ finish_of state length as_of begin }

@@ -17,7 +17,7 @@ pub use found::Longest;
 pub use path::{critical_path, critical_path_into, longest};
 
 /// The greatest length of an activity, in sixths of a day: 100,000 units of 7 days.
-pub const MAX_LENGTH: u64 = 4_200_000;
+pub const MAX_ACTIVITY_LENGTH: u64 = 4_200_000;
 
 /// The greatest time of an event, in sixths of a day: no walk has more than 10,000 activities, each of the greatest
 /// length.

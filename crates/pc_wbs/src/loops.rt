@@ -9,7 +9,7 @@ use crate::error::{Indices, TreeError};
 use crate::tree::{ItemRow, parent_of};
 use std::alloc::{AllocError, Global};
 
-/// So often is a climb doubled, that it has at least as many steps as there are rows.
+/// How often a climb is doubled, so that it has at least as many steps as there can be rows.
 const DOUBLINGS: u32 = 14;
 
 /// Refuses rows that have a loop.

@@ -22,7 +22,7 @@ pub struct Tree {
 }
 
 impl Drop for Tree {
-    // Written out, so that who lets a tree go cites this proof.
+    // Written by hand so that the proof of dropping a tree is done once, here.
     fn drop(self) {
         let Tree {
             rows: _rows,

@@ -1,5 +1,5 @@
--- Which decks of a sort are accepted, of which project each is the deck, and with which fault each other one is refused: of plans that
--- of their cards, of decks of tasks that of the plan that is drawn of them.
+-- Which decks of a sort are accepted, the project of each, and the fault with which each other deck is refused. For a plan these are the project
+-- and the fault of its cards, for a deck of tasks those of the plan that is generated from it.
 use Rattle.std.specs.Prelude.{ℕ, List}
 use Rattle.pc_cards.specs.declared.sort.Sort.{Sort}
 use Rattle.pc_cards.specs.declared.sort.Sort.TheVariants.{Plan, Tasks}

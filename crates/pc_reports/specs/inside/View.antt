@@ -1,7 +1,7 @@
 -- What the report of event times is written from, wherever it is kept.
 use Rattle.std.specs.Prelude.{◌≡◌, ℕ, ◌^◌, ◌<◌, ◌≤◌, pos, unsigned_abs, List, length, slice_index, slice_index_or}
 use Rattle.pc_model.specs.declared.limits.TheConstants.{MAX_EVENTS, MAX_VARIANCE}
-use Rattle.pc_times.specs.declared.TheConstants.{MAX_LENGTH}
+use Rattle.pc_times.specs.declared.TheConstants.{MAX_ACTIVITY_LENGTH}
 use Rattle.pc_project.specs.Project.{Project}
 use Rattle.pc_reports.specs.Times.{Times}
 
@@ -23,7 +23,7 @@ pub record IsShownOf (project : Project) (shown : Shown) : Type 0 where
   pub variance_each : length shown.variances ≡ length project.network.arcs
   pub early_each : length shown.times.early ≡ project.network.events
   pub late_each : length shown.times.late ≡ project.network.events
-  pub expected : (a : ℕ) → a < length project.network.arcs → slice_index shown.expected a ≤ MAX_LENGTH
+  pub expected : (a : ℕ) → a < length project.network.arcs → slice_index shown.expected a ≤ MAX_ACTIVITY_LENGTH
   pub variances : (a : ℕ) → a < length project.network.arcs → slice_index shown.variances a ≤ MAX_VARIANCE
   pub early : (e : ℕ) → e < project.network.events → slice_index shown.times.early e < 2 ^ 40
   pub late : (e : ℕ) → e < project.network.events → unsigned_abs (slice_index_or shown.times.late e (pos 0)) < 2 ^ 40

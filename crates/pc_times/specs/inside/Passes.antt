@@ -4,7 +4,7 @@ use Rattle.pc_model.specs.Walk.{from_of, to_of, IsWalk, IsSumOfWalk}
 use Rattle.pc_model.specs.Network.{Network, IsInRange, IsSound, IsEarly}
 use Rattle.pc_times.specs.Times.{IsTail}
 use Rattle.pc_model.specs.declared.limits.TheConstants.{MAX_EVENTS}
-use Rattle.pc_times.specs.declared.TheConstants.{MAX_LENGTH}
+use Rattle.pc_times.specs.declared.TheConstants.{MAX_ACTIVITY_LENGTH}
 
 -- the network is sound, and each walk has fewer activities than there are events, so that sums over walks stay small
 pub record HasBoundedWalks (net : Network) (lengths : List ℕ) : Type 0 where
@@ -12,7 +12,7 @@ pub record HasBoundedWalks (net : Network) (lengths : List ℕ) : Type 0 where
   pub sound : IsSound net
   pub few : net.events ≤ MAX_EVENTS
   pub short : (e f : ℕ) (walk : List ℕ) → f < net.events → IsWalk net.arcs e walk f → length walk < net.events
-  pub fits : (e f n : ℕ) → f < net.events → IsSumOfWalk net.arcs lengths e f n → n ≤ net.events * MAX_LENGTH
+  pub fits : (e f n : ℕ) → f < net.events → IsSumOfWalk net.arcs lengths e f n → n ≤ net.events * MAX_ACTIVITY_LENGTH
 
 -- the times of the events where the activities that enter event e begin are the greatest sums to them
 pub record AreEarlyBefore (net : Network) (lengths times : List ℕ) (e : ℕ) : Type 0 where

@@ -15,7 +15,7 @@ ghost use Rattle.pc_edges.specs.inside.page.Page.{fresh};
 ghost use Rattle.pc_project.specs.Project.{Project as Plan};
 ghost use Rattle.pc_reports.specs.TimesText.{IsTimesText};
 ghost use Rattle.pc_times.specs.Times.{AreLengths};
-ghost use Rattle.pc_times.specs.declared.TheConstants.{MAX_LENGTH, MAX_TIME};
+ghost use Rattle.pc_times.specs.declared.TheConstants.{MAX_ACTIVITY_LENGTH, MAX_TIME};
 ghost use Rattle.pc_whatif.specs.inside.trials.Laid.{AreAtMost, AreSpansTaken, AreRenewed, IsLaidIn, list_of};
 ghost use Rattle.pc_whatif.specs.inside.trials.SessionRegion.{
   IsChangedTo,
@@ -147,7 +147,7 @@ impl SessionRegion {
     /// Returns the expected times of the activities, in sixths of a day, in card order.
     pub(crate) fn expected(&self) -> &[u64]
         ensures list { result.now ≡ self.now.expected }
-        ensures limit { AreAtMost MAX_LENGTH result.now }
+        ensures limit { AreAtMost MAX_ACTIVITY_LENGTH result.now }
     {
         present(&self.region).list(self.spans.expected)
     }

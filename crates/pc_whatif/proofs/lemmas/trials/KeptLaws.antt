@@ -7,7 +7,7 @@ use Rattle.pc_cells.specs.Spans.{Cells}
 use Rattle.pc_cells.specs.inside.Spans.{free_of, with_span}
 use Rattle.pc_model.specs.Network.{Network}
 use Rattle.pc_model.specs.declared.limits.TheConstants.{MAX_DURATION, MAX_UNIT_DAYS, MAX_VARIANCE}
-use Rattle.pc_times.specs.declared.TheConstants.{MAX_LENGTH}
+use Rattle.pc_times.specs.declared.TheConstants.{MAX_ACTIVITY_LENGTH}
 use Rattle.pc_whatif.specs.declared.trials.region.SessionRegion.TheInside.{Inside}
 use Rattle.pc_whatif.specs.declared.trials.region.Spans.{Spans}
 use Rattle.pc_whatif.specs.inside.trials.SessionRegion.{SessionRegion}
@@ -30,7 +30,7 @@ renewed-whole net spans old new before path_len whole renewed = record {
   tails = renewed.tails.one_each ∙ sym renewed.early.one_each;
   path_cells = renewed.path_cells ∙ sym renewed.early.one_each;
   path_len = omega (arith, renewed.short, renewed.path_cells);
-  small_expected = subst (AreAtMost MAX_LENGTH) (sym renewed.expected) whole.small_expected;
+  small_expected = subst (AreAtMost MAX_ACTIVITY_LENGTH) (sym renewed.expected) whole.small_expected;
   small_variances = subst (AreAtMost MAX_VARIANCE) (sym renewed.variances) whole.small_variances;
   small_early = renewed.small_early;
   small_tails = renewed.small_tails;
@@ -96,14 +96,14 @@ module _ (spans : Spans) (r0 r1 r2 : Cells) (a x v : ℕ) (are : AreSet spans r0
   early-both = ap length early
 
   -- it is whole, where neither number is too great
-  pub whole-both : (path_len : ℕ) → IsWhole (kept_in r0 path_len) → a < length (list_of r0 0) → x ≤ MAX_LENGTH → v ≤ MAX_VARIANCE → IsWhole (kept_in r2 path_len)
+  pub whole-both : (path_len : ℕ) → IsWhole (kept_in r0 path_len) → a < length (list_of r0 0) → x ≤ MAX_ACTIVITY_LENGTH → v ≤ MAX_VARIANCE → IsWhole (kept_in r2 path_len)
   whole-both path_len whole known small gentle =
       let same : IsWhole (with_numbers (kept_in r0 path_len) a x v) = record {
         variances = length-set (list_of r0 1) a v ∙ whole.variances ∙ sym (length-set (list_of r0 0) a x);
         tails = whole.tails;
         path_cells = whole.path_cells;
         path_len = whole.path_len;
-        small_expected = small-set MAX_LENGTH (list_of r0 0) a x known small whole.small_expected;
+        small_expected = small-set MAX_ACTIVITY_LENGTH (list_of r0 0) a x known small whole.small_expected;
         small_variances = small-set MAX_VARIANCE (list_of r0 1) a v (omega (arith, known, whole.variances)) gentle whole.small_variances;
         small_early = whole.small_early;
         small_tails = whole.small_tails;

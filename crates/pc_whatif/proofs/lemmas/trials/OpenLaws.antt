@@ -6,7 +6,7 @@ use Rattle.std.proofs.lemmas.List.Sums.{sum_by-cons}
 use Rattle.pc_cells.specs.Spans.{Cells}
 use Rattle.pc_cells.specs.inside.Spans.{free_of, with_span}
 use Rattle.pc_model.specs.declared.limits.TheConstants.{MAX_VARIANCE}
-use Rattle.pc_times.specs.declared.TheConstants.{MAX_LENGTH}
+use Rattle.pc_times.specs.declared.TheConstants.{MAX_ACTIVITY_LENGTH}
 use Rattle.pc_whatif.specs.declared.trials.region.Spans.{Spans}
 use Rattle.pc_whatif.specs.inside.trials.SessionRegion.{SessionRegion}
 use Rattle.pc_whatif.specs.inside.trials.Laid.{AreAtMost, AreSpansTaken, IsLaidIn, IsWhole, kept_in, list_of}
@@ -46,7 +46,7 @@ pub record IsOpened (events activities : ℕ) (spans : Spans) (r0 r3 : Cells) (t
   pub laid : IsLaidIn r3 spans
   pub kept : kept_in r3 0 ≡ opened events times squares (r0.capacity - (2 * activities + 3 * events))
   pub early : length (list_of r3 2) ≡ events
-  pub whole : AreAtMost MAX_LENGTH times → AreAtMost MAX_VARIANCE squares → IsWhole (kept_in r3 0)
+  pub whole : AreAtMost MAX_ACTIVITY_LENGTH times → AreAtMost MAX_VARIANCE squares → IsWhole (kept_in r3 0)
 
 module _ (events activities : ℕ) (spans : Spans) (r0 r1 r2 : Cells) (expected : List ℕ) (taken : AreSpansTaken r0 r1 events activities spans)
     (one_each : length expected ≡ activities) (written : r2 ≡ with_span r1 0 expected) where
@@ -114,7 +114,7 @@ module _ (events activities : ℕ) (spans : Spans) (r0 r1 r2 : Cells) (expected 
     early-size : length (list_of r3 2) ≡ events
     early-size = ap length early-3 ∙ length-replicate events 0
 
-    whole-3 : AreAtMost MAX_LENGTH expected → AreAtMost MAX_VARIANCE variances → IsWhole (kept_in r3 0)
+    whole-3 : AreAtMost MAX_ACTIVITY_LENGTH expected → AreAtMost MAX_VARIANCE variances → IsWhole (kept_in r3 0)
     whole-3 small gentle =
         let whole : IsWhole (opened events expected variances (r0.capacity - (2 * activities + 3 * events))) = record {
           variances = also_each ∙ sym one_each;

@@ -7,7 +7,7 @@ use Rattle.pc_model.specs.Network.{Network}
 use Rattle.pc_model.specs.Walk.{to_of}
 use Rattle.pc_model.specs.declared.limits.TheConstants.{MAX_EVENTS, MAX_VARIANCE}
 use Rattle.pc_times.specs.Picked.{IsPickedFrom}
-use Rattle.pc_times.specs.declared.TheConstants.{MAX_LENGTH, MAX_TIME}
+use Rattle.pc_times.specs.declared.TheConstants.{MAX_ACTIVITY_LENGTH, MAX_TIME}
 use Rattle.pc_project.specs.Project.{Project, Heading}
 use Rattle.pc_reports.specs.Times.{Times, IsTimes, end_to_meet}
 use Rattle.pc_reports.specs.TimesText.{times_text}
@@ -45,7 +45,7 @@ shown_from expected variances early tails path by = record {
 
 -- it is fit to be told of the project
 pub shown-fits : (project : Project) (r : SessionRegion) (by : ℤ) → IsFor project.network r → IsStanding project.network r
-    → AreAtMost MAX_LENGTH r.expected → AreAtMost MAX_VARIANCE r.variances → AreAtMost MAX_TIME r.early → AreAtMost MAX_TIME r.tails
+    → AreAtMost MAX_ACTIVITY_LENGTH r.expected → AreAtMost MAX_VARIANCE r.variances → AreAtMost MAX_TIME r.early → AreAtMost MAX_TIME r.tails
     → project.network.events ≤ MAX_EVENTS → (pos 0 ≤ℤ by) × (by ≤ℤ pos MAX_TIME) → IsShownOf project (shown_by r by)
 shown-fits project r by fits standing small_expected small_variances small_early small_tails few within = record {
   expected_each = fits.expected;

@@ -7,7 +7,7 @@ use Rattle.pc_model.specs.declared.limits.TheConstants.{MAX_VARIANCE}
 use Rattle.pc_times.specs.Picked.{IsPickedWalk}
 use Rattle.pc_times.specs.Times.{AreEarly}
 use Rattle.pc_times.specs.inside.Times.{AreTails}
-use Rattle.pc_times.specs.declared.TheConstants.{MAX_LENGTH, MAX_TIME}
+use Rattle.pc_times.specs.declared.TheConstants.{MAX_ACTIVITY_LENGTH, MAX_TIME}
 use Rattle.pc_whatif.specs.declared.trials.region.SessionRegion.TheInside.{Inside}
 use Rattle.pc_whatif.specs.declared.trials.region.Spans.{Spans}
 use Rattle.pc_whatif.specs.inside.trials.SessionRegion.{SessionRegion}
@@ -70,7 +70,7 @@ pub record IsWhole (r : SessionRegion) : Type 0 where
   pub tails : length r.tails ≡ length r.early
   pub path_cells : length r.path_cells ≡ length r.early
   pub path_len : r.path_len ≤ length r.path_cells
-  pub small_expected : AreAtMost MAX_LENGTH r.expected
+  pub small_expected : AreAtMost MAX_ACTIVITY_LENGTH r.expected
   pub small_variances : AreAtMost MAX_VARIANCE r.variances
   pub small_early : AreAtMost MAX_TIME r.early
   pub small_tails : AreAtMost MAX_TIME r.tails

@@ -5,7 +5,7 @@ use Rattle.pc_reports.specs.Times.{end_to_meet}
 use Rattle.pc_reports.specs.TimesText.{times_text}
 use Rattle.pc_reports.specs.inside.View.{IsShownOf, as_shown}
 use Rattle.pc_model.specs.declared.limits.TheConstants.{MAX_VARIANCE}
-use Rattle.pc_times.specs.declared.TheConstants.{MAX_LENGTH, MAX_TIME}
+use Rattle.pc_times.specs.declared.TheConstants.{MAX_ACTIVITY_LENGTH, MAX_TIME}
 use Rattle.pc_whatif.specs.inside.trials.Laid.{AreAtMost}
 use Rattle.pc_whatif.specs.inside.trials.SessionRegion.{path_in}
 use Rattle.pc_whatif.proofs.lemmas.trials.TimesLaws.{path-known, shown_by, shown-is, shown-fits, read-back, small-back, times-are, text-same}
@@ -39,7 +39,7 @@ write_times_on-requires-clause-view g c =
     (read-back by c.end_to_meet-by.ensures.limit) in
     subst (IsShownOf c.args.project.now) (sym same)
     (shown-fits c.args.project.now r by c.requires.fits c.requires.standing
-    (subst (AreAtMost MAX_LENGTH) c.expected.ensures.list c.expected.ensures.limit)
+    (subst (AreAtMost MAX_ACTIVITY_LENGTH) c.expected.ensures.list c.expected.ensures.limit)
     (subst (AreAtMost MAX_VARIANCE) c.variances.ensures.list c.variances.ensures.limit)
     (subst (AreAtMost MAX_TIME) c.early-early.ensures.list c.early-early.ensures.limit)
     (subst (AreAtMost MAX_TIME) c.tails.ensures.list c.tails.ensures.limit)
