@@ -3,7 +3,6 @@
 #![tactic(auto)]
 
 mod act;
-mod end;
 mod event;
 mod event_front;
 mod field;
@@ -14,7 +13,6 @@ mod known;
 mod known_lines;
 mod line;
 mod line_end;
-mod line_laws;
 mod line_text;
 mod number;
 mod place;
@@ -24,7 +22,6 @@ mod segment;
 mod words;
 mod writing;
 
-pub use end::put_end;
 pub use event::{EVENT_NAMED, EventSaid};
 pub use event_front::EventFront;
 pub use flows::{Flows, MAX_FLOWS};
@@ -32,12 +29,11 @@ pub use front::WIDTH;
 pub use head::put_head;
 pub use known::KnownLine;
 pub use known_lines::KnownLines;
-pub use line::{CertLine, MAX_LINE};
+pub use line::{CertLine, MAX_LINE, spelling_is_once, text_is_once};
 pub use line_end::line_len;
-pub use line_laws::{spelling_is_once, text_is_once};
 pub use line_text::LineText;
 pub use number::MAX_DIGITS;
 pub use place::{Place, Shape};
 pub use reader::{CertReader, Fed, Malformed};
 pub use segment::{put_ends, put_segment};
-pub use writing::{write_end, write_head, write_segment};
+pub use writing::{put_end, write_end, write_head, write_segment};

@@ -1,11 +1,11 @@
-//! The parts of a certificate, written to a sink.
+//! The parts of a certificate, written to a sink, and its last line on a page.
 ghost use Rattle.std.specs.Prelude.{◌≡◌, ◌<◌, All, length};
 ghost use Rattle.pc_edges.specs.inside.Writes.{Writes};
+ghost use Rattle.pc_edges.specs.inside.page.Puts.{Puts};
 ghost use Rattle.pc_cert.specs.Text.{text_of, AreWritable};
 ghost use Rattle.pc_cert.specs.Document.{head_lines, segment_lines, end_lines};
 ghost use Rattle.pc_cert.specs.Document.{HasSmallNumbers};
 
-use crate::end::put_end;
 use crate::head::put_head;
 use crate::segment::put_segment;
 use pc_crash::{CrashNet, SegmentView};
@@ -76,4 +76,11 @@ pub fn write_end<O: Sink>(sink: &mut O) -> Result<(), Failed>
     let mut page = Page::without_buffer();
     put_end(&mut page, sink);
     page.push_out(sink)
+}
+
+/// Puts the last line of a certificate on a page. The page is not finished.
+pub fn put_end<O: Sink>(page: &mut Page, sink: &mut O)
+    ensures { Puts O.taken O.faults page.old sink.old page.new sink.new (text_of end_lines) }
+{
+    page.put(sink, b"END\n");
 }

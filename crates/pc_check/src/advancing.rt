@@ -34,6 +34,7 @@ ghost use Rattle.pc_check.specs.inside.Passed.{HasPassed};
 ghost use Rattle.pc_check.specs.Segments.{stops_in};
 
 use crate::acts::{rises_over, stops};
+use crate::condition::Condition;
 use crate::gaps::{Crossing, Gap, crossing_of};
 use crate::kept::{Kept, Tally};
 use crate::passed::{Passed, passed_of};
@@ -125,7 +126,7 @@ fn judge_act(
 {
     let a = kept.tally.acts;
     if !has_act_code(net, a, code, flows) {
-        return Some(4);
+        return Some(Condition::Codes as u8);
     }
     let crossing = crossing_of(net, &kept.tally, a);
     match reason_at_act(net, kept, &crossing, duration, flows) {

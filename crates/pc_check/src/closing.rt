@@ -6,6 +6,7 @@ ghost use Rattle.pc_check.specs.Failures.{first_failing};
 ghost use Rattle.pc_check.specs.inside.Kept.{known_by};
 ghost use Rattle.pc_check.specs.inside.Safe.{IsSafe};
 
+use crate::condition::Condition;
 use crate::kept::Kept;
 use pc_crash::CrashNet;
 
@@ -15,19 +16,19 @@ pub(crate) fn reason_at_close(net: &CrashNet<'_>, kept: &Kept) -> Option<u8>
     ensures { result ≡ first_failing (conditions net.now (known_by kept.now) Close) }
 {
     if !is_conserved(net, kept) {
-        return Some(9);
+        return Some(Condition::Conservation as u8);
     }
     if !leaves_start(net, kept) {
-        return Some(10);
+        return Some(Condition::Outflow as u8);
     }
     if kept.tally.spent != kept.tally.cost {
-        return Some(12);
+        return Some(Condition::Cost as u8);
     }
     if !has_cut_gain(net, kept) {
-        return Some(13);
+        return Some(Condition::CutGain as u8);
     }
     if !has_stop(kept) {
-        return Some(14);
+        return Some(Condition::Stop as u8);
     }
     None
 }

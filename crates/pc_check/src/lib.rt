@@ -10,6 +10,7 @@ mod again;
 mod audit;
 mod checker;
 mod closing;
+mod condition;
 mod gaps;
 mod kept;
 mod meaning;

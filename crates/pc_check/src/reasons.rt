@@ -24,6 +24,7 @@ ghost use Rattle.pc_cert.specs.declared.line.CertLine.TheVariants.{Segment, Even
 
 use crate::acts::{is_slack, is_still, keeps_rises};
 use crate::closing::reason_at_close;
+use crate::condition::Condition;
 use crate::gaps::{Crossing, Gap, has_room};
 use crate::kept::{Kept, Tally, number_at};
 use crate::walk::is_through;
@@ -57,7 +58,7 @@ pub(crate) fn reason(net: &CrashNet<'_>, kept: &Kept, line: &CertLine) -> Option
             if is_through(net, kept.tally.lower, kept.crash) {
                 None
             } else {
-                Some(3)
+                Some(Condition::CrashWalk as u8)
             }
         }
         _ => None,
@@ -78,7 +79,11 @@ fn reason_at_head(
         && *project == net.project()
         && events == u64::from(net.net().events())
         && activities == u64::from(net.net().activities());
-    if has_head { None } else { Some(1) }
+    if has_head {
+        None
+    } else {
+        Some(Condition::Head as u8)
+    }
 }
 
 fn reason_at_segment(
@@ -91,10 +96,10 @@ fn reason_at_segment(
     ensures { result ≡ first_failing (conditions net.now (known_by kept.now) (Segment upper lower 0 slope)) }
 {
     if kept.segments == 0 && !is_through(net, upper, kept.normal) {
-        return Some(2);
+        return Some(Condition::NormalWalk as u8);
     }
     if !has_joined_ends(kept, upper, lower, slope) {
-        return Some(15);
+        return Some(Condition::Cover as u8);
     }
     None
 }
@@ -122,17 +127,17 @@ fn reason_at_event(
 {
     let e = kept.tally.times.len();
     if !has_event_code(net, e, code) {
-        return Some(4);
+        return Some(Condition::Codes as u8);
     }
     let is_one_length = kept.tally.upper == kept.tally.lower;
     let starts = e != net.net().start() as usize || (time == 0 && !moves);
     let ends = e != net.net().end() as usize
         || (time == kept.tally.upper && (moves || is_one_length));
     if !(starts && ends) {
-        return Some(5);
+        return Some(Condition::Ends as u8);
     }
     if is_one_length && moves {
-        return Some(15);
+        return Some(Condition::Cover as u8);
     }
     None
 }
@@ -161,19 +166,19 @@ pub(crate) fn reason_at_act(
     let tally = &kept.tally;
     let a = tally.acts;
     if !has_gaps(net, tally, a, crossing) {
-        return Some(6);
+        return Some(Condition::Gaps as u8);
     }
     if !has_duration(net, kept, a, duration) {
-        return Some(7);
+        return Some(Condition::Duration as u8);
     }
     if !has_small_flows(net, a, flows) {
-        return Some(8);
+        return Some(Condition::Rises as u8);
     }
     if !fits_gaps(net, tally, a, crossing, flows) {
-        return Some(11);
+        return Some(Condition::Slackness as u8);
     }
     if tally.upper == tally.lower && !is_still(flows.as_slice()) {
-        return Some(15);
+        return Some(Condition::Cover as u8);
     }
     None
 }

@@ -1,0 +1,36 @@
+//! The conditions of a certificate, by the numbers that report them.
+
+/// A condition of a certificate. As a number it is the reason that a failure reports.
+#[derive(Clone, Copy)]
+pub(crate) enum Condition {
+    /// The head is that of the deck.
+    Head = 1,
+    /// The normal walk is a through walk, as long as the first upper end.
+    NormalWalk = 2,
+    /// The crash walk is a through walk, as long as the last lower end.
+    CrashWalk = 3,
+    /// The codes are those of the deck, in card order.
+    Codes = 4,
+    /// The start and the end have the times of the segment.
+    Ends = 5,
+    /// The gaps are at least crash.
+    Gaps = 6,
+    /// The duration is what the gap allows, and at most normal.
+    Duration = 7,
+    /// No flow at a knee is above its rise.
+    Rises = 8,
+    /// What enters an event leaves it.
+    Conservation = 9,
+    /// The slope leaves the start.
+    Outflow = 10,
+    /// The flows fit the gaps.
+    Slackness = 11,
+    /// The cost is that of the durations.
+    Cost = 12,
+    /// The cut gain is the slope.
+    CutGain = 13,
+    /// Some activity stops at the lower end.
+    Stop = 14,
+    /// The segments cover the range once.
+    Cover = 15,
+}
