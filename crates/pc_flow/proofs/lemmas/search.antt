@@ -9,6 +9,7 @@ pub mod GrowingLaws
 pub mod KeptLaws
 pub mod LabelLaws
 pub mod LengthLaws
+pub mod LevelLaws
 pub mod LinkLaws
 pub mod MeasureLaws
 pub mod RaiseLaws

@@ -4,13 +4,13 @@ ghost use Rattle.pc_flow.specs.board.Sheets.{rank_of};
 ghost use Rattle.pc_flow.specs.inside.board.Labelling.{HasStep, HaveRoom, IsFor, IsRankedBack, HaveSteps};
 ghost use Rattle.pc_flow.specs.inside.board.Raising.{StandFirst};
 ghost use Rattle.pc_flow.specs.inside.search.Searches.{IsOnStairs, IsSearch};
-ghost use Rattle.pc_flow.specs.inside.search.Lengths.{IsRenewedBack};
+ghost use Rattle.pc_flow.specs.inside.search.Lengths.{AreLevelBack, IsRenewedBack};
 ghost use Rattle.pc_flow.specs.inside.search.Rooms.{IsRoom, IsMeasured};
 ghost use Rattle.pc_flow.specs.inside.search.Growing.{AreSettled};
 ghost use Rattle.pc_flow.specs.inside.search.Labelling.{IsBetween, IsAboveAllCrash, HasRaised};
 
 use crate::board::Augmentation;
-use crate::lengths::renew_lengths;
+use crate::lengths::renew_step;
 use crate::search::search::Search;
 use crate::stair::{room_against, room_along};
 
@@ -79,13 +79,13 @@ impl<'n> Search<'n> {
         requires back { IsRankedBack self.old.board }
         requires steps { HaveSteps self.old.board }
         requires stairs { IsOnStairs self.old.net.now self.old.board }
+        requires level { AreLevelBack self.old.net.now self.old.board self.old.board end }
         ensures net { self.new.net.now ≡ self.old.net.now }
         ensures renewed { IsRenewedBack self.old.net.now self.old.board self.new.board end }
     {
         let mut e = end;
         while self.board.rank(e) > 1 {
-            let a = self.board.step(e);
-            renew_lengths(&mut self.board, self.net, a);
+            renew_step(&mut self.board, self.net, e);
             e = self.board.near(e);
         }
     }

@@ -9,14 +9,14 @@ use Rattle.pc_crash.specs.inside.KneeLists.{AreKneesOf}
 use Rattle.pc_crash.specs.Priced.{PricedNetwork, knees_in}
 use Rattle.pc_flow.specs.inside.stair.Rows.{stair}
 use Rattle.pc_flow.specs.board.Sheets.{Sheet, rank_of, flow_of}
-use Rattle.pc_flow.specs.inside.board.Sheets.{step_of, near_of, up_of, down_of}
+use Rattle.pc_flow.specs.inside.board.Sheets.{step_of, near_of, room_of, up_of, down_of}
 use Rattle.pc_flow.specs.inside.board.Moves.{SetsLengths}
 use Rattle.pc_flow.specs.inside.board.Labelling.{HasStep, IsRankedBack, HaveSteps, IsFor}
 use Rattle.pc_flow.specs.inside.board.Raising.{event_back, IsWayBack, IsStepTaken, IsRaisedBy, StandFirst}
 use Rattle.pc_flow.proofs.lemmas.board.RaisingLaws.{way-none, way-more}
 use Rattle.pc_flow.proofs.lemmas.board.AfterRaising.{find_below}
 use Rattle.pc_flow.specs.inside.search.Searches.{stair_at, HasLengths, AreLengths}
-use Rattle.pc_flow.specs.inside.search.Lengths.{RenewsAt, IsRenewedBack}
+use Rattle.pc_flow.specs.inside.search.Lengths.{IsLevelAt, AreLevelBack, RenewsAt, IsRenewedBack}
 
 -- the staircase of what is known of an activity
 pub kept-stair : (net : PricedNetwork) (a crash : ℕ) (knees : List Knee) → AreKneesOf (knees_in net) a knees → crash ≡ crash_of net.terms a
@@ -54,13 +54,15 @@ pub record IsRenewing (net : PricedNetwork) (s t : Sheet) (e k x : ℕ) : Type 0
   pub way : IsWayBack s e k x
   pub rest : t ≡ record s { up = t.up; down = t.down }
   pub kept : (a : ℕ) → HasLengths net s a → HasLengths net t a
+  pub level : AreLevelBack net s t e
   pub renewed : (j : ℕ) → j < k → HasLengths net t (step_of s (event_back s e j))
 
-pub renewing-begins : (net : PricedNetwork) (s : Sheet) (e : ℕ) → e < s.events → IsRenewing net s s e 0 e
-renewing-begins net s e known = record {
+pub renewing-begins : (net : PricedNetwork) (s : Sheet) (e : ℕ) → e < s.events → AreLevelBack net s s e → IsRenewing net s s e 0 e
+renewing-begins net s e known level = record {
   way = way-none s e known;
   rest = refl;
   kept = λ a has. has;
+  level = level;
   renewed = λ j none. absurd (omega arith);
 }
 
@@ -79,6 +81,22 @@ renewing-step net s t e k x on fits steps has =
       fits.activities,
     )
 
+-- where the step there has room left, the flow stays on arcs of one length
+pub renewing-level : (net : PricedNetwork) (s t : Sheet) (e k x : ℕ) → IsRenewing net s t e k x → HasStep s x → 0 < room_of t x
+    → IsLevelAt net t x
+renewing-level net s t e k x on has left =
+    subst (λ f. IsLevelAt net t f) on.way.leads
+    (on.level k steps (omega (arith, left, ap (room_of s) on.way.leads, ap (λ (v : Sheet). room_of v x) on.rest)))
+  where
+    steps : (i : ℕ) → i ≤ k → HasStep s (event_back s e i)
+    steps i within =
+        elim (cases_lt i k) [
+          | inl early ↦ on.way.steps i early
+          | inr last ↦
+              let at : k ≡ i = omega arith in
+              subst (λ m. HasStep s (event_back s e m)) at (subst (λ f. HasStep s f) (sym on.way.leads) has)
+        ]
+
 -- lengths stay right where another activity has its own renewed
 pub renewed-others : (net : PricedNetwork) (t u : Sheet) (a b : ℕ) → RenewsAt net t u b → HasLengths net t a → HasLengths net u a
 renewed-others net t u a b moved was =
@@ -93,6 +111,29 @@ renewed-others net t u a b moved was =
                 ∙ (was.down (omega (arith, some, flow)) ∙ ap (λ x. unit_length (stair_at net a) (x - 1)) (sym flow));
           }
     ]
+
+-- a step where the flow stays on arcs of one length is one where any lengths are renewed
+level-kept : (net : PricedNetwork) (t u : Sheet) (e b : ℕ) → RenewsAt net t u b → IsLevelAt net t e → IsLevelAt net u e
+level-kept net t u e b moved is = subst (λ v. IsLevelAt net v e) (sym moved.rest) (record {
+  some = is.some;
+  level = is.level;
+  along = λ none. elim (cases_eq a b) [
+    | inl same ↦ (here same).up ∙ ap (unit_length (stair_at net a)) flow
+    | inr apart ↦ moved.up_off a apart ∙ is.along none
+  ];
+  against = λ some. elim (cases_eq a b) [
+    | inl same ↦ (here same).down (omega (arith, is.some, flow)) ∙ (ap (λ x. unit_length (stair_at net a) (x - 1)) flow ∙ is.level)
+    | inr apart ↦ moved.down_off a apart ∙ is.against some
+  ];
+}) where
+  a : ℕ
+  a = step_of t e
+
+  flow : flow_of u a ≡ flow_of t a
+  flow = ap (λ (v : Sheet). flow_of v a) moved.rest
+
+  here : a ≡ b → HasLengths net u a
+  here same = subst (λ c. HasLengths net u c) (sym same) moved.at
 
 -- those of one activity more
 pub keeping-goes_on : (net : PricedNetwork) (s t u : Sheet) (n : ℕ) → AreKeptTo net s t n → RenewsAt net t u n → AreKeptTo net s u (n + 1)
@@ -111,6 +152,7 @@ renewing-goes_on net s t u e k x back has on moved = record {
   way = way-more s e k x back has on.way;
   rest = moved.rest ∙ ap (λ (v : Sheet). record v { up = u.up; down = u.down }) on.rest;
   kept = λ a was. renewed-others net t u a (step_of s x) moved (on.kept a was);
+  level = λ j has_steps left. level-kept net t u (event_back s e j) (step_of s x) moved (on.level j has_steps left);
   renewed = λ j below. elim (cases_lt j k) [
     | inl early ↦ renewed-others net t u (step_of s (event_back s e j)) (step_of s x) moved (on.renewed j early)
     | inr last ↦

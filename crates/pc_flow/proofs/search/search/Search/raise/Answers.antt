@@ -5,11 +5,12 @@ use Rattle.pc_flow.specs.board.Sheets.{Sheet, rank_of}
 use Rattle.pc_flow.specs.inside.board.Labelling.{HasStep, IsFor}
 use Rattle.pc_flow.specs.inside.board.Raising.{IsRaised, IsRaisedBy}
 use Rattle.pc_flow.specs.inside.search.Searches.{IsOnStairs, IsSearch}
-use Rattle.pc_flow.specs.inside.search.Lengths.{IsRenewedBack}
+use Rattle.pc_flow.specs.inside.search.Lengths.{AreLevelBack, IsRenewedBack}
 use Rattle.pc_flow.specs.inside.search.Labelling.{IsBetween, HasRaised}
 use Rattle.pc_flow.proofs.lemmas.board.AfterRaising.{raised-for, raised-back, raised-steps}
 use Rattle.pc_flow.proofs.lemmas.search.StateLaws.{IsKnown, end-stepped}
 use Rattle.pc_flow.proofs.lemmas.search.LengthLaws.{raised-renewed, stand-renewed, lengths-renewed}
+use Rattle.pc_flow.proofs.lemmas.search.LevelLaws.{level-back}
 use Rattle.pc_flow.proofs.lemmas.search.MeasureLaws.{
   search-measured,
   have_room-measured,
@@ -120,6 +121,16 @@ renew_back-requires-clause-stairs c =
     subst (λ n. IsOnStairs n c.raise-raised.new.self) (sym c.measure_back.ensures.net)
     (stairs-raised net known order ordered m c.raise-raised.new.self c.raise-raised.result.by raised.0
     (between-measured net s m on c.requires.between) (above-measured net s m on c.requires.above) raised.1)
+
+pub renew_back-requires-clause-level : goal.renew_back-requires-clause-level
+renew_back-requires-clause-level c =
+    let net = c.args.self.now.net.now in
+    let m = c.measure_back.new.self.board in
+    let t = c.raise-raised.new.self in
+    let search : IsSearch net m = search-measured net c.args.self.now.board m c.measure_back.ensures.measured c.requires.between.search in
+    let raised = c.raise-raised.ensures.raised in
+    subst (λ n. AreLevelBack n t t c.end-end.result) (sym c.measure_back.ensures.net)
+    (level-back net m t c.end-end.result c.raise-raised.result.by raised.0 search raised.1 c.raise-raised.ensures.lengths)
 
 pub returns-clause-net : goal.returns-clause-net
 returns-clause-net c = c.renew_back.ensures.net ∙ c.measure_back.ensures.net
