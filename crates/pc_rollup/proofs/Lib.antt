@@ -3,6 +3,7 @@ pub mod RollLaws
 mod LeastLaws
 mod BackLaws
 pub mod PlacedLaws
+mod ColumnLaws
 mod LineLaws
 pub mod WholeLaws
 pub mod lemmas

@@ -4,7 +4,6 @@ use Rattle.std.proofs.Common.{refl, sym, ap, ◌∙◌, subst, get_or-set_same, 
 use Rattle.std.specs.Prelude.{ℤ, pos, ◌+ℤ◌, unsigned_abs, slice_index, sum_by}
 use Rattle.std.proofs.lemmas.Bool.{cases_eq, cases_order}
 use Rattle.std.proofs.lemmas.Int.{to_z-of_z, fits_signed_from_abs}
-use Rattle.std.proofs.lemmas.List.{get_or_default}
 use Rattle.std.proofs.lemmas.List.Sums.{sum_by_more}
 use Rattle.std.proofs.Math.Seq.{take-length}
 use Rattle.pc_model.specs.Sums.{sum_to}
@@ -250,17 +249,6 @@ added_fits a b small less sum =
     let fits_b = fits_signed_from_abs w64 b less in
     rw (to_z-of_z w64 a fits_a, to_z-of_z w64 b fits_b) (fits_signed_from_abs w64 (a +ℤ b) sum)
 
--- what an item has is no greater than all amounts
-total_fits : (rows : List ItemRow) (order : List ℕ) (j y : ℕ) (amounts totals : List ℤ) → length amounts ≡ length rows →
-    AreGathered rows order j amounts totals → y < length rows → unsigned_abs (amount_at totals y) ≤ sum_by unsigned_abs amounts
-total_fits rows order j y amounts totals one_each so_far lt =
-    omega (
-      arith,
-      IsSumOver-bound (IsGathered rows order j y) (length rows) (amount_at amounts) (amount_at totals y) (so_far.each y lt),
-      magnitude amounts,
-      ap (λ (n : ℕ). sum_to n (λ x. unsigned_abs (amount_at amounts x))) one_each,
-    )
-
 -- what stays true of totals on their way up: the loop goes back over the preorder of a tree, the amounts are small, and the last j of the order
 -- passed their totals on
 pub record AreRolling (rows : List ItemRow) (order : List ℕ) (j : ℕ) (amounts totals : List ℤ) : Type 0 where
@@ -283,53 +271,28 @@ rolling_on rows order j k amounts totals others r gathered = record {
   gathered = gathered;
 }
 
--- what a turn needs: an item at place i, its parent, and the two totals as they are read
-pub record IsTurn (rows : List ItemRow) (order : List ℕ) (j p : ℕ) (amounts totals : List ℤ) (v : ℕ) (a b : ℤ) : Type 0 where
+-- what a turn needs: an item v, whose turn it is, and its parent p
+pub record IsTurn (rows : List ItemRow) (order : List ℕ) (j p : ℕ) (amounts totals : List ℤ) (v : ℕ) : Type 0 where
   pub so_far : AreRolling rows order j amounts totals
   pub place : (i : ℕ) × (i < length order) × (i + j + 1 ≡ length order) × (slice_index order i ≡ v)
   pub up : parent_of rows v ≡ Some p
-  pub parent_read : a ≡ get_or totals p a
-  pub item_read : b ≡ get_or totals v b
 
-turn_sums : (rows : List ItemRow) (order : List ℕ) (j p : ℕ) (amounts totals : List ℤ) (v : ℕ) (a b : ℤ) →
-    IsTurn rows order j p amounts totals v a b → (amount_at totals p ≡ a) × (amount_at totals v ≡ b) × (unsigned_abs a < 2 ^ 63)
-    × (unsigned_abs b < 2 ^ 63) × (unsigned_abs (a +ℤ b) < 2 ^ 63)
-turn_sums rows order j p amounts totals v a b t =
+pub turn_fits : (rows : List ItemRow) (order : List ℕ) (j p : ℕ) (amounts totals : List ℤ) (v : ℕ) →
+    IsTurn rows order j p amounts totals v → unsigned_abs (amount_at totals p +ℤ amount_at totals v) < 2 ^ 63
+turn_fits rows order j p amounts totals v t =
     let (i, lt, place, at) = t.place in
-    let in_v : v < length rows = parent-inside rows v p t.up in
-    let in_p : p < length rows = t.so_far.ranged v p in_v t.up in
-    let read_a : amount_at totals p ≡ a = get_or_default totals p (pos 0) a (omega (arith, t.so_far.gathered.one_each)) ∙ sym t.parent_read in
-    let read_b : amount_at totals v ≡ b = get_or_default totals v (pos 0) b (omega (arith, t.so_far.gathered.one_each)) ∙ sym t.item_read in
-    let up : parent_of rows (slice_index order i) ≡ Some p = ap (parent_of rows) at ∙ t.up in
-    let both = parent_fits rows order i j p amounts totals t.so_far.ranged t.so_far.tree t.so_far.preorder t.so_far.one_each t.so_far.gathered lt place up in
-    let sum : amount_at totals p +ℤ amount_at totals (slice_index order i)
-    ≡ a +ℤ b = ap (λ (n : ℕ). amount_at totals p +ℤ amount_at totals n) at ∙
-    (ap (λ (z : ℤ). z +ℤ amount_at totals v) read_a ∙ ap (λ (z : ℤ). a +ℤ z) read_b) in (
-      read_a,
-      read_b,
-      omega (arith, t.so_far.small, ap unsigned_abs read_a, total_fits rows order j p amounts totals t.so_far.one_each t.so_far.gathered in_p),
-      omega (arith, t.so_far.small, ap unsigned_abs read_b, total_fits rows order j v amounts totals t.so_far.one_each t.so_far.gathered in_v),
-      omega (arith, t.so_far.small, ap unsigned_abs sum, both),
-    )
+    let s = t.so_far in
+    let both = parent_fits rows order i j p amounts totals s.ranged s.tree s.preorder s.one_each s.gathered lt place (ap (parent_of rows) at ∙ t.up) in
+    omega (arith, s.small, both, ap (λ (n : ℕ). unsigned_abs (amount_at totals p +ℤ amount_at totals n)) at)
 
-pub turn_fits : (rows : List ItemRow) (order : List ℕ) (j p : ℕ) (amounts totals : List ℤ) (v : ℕ) (a b : ℤ) →
-    IsTurn rows order j p amounts totals v a b → FitsSigned w64 (to_z w64 (of_z w64 a) +ℤ to_z w64 (of_z w64 b))
-turn_fits rows order j p amounts totals v a b t =
-    let (read_a, read_b, small, less, sum) = turn_sums rows order j p amounts totals v a b t in
-    added_fits a b small less sum
-
-pub turn_taken : (rows : List ItemRow) (order : List ℕ) (j p : ℕ) (amounts totals : List ℤ) (v : ℕ) (a b : ℤ) →
-    IsTurn rows order j p amounts totals v a b →
-    AreRolling rows order (j + 1) amounts (set totals p (to_z w64 (of_z w64 (to_z w64 (of_z w64 a) +ℤ to_z w64 (of_z w64 b)))))
-turn_taken rows order j p amounts totals v a b t =
+pub turn_taken : (rows : List ItemRow) (order : List ℕ) (j p : ℕ) (amounts totals : List ℤ) (v : ℕ) →
+    IsTurn rows order j p amounts totals v → AreRolling rows order (j + 1) amounts (set totals p (amount_at totals p +ℤ amount_at totals v))
+turn_taken rows order j p amounts totals v t =
     let (i, lt, place, at) = t.place in
-    let (read_a, read_b, small, less, sum) = turn_sums rows order j p amounts totals v a b t in
-    let up : parent_of rows (slice_index order i) ≡ Some p = ap (parent_of rows) at ∙ t.up in
-    let value : amount_at totals p +ℤ amount_at totals (slice_index order i) ≡ to_z w64 (of_z w64 (to_z w64 (of_z w64 a) +ℤ to_z w64 (of_z w64 b))) =
-    ap (λ (n : ℕ). amount_at totals p +ℤ amount_at totals n) at ∙ (ap (λ (z : ℤ). z +ℤ amount_at totals v) read_a ∙ (ap (λ (z : ℤ). a +ℤ z) read_b ∙ sym (added a b small less sum))) in
-    rolling_on rows order j (j + 1) amounts totals _ t.so_far
-    (subst (λ (z : ℤ). AreGathered rows order (j + 1) amounts (set totals p z)) value
-    (gathered_child rows order i j p amounts totals t.so_far.ranged t.so_far.tree t.so_far.preorder t.so_far.gathered lt place up))
+    let s = t.so_far in
+    rolling_on rows order j (j + 1) amounts totals _ s
+    (subst (λ (n : ℕ). AreGathered rows order (j + 1) amounts (set totals p (amount_at totals p +ℤ amount_at totals n))) at
+    (gathered_child rows order i j p amounts totals s.ranged s.tree s.preorder s.gathered lt place (ap (parent_of rows) at ∙ t.up)))
 
 pub top_taken : (rows : List ItemRow) (order : List ℕ) (j : ℕ) (amounts totals : List ℤ) (v : ℕ) → AreRolling rows order j amounts totals →
     (i : ℕ) × (i < length order) × (i + j + 1 ≡ length order) × (slice_index order i ≡ v) → parent_of rows v ≡ None →

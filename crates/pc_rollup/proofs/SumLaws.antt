@@ -1,7 +1,8 @@
 -- Laws of sums over the numbers that have a property.
-use Rattle.std.proofs.Common.{◌≡◌, ℕ, zero, suc, ◌+◌, ◌<◌, ◌≤◌, ◌⊎◌, inl, inr, ⊎_elim, refl, ap, sym, ◌∙◌, subst, add-one, arith}
+use Rattle.std.proofs.Common.{◌≡◌, ℕ, zero, suc, ◌+◌, ◌<◌, ◌≤◌, ◌⊎◌, inl, inr, ⊎_elim, refl, ap, sym, ◌∙◌, subst, add-one, ◌^◌, FitsSigned, to_z, of_z, w64, arith}
 use Rattle.std.specs.Prelude.{ℤ, pos, ◌+ℤ◌, ◌≤ℤ◌, unsigned_abs}
-use Rattle.std.proofs.lemmas.Int.{ints}
+use Rattle.std.proofs.lemmas.Int.{fits_signed_from_abs, ints, to_z-of_z}
+use mir.Val.{SFits}
 use Rattle.std.proofs.lemmas.Bool.{cases_eq}
 use Rattle.pc_model.specs.Sums.{sum_to}
 use Rattle.pc_rollup.specs.Sums.{IsSumOver}
@@ -9,6 +10,19 @@ use Rattle.pc_rollup.specs.Sums.{IsSumOver}
 -- a sum is no greater than the sum of the magnitudes
 pub unsigned_abs-add : (a b : ℤ) → unsigned_abs (a +ℤ b) ≤ unsigned_abs a + unsigned_abs b
 unsigned_abs-add a b = omega (arith, ints)
+
+-- two numbers whose sum fits are added as numbers
+pub sum_fits : (a b : ℤ) → SFits w64 a → SFits w64 b → unsigned_abs (a +ℤ b) < 2 ^ 63 → FitsSigned w64 (to_z w64 (of_z w64 a) +ℤ to_z w64 (of_z w64 b))
+sum_fits a b fits_a fits_b small =
+    rw (to_z-of_z w64 a fits_a, to_z-of_z w64 b fits_b) (fits_signed_from_abs w64 (a +ℤ b) small)
+
+-- their sum, as the code computes it
+abbrev pub computed : ℤ → ℤ → ℤ
+computed a b = to_z w64 (of_z w64 (to_z w64 (of_z w64 a) +ℤ to_z w64 (of_z w64 b)))
+
+pub sum_is : (a b : ℤ) → SFits w64 a → SFits w64 b → unsigned_abs (a +ℤ b) < 2 ^ 63 → computed a b ≡ a +ℤ b
+sum_is a b fits_a fits_b small =
+    rw (to_z-of_z w64 a fits_a, to_z-of_z w64 b fits_b) (to_z-of_z w64 (a +ℤ b) (fits_signed_from_abs w64 (a +ℤ b) small))
 
 -- a property has one sum
 pub IsSumOver-only : (P : ℕ → Type 0) (n : ℕ) (f : ℕ → ℤ) (s t : ℤ) → IsSumOver P n f s → IsSumOver P n f t → s ≡ t

@@ -9,12 +9,13 @@ ghost use Rattle.pc_rollup.specs.inside.Totals.{
   AreOnLeaves,
   place_of,
 };
+ghost use Rattle.pc_rollup.specs.inside.Amounts.{CanBeRolled, AreRolled};
 
+use crate::amounts::{Amounts, add_at};
 use pc_wbs::Tree;
 use std::alloc::{AllocError, Global};
 
-/// Returns for each item the sum over the leaves at or below it, from one amount per item. One pass over the preorder,
-/// from its end.
+/// Returns for each item the sum over the leaves at or below it, from one amount per item. Linear in the items.
 ///
 /// # Errors
 ///
@@ -26,12 +27,21 @@ pub fn rollup(alloc: Global, tree: &Tree, leaf_amounts: &[i64]) -> Result<Vec<i6
     ensures { IfOk result (λ totals. AreRolledUp tree.now leaf_amounts.now totals.items) }
 {
     let mut totals = Vec::from_slice(alloc, leaf_amounts)?;
+    roll(tree, &mut totals);
+    Ok(totals)
+}
+
+/// Adds the amounts of the leaves to those of all items above them. One pass over the preorder, from its end.
+pub(crate) fn roll<A: Amounts>(tree: &Tree, amounts: &mut [A])
+    requires { CanBeRolled A.columns tree.now amounts.old }
+    ensures { AreRolled A.columns tree.now amounts.old amounts.new }
+{
     for &item in tree.preorder().iter().rev() {
         if let Some(parent) = tree.parent(item) {
-            totals[parent as usize] += totals[item as usize];
+            let more = amounts[item as usize];
+            add_at(amounts, parent, more);
         }
     }
-    Ok(totals)
 }
 
 /// An amount on an item, such as an account's budget.

@@ -1,19 +1,28 @@
--- The amounts that the summary tells.
+-- The amounts of an account that the summary tells.
 use Rattle.std.specs.Prelude.{ℕ, ℤ, pos, ◌-ℤ◌, List}
 use Rattle.pc_accounts.specs.declared.entry.Entry.{Entry}
 use Rattle.pc_accounts.specs.Entries.{entry_at, latest_of}
-use Rattle.pc_rollup.specs.declared.figures.column.Figure.{Figure}
-use Rattle.pc_rollup.specs.declared.figures.column.Figure.TheVariants.{Budget, Actual, ToGo, Latest, Overrun}
+use Rattle.pc_rollup.specs.declared.figures.summary.SummaryAmounts.{SummaryAmounts}
 
--- an amount of an account: what it may spend, what it has spent, what is to go, what it will have cost, and by how much
--- that is more than it may spend
-abbrev pub figure_of : Figure → Entry → ℤ
-figure_of Budget entry = pos entry.budget
-figure_of Actual entry = pos entry.actual
-figure_of ToGo entry = pos entry.to_go
-figure_of Latest entry = pos (latest_of entry)
-figure_of Overrun entry = pos (latest_of entry) -ℤ pos entry.budget
+-- what an account may spend, what it has spent, what is to go, what it will have cost, and by how much that is more than
+-- it may spend
+abbrev pub amounts_of : Entry → SummaryAmounts
+amounts_of entry = record {
+  budget = pos entry.budget;
+  actual = pos entry.actual;
+  to_go = pos entry.to_go;
+  latest = pos (latest_of entry);
+  overrun = pos (latest_of entry) -ℤ pos entry.budget;
+}
 
 -- the same of the a-th account
-abbrev pub figure_at : Figure → List Entry → ℕ → ℤ
-figure_at figure entries a = figure_of figure (entry_at entries a)
+abbrev pub account_at : List Entry → ℕ → SummaryAmounts
+account_at entries a = amounts_of (entry_at entries a)
+
+-- what the a-th account may spend
+abbrev pub budget_at : List Entry → ℕ → ℤ
+budget_at entries a = pos (entry_at entries a).budget
+
+-- what it has spent
+abbrev pub actual_at : List Entry → ℕ → ℤ
+actual_at entries a = pos (entry_at entries a).actual

@@ -6,11 +6,10 @@ use Rattle.pc_accounts.specs.declared.entry.Entry.{Entry}
 use Rattle.pc_accounts.specs.declared.book.AcctRow.{AcctRow}
 use Rattle.pc_accounts.specs.Amounts.{item_of}
 use Rattle.pc_rollup.specs.Sums.{IsSumOver}
-use Rattle.pc_rollup.specs.declared.figures.column.Figure.TheVariants.{Budget}
 use Rattle.pc_rollup.specs.declared.figures.outline.OutlineRow.{OutlineRow}
 use Rattle.pc_rollup.specs.declared.figures.outlook.OutlookAmounts.{OutlookAmounts}
 use Rattle.pc_rollup.specs.figures.Columns.{IsItemSum}
-use Rattle.pc_rollup.specs.figures.Figures.{figure_at}
+use Rattle.pc_rollup.specs.figures.Figures.{budget_at}
 use Rattle.pc_rollup.specs.figures.Outline.{IsOutline}
 
 -- the items in preorder, and the amounts of each item
@@ -34,11 +33,11 @@ IsWork tree places cost y work =
 -- rest is the sum of the budgets of those accounts on item y or below it whose package has no activities
 abbrev pub IsRest : List ItemRow → List ℕ → List AcctRow → List Entry → ℕ → ℤ → Type 0
 IsRest tree places accounts entries y rest =
-    IsSumOver (λ b. (HasActivity places (item_of accounts b) → ⊥) × IsBelow tree (item_of accounts b) y) (length accounts) (figure_at Budget entries) rest
+    IsSumOver (λ b. (HasActivity places (item_of accounts b) → ⊥) × IsBelow tree (item_of accounts b) y) (length accounts) (budget_at entries) rest
 
 -- the amounts of item y: its budget, what it is going to cost, and by how much that is more
 pub record AreAmountsOf (tree : List ItemRow) (places : List ℕ) (cost : ℕ → ℕ) (accounts : List AcctRow) (entries : List Entry) (y : ℕ) (amounts : OutlookAmounts) : Type 0 where
-  pub budget : IsItemSum tree accounts (figure_at Budget entries) y amounts.budget
+  pub budget : IsItemSum tree accounts (budget_at entries) y amounts.budget
   pub work : ℤ
   pub work_is : IsWork tree places cost y work
   pub rest : ℤ
@@ -56,5 +55,5 @@ pub record IsOutlookOf (tree : List ItemRow) (places : List ℕ) (cost : ℕ →
 -- activities
 pub record IsWholeOutlook (places : List ℕ) (accounts : List AcctRow) (entries : List Entry) (cost : ℕ) (whole : ℤ) : Type 0 where
   pub rest : ℤ
-  pub rest_is : IsSumOver (λ b. HasActivity places (item_of accounts b) → ⊥) (length accounts) (figure_at Budget entries) rest
+  pub rest_is : IsSumOver (λ b. HasActivity places (item_of accounts b) → ⊥) (length accounts) (budget_at entries) rest
   pub sum : whole ≡ pos cost +ℤ rest

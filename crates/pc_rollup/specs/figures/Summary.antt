@@ -9,9 +9,8 @@ use Rattle.pc_accounts.specs.Amounts.{AreMoney, AreEntriesOf}
 use Rattle.pc_rollup.specs.declared.figures.outline.OutlineRow.{OutlineRow}
 use Rattle.pc_rollup.specs.Totals.{amount_at}
 use Rattle.pc_rollup.specs.declared.figures.summary.SummaryAmounts.{SummaryAmounts}
-use Rattle.pc_rollup.specs.declared.figures.column.Figure.TheVariants.{Budget, Actual, ToGo, Latest, Overrun}
 use Rattle.pc_rollup.specs.figures.Columns.{AmountColumn, AreOnTree, IsColumn, AddUpTo, HaveOneLine}
-use Rattle.pc_rollup.specs.figures.Figures.{figure_of, figure_at}
+use Rattle.pc_rollup.specs.figures.Figures.{account_at, amounts_of}
 use Rattle.pc_rollup.specs.figures.Outline.{IsOutline}
 
 -- the items in preorder, and each amount by item and by level
@@ -26,20 +25,20 @@ pub record Summary : Type 0 where
 -- the summary is that of these accounts, which stand on the items of this tree
 pub record IsSummaryOf (tree : List ItemRow) (accounts : List AcctRow) (entries : List Entry) (summary : Summary) : Type 0 where
   pub outline : IsOutline tree summary.outline
-  pub budget : IsColumn tree accounts (figure_at Budget entries) summary.budget
-  pub actual : IsColumn tree accounts (figure_at Actual entries) summary.actual
-  pub to_go : IsColumn tree accounts (figure_at ToGo entries) summary.to_go
-  pub latest : IsColumn tree accounts (figure_at Latest entries) summary.latest
-  pub overrun : IsColumn tree accounts (figure_at Overrun entries) summary.overrun
+  pub budget : IsColumn tree accounts (λ a. (account_at entries a).budget) summary.budget
+  pub actual : IsColumn tree accounts (λ a. (account_at entries a).actual) summary.actual
+  pub to_go : IsColumn tree accounts (λ a. (account_at entries a).to_go) summary.to_go
+  pub latest : IsColumn tree accounts (λ a. (account_at entries a).latest) summary.latest
+  pub overrun : IsColumn tree accounts (λ a. (account_at entries a).overrun) summary.overrun
 
 -- at each level each account is below exactly one line, and the lines add up to what the whole has
 pub record CountsOnce (tree : List ItemRow) (accounts : List AcctRow) (whole : Entry) (summary : Summary) : Type 0 where
   pub one_line : HaveOneLine tree accounts
-  pub budget : AddUpTo tree (figure_of Budget whole) summary.budget
-  pub actual : AddUpTo tree (figure_of Actual whole) summary.actual
-  pub to_go : AddUpTo tree (figure_of ToGo whole) summary.to_go
-  pub latest : AddUpTo tree (figure_of Latest whole) summary.latest
-  pub overrun : AddUpTo tree (figure_of Overrun whole) summary.overrun
+  pub budget : AddUpTo tree (amounts_of whole).budget summary.budget
+  pub actual : AddUpTo tree (amounts_of whole).actual summary.actual
+  pub to_go : AddUpTo tree (amounts_of whole).to_go summary.to_go
+  pub latest : AddUpTo tree (amounts_of whole).latest summary.latest
+  pub overrun : AddUpTo tree (amounts_of whole).overrun summary.overrun
 
 -- the accounts stand on the leaves of a tree, and the entries are what charges and amounts to go make of them at as-of
 pub record AreBooked (tree : List ItemRow) (accounts : List AcctRow) (charges togos : List MoneyRow) (as_of : ℤ) (entries : List Entry) : Type 0 where

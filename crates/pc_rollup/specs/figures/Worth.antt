@@ -5,10 +5,9 @@ use Rattle.pc_accounts.specs.declared.book.AcctRow.{AcctRow}
 use Rattle.pc_accounts.specs.declared.entry.Entry.{Entry}
 use Rattle.pc_times.specs.declared.forecasts.ActState.{ActState}
 use Rattle.pc_rollup.specs.Totals.{amount_at}
-use Rattle.pc_rollup.specs.declared.figures.column.Figure.TheVariants.{Budget, Actual}
 use Rattle.pc_rollup.specs.declared.figures.worth.WorthAmounts.{WorthAmounts}
 use Rattle.pc_rollup.specs.figures.Columns.{AreItemSums}
-use Rattle.pc_rollup.specs.figures.Figures.{figure_at}
+use Rattle.pc_rollup.specs.figures.Figures.{actual_at, budget_at}
 use Rattle.pc_rollup.specs.figures.Packages.{AreValues, overrun_at}
 
 -- for each item what may be spent, what was spent, what the work is worth, and by how much more was spent than that
@@ -22,8 +21,8 @@ pub record Worth : Type 0 where
 pub record IsWorthOf (tree : List ItemRow) (places : List ℕ) (states : List ActState) (accounts : List AcctRow) (entries : List Entry) (worth : Worth) : Type 0 where
   pub values : List ℤ
   pub are_values : AreValues places states accounts entries values
-  pub budget : AreItemSums tree accounts (figure_at Budget entries) worth.budget
-  pub actual : AreItemSums tree accounts (figure_at Actual entries) worth.actual
+  pub budget : AreItemSums tree accounts (budget_at entries) worth.budget
+  pub actual : AreItemSums tree accounts (actual_at entries) worth.actual
   pub value : AreItemSums tree accounts (amount_at values) worth.value
   pub overrun : AreItemSums tree accounts (overrun_at entries values) worth.overrun
 

@@ -1,7 +1,5 @@
 -- What contracts within and between crates speak of besides what the clauses of the top calls and the laws reach.
 pub mod Columns
-pub mod ColumnParts
-pub mod Figures
 pub mod Packages
 pub mod Slacks
 pub mod Outlook

@@ -1,7 +1,6 @@
 //! The figures of the reports by item and by level: what the accounts add up to, what the work is worth, and how long
 //! it can wait.
 
-mod column;
 mod outline;
 mod outlook;
 mod slacks;

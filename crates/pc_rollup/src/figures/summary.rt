@@ -5,19 +5,20 @@ ghost use Rattle.pc_accounts.specs.declared.book.AcctRow.{AcctRow};
 ghost use Rattle.pc_accounts.specs.declared.book.MoneyRow.{MoneyRow};
 ghost use Rattle.pc_accounts.specs.declared.entry.Entry.{Entry};
 ghost use Rattle.pc_accounts.specs.Amounts.{all_charged};
-ghost use Rattle.pc_accounts.specs.Entries.{AreEntriesWithinLimits};
+ghost use Rattle.pc_accounts.specs.Entries.{AreEntriesWithinLimits, IsEntryWithinLimits};
 ghost use Rattle.pc_accounts.specs.inside.Entries.{entry_of_all};
 ghost use Rattle.pc_rollup.specs.declared.levels.LevelLine.{LevelLine};
 ghost use Rattle.pc_rollup.specs.Lines.{AreLevelLines, sum_of};
-ghost use Rattle.pc_rollup.specs.declared.figures.column.Figure.TheVariants.{Actual};
 ghost use Rattle.pc_rollup.specs.figures.Columns.{AreOnTree, AreItemSums};
-ghost use Rattle.pc_rollup.specs.figures.Figures.{figure_at};
+ghost use Rattle.pc_rollup.specs.figures.Figures.{account_at, actual_at, amounts_of};
 ghost use Rattle.pc_rollup.specs.figures.Outline.{row_at};
 ghost use Rattle.pc_rollup.specs.figures.Summary.{IsSummaryOf, AreBooked, CountsOnce, item_amounts, level_amounts};
+ghost use Rattle.pc_rollup.specs.inside.figures.Columns.{AreSumsByItem, summary_columns};
 
+use crate::amounts::{Amounts, add_at};
 use crate::each_leaf_has_one_line;
-use crate::figures::column::{AmountColumn, Figure};
 use crate::figures::outline::{OutlineRow, outline_of};
+use crate::totals::roll;
 use pc_accounts::{AcctRow, Entry};
 use pc_wbs::Tree;
 use std::alloc::{AllocError, Global};
@@ -33,14 +34,53 @@ pub struct SummaryAmounts {
     pub overrun: i64,
 }
 
+impl SummaryAmounts {
+    const NONE: SummaryAmounts = SummaryAmounts {
+        budget: 0,
+        actual: 0,
+        to_go: 0,
+        latest: 0,
+        overrun: 0,
+    };
+
+    /// The amounts of an account.
+    fn of(entry: &Entry) -> SummaryAmounts
+        requires { IsEntryWithinLimits entry.now }
+        ensures { result ≡ amounts_of entry.now }
+    {
+        let budget = entry.budget as i64;
+        let latest = entry.latest() as i64;
+        SummaryAmounts {
+            budget,
+            actual: entry.actual as i64,
+            to_go: entry.to_go as i64,
+            latest,
+            overrun: latest - budget,
+        }
+    }
+}
+
+impl Amounts for SummaryAmounts {
+    ghost columns = { summary_columns };
+
+    fn plus(self, more: SummaryAmounts) -> SummaryAmounts {
+        SummaryAmounts {
+            budget: self.budget + more.budget,
+            actual: self.actual + more.actual,
+            to_go: self.to_go + more.to_go,
+            latest: self.latest + more.latest,
+            overrun: self.overrun + more.overrun,
+        }
+    }
+}
+
 /// Budget, actual, to-go, latest estimate and overrun of each item and of each level.
 pub struct Summary {
     outline: Vec<OutlineRow>,
-    budget: AmountColumn,
-    actual: AmountColumn,
-    to_go: AmountColumn,
-    latest: AmountColumn,
-    overrun: AmountColumn,
+    amounts: Vec<SummaryAmounts>,
+    // At each level the lines add up to what the top has.
+    whole: SummaryAmounts,
+    depth: u32,
 }
 
 impl Drop for Summary {
@@ -48,28 +88,31 @@ impl Drop for Summary {
     fn drop(self) {
         let Summary {
             outline: _outline,
-            budget: _budget,
-            actual: _actual,
-            to_go: _to_go,
-            latest: _latest,
-            overrun: _overrun,
+            amounts: _amounts,
+            whole: _,
+            depth: _,
         } = self;
     }
 }
 
 impl Model for Summary {
     ghost use Rattle.pc_rollup.specs.figures.Summary.{Summary};
+    ghost use Rattle.pc_rollup.specs.inside.figures.Columns.{column_of};
+    ghost use Rattle.std.specs.Prelude.{◌≤◌};
+    ghost use Rattle.pc_model.specs.declared.limits.TheConstants.{MAX_LEVEL};
 
     ghost Value = { Summary };
 
     ghost view = { λ s. record {
       outline = s.outline.items;
-      budget = s.budget;
-      actual = s.actual;
-      to_go = s.to_go;
-      latest = s.latest;
-      overrun = s.overrun;
+      budget = column_of (λ a. a.budget) s.amounts.items s.whole s.depth;
+      actual = column_of (λ a. a.actual) s.amounts.items s.whole s.depth;
+      to_go = column_of (λ a. a.to_go) s.amounts.items s.whole s.depth;
+      latest = column_of (λ a. a.latest) s.amounts.items s.whole s.depth;
+      overrun = column_of (λ a. a.overrun) s.amounts.items s.whole s.depth;
     } };
+
+    ghost invariant = { λ s. s.depth ≤ MAX_LEVEL };
 }
 
 impl Summary {
@@ -91,13 +134,15 @@ impl Summary {
         ensures once { IfOk result (CountsOnce tree.now accounts.now (entry_of_all entries.now)) }
     {
         each_leaf_has_one_line();
+        let outline = outline_of(alloc, tree)?;
+        let amounts = sums_by_item(alloc, tree, accounts, entries)?;
+        let top = tree.preorder()[0];
+        let whole = amounts[top as usize];
         Ok(Summary {
-            outline: outline_of(alloc, tree)?,
-            budget: AmountColumn::build(alloc, tree, accounts, entries, Figure::Budget)?,
-            actual: AmountColumn::build(alloc, tree, accounts, entries, Figure::Actual)?,
-            to_go: AmountColumn::build(alloc, tree, accounts, entries, Figure::ToGo)?,
-            latest: AmountColumn::build(alloc, tree, accounts, entries, Figure::Latest)?,
-            overrun: AmountColumn::build(alloc, tree, accounts, entries, Figure::Overrun)?,
+            outline,
+            amounts,
+            whole,
+            depth: tree.depth(),
         })
     }
 
@@ -120,7 +165,7 @@ impl Summary {
     pub fn depth(&self) -> usize
         ensures { result ≡ length self.now.budget.levels }
     {
-        self.budget.depth()
+        self.depth as usize
     }
 
     /// Returns the amounts of an item.
@@ -132,13 +177,7 @@ impl Summary {
         requires overrun { item < length self.now.overrun.items }
         ensures { result ≡ item_amounts self.now item }
     {
-        SummaryAmounts {
-            budget: self.budget.item(item),
-            actual: self.actual.item(item),
-            to_go: self.to_go.item(item),
-            latest: self.latest.item(item),
-            overrun: self.overrun.item(item),
-        }
+        self.amounts[item as usize]
     }
 
     /// Returns the amounts of level `k + 1`.
@@ -151,14 +190,29 @@ impl Summary {
         ensures amounts { result ≡ level_amounts self.now k }
         ensures counted { k + 1 < 2 ^ 64 }
     {
-        SummaryAmounts {
-            budget: self.budget.level(k),
-            actual: self.actual.level(k),
-            to_go: self.to_go.level(k),
-            latest: self.latest.level(k),
-            overrun: self.overrun.level(k),
-        }
+        self.whole
     }
+}
+
+/// For each item the sums of the amounts of the accounts that are on it or below it.
+fn sums_by_item(
+    alloc: Global,
+    tree: &Tree,
+    accounts: &[AcctRow],
+    entries: &[Entry],
+) -> Result<Vec<SummaryAmounts>, AllocError>
+    requires on_tree { AreOnTree tree.now accounts.now }
+    requires one_each { length entries.now ≡ length accounts.now }
+    requires small { AreEntriesWithinLimits entries.now }
+    ensures { IfOk result (λ sums. AreSumsByItem summary_columns tree.now accounts.now
+        (account_at entries.now) sums.items) }
+{
+    let mut sums = vec![in alloc; SummaryAmounts::NONE; tree.len() as usize]?;
+    for a in 0..accounts.len() {
+        add_at(&mut sums, accounts[a].item, SummaryAmounts::of(&entries[a]));
+    }
+    roll(tree, &mut sums);
+    Ok(sums)
 }
 
 /// States that at each level the actuals of the lines add up to all charges dated up to the as-of date: each of these
@@ -167,6 +221,6 @@ pub fn each_charge_counts_once()
     ensures once { (tree : List ItemRow) (accounts : List AcctRow) (charges togos : List MoneyRow) (as_of : ℤ)
         (entries : List Entry) (level : ℕ) (totals : List ℤ) (lines : List LevelLine)
         → AreBooked tree accounts charges togos as_of entries →
-        AreItemSums tree accounts (figure_at Actual entries) totals
+        AreItemSums tree accounts (actual_at entries) totals
         → 1 ≤ level → AreLevelLines tree level totals lines → sum_of lines ≡ pos (all_charged charges as_of) }
 {}

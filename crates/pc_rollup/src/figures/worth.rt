@@ -3,34 +3,24 @@ ghost use Rattle.std.specs.Prelude.{
   ◌≡◌,
   ℕ,
   ◌<◌,
-  ◌≤◌,
   length,
   slice_index,
-  unsigned_abs,
   IfOk,
   ◌↔◌,
   ◌&&◌,
   true,
   unwrap_or,
-  ◌^◌,
-  pos,
-  ◌-ℤ◌,
-  sum_by,
   IsTrue,
 };
-ghost use Rattle.pc_accounts.specs.Entries.{AreEntriesWithinLimits, IsEntryWithinLimits, value_of};
-ghost use Rattle.pc_model.specs.declared.limits.TheConstants.{MAX_COST};
-ghost use Rattle.pc_rollup.specs.Totals.{amount_at};
-ghost use Rattle.pc_rollup.specs.declared.figures.column.Figure.TheVariants.{Budget, Actual};
-ghost use Rattle.pc_rollup.specs.figures.Columns.{AreOnTree, AreItemSums};
-ghost use Rattle.pc_rollup.specs.figures.Figures.{figure_at};
-ghost use Rattle.pc_rollup.specs.figures.Packages.{overrun_at, IsFinished, AreValues};
+ghost use Rattle.pc_accounts.specs.Entries.{AreEntriesWithinLimits, IsEntryWithinLimits};
+ghost use Rattle.pc_rollup.specs.figures.Columns.{AreOnTree};
+ghost use Rattle.pc_rollup.specs.figures.Packages.{IsFinished};
 ghost use Rattle.pc_rollup.specs.figures.Worth.{IsWorthOf, worth_amounts};
-ghost use Rattle.pc_accounts.specs.Amounts.{item_of};
-ghost use Rattle.pc_rollup.specs.inside.figures.Figures.{AreAmounts};
-ghost use Rattle.pc_rollup.specs.inside.figures.Packages.{AreProgress};
+ghost use Rattle.pc_rollup.specs.inside.figures.Columns.{AreSumsByItem, worth_columns};
+ghost use Rattle.pc_rollup.specs.inside.figures.Packages.{AreProgress, worth_at, worth_of};
 
-use crate::figures::column::{Figure, figure_sums, item_sums};
+use crate::amounts::{Amounts, add_at};
+use crate::totals::roll;
 use pc_accounts::{AcctRow, Entry};
 use pc_times::ActState;
 use pc_wbs::Tree;
@@ -72,71 +62,6 @@ fn is_finished(state: ActState) -> bool
     matches!(state, ActState::Finished(_))
 }
 
-/// What the work of each account is worth.
-pub(in crate::figures) fn values(
-    alloc: Global,
-    items: u32,
-    places: &[u32],
-    states: &[ActState],
-    accounts: &[AcctRow],
-    entries: &[Entry],
-) -> Result<Vec<i64>, AllocError>
-    requires known { (a : ℕ) → a < length places.now → slice_index places.now a < items }
-    requires state_each { length states.now ≡ length places.now }
-    requires on_items { (a : ℕ) → a < length accounts.now → item_of accounts.now a < items }
-    requires one_each { length entries.now ≡ length accounts.now }
-    requires small { AreEntriesWithinLimits entries.now }
-    ensures values { IfOk result (λ values. AreValues places.now states.now accounts.now entries.now values.items) }
-    ensures small { IfOk result (λ values. (a : ℕ) → unsigned_abs (amount_at values.items a) ≤ MAX_COST) }
-    ensures together { IfOk result (λ values. sum_by unsigned_abs values.items < 2 ^ 63) }
-{
-    let progress = progress_of(alloc, items, places, states)?;
-    let mut values = Vec::with_capacity(alloc, accounts.len())?;
-    for a in 0..accounts.len() {
-        let finished = progress[accounts[a].item as usize].unwrap_or(false);
-        values.push(value(&entries[a], finished))?;
-    }
-    Ok(values)
-}
-
-/// What the work of an account is worth, where `finished` says whether its package is finished.
-fn value(entry: &Entry, finished: bool) -> i64
-    requires { IsEntryWithinLimits entry.now }
-    ensures value { result ≡ pos (value_of finished entry.now) }
-    ensures small { unsigned_abs result ≤ MAX_COST }
-{
-    entry.value(finished) as i64
-}
-
-/// By how much what was spent on each account is more than its work is worth.
-pub(in crate::figures) fn overruns(
-    alloc: Global,
-    entries: &[Entry],
-    values: &[i64],
-) -> Result<Vec<i64>, AllocError>
-    requires one_each { length values.now ≡ length entries.now }
-    requires entries { AreEntriesWithinLimits entries.now }
-    requires values { (a : ℕ) → unsigned_abs (amount_at values.now a) ≤ MAX_COST }
-    ensures overruns { IfOk result (λ overruns. AreAmounts (overrun_at entries.now values.now)
-        (length entries.now) overruns.items) }
-    ensures small { IfOk result (λ overruns. sum_by unsigned_abs overruns.items < 2 ^ 63) }
-{
-    let mut overruns = Vec::with_capacity(alloc, entries.len())?;
-    for a in 0..entries.len() {
-        overruns.push(overrun(&entries[a], values[a]))?;
-    }
-    Ok(overruns)
-}
-
-/// By how much what was spent on an account is more than its work is worth.
-fn overrun(entry: &Entry, value: i64) -> i64
-    requires entry { IsEntryWithinLimits entry.now }
-    requires value { unsigned_abs value ≤ MAX_COST }
-    ensures { result ≡ pos entry.now.actual -ℤ value }
-{
-    entry.actual as i64 - value
-}
-
 /// The amounts of an item in a value of work report.
 #[derive(Clone, Copy, Debug, PartialEq, Eq)]
 pub struct WorthAmounts {
@@ -146,36 +71,60 @@ pub struct WorthAmounts {
     pub overrun: i64,
 }
 
-/// Budget, actual, earned value and overrun of each item. The overrun is the actual minus the value.
-pub struct Worth {
-    budget: Vec<i64>,
-    actual: Vec<i64>,
-    value: Vec<i64>,
-    overrun: Vec<i64>,
-}
+impl WorthAmounts {
+    const NONE: WorthAmounts = WorthAmounts {
+        budget: 0,
+        actual: 0,
+        value: 0,
+        overrun: 0,
+    };
 
-impl Drop for Worth {
-    // Written by hand so that the proof of dropping it is done once, here.
-    fn drop(self) {
-        let Worth {
-            budget: _budget,
-            actual: _actual,
-            value: _value,
-            overrun: _overrun,
-        } = self;
+    /// The amounts of an account, where `finished` says whether its package is finished.
+    fn of(entry: &Entry, finished: bool) -> WorthAmounts
+        requires { IsEntryWithinLimits entry.now }
+        ensures { result ≡ worth_of finished entry.now }
+    {
+        let actual = entry.actual as i64;
+        let value = entry.value(finished) as i64;
+        WorthAmounts {
+            budget: entry.budget as i64,
+            actual,
+            value,
+            overrun: actual - value,
+        }
     }
 }
 
+impl Amounts for WorthAmounts {
+    ghost columns = { worth_columns };
+
+    fn plus(self, more: WorthAmounts) -> WorthAmounts {
+        WorthAmounts {
+            budget: self.budget + more.budget,
+            actual: self.actual + more.actual,
+            value: self.value + more.value,
+            overrun: self.overrun + more.overrun,
+        }
+    }
+}
+
+/// Budget, actual, earned value and overrun of each item. The overrun is the actual minus the value.
+#[derive(Drop)]
+pub struct Worth {
+    amounts: Vec<WorthAmounts>,
+}
+
 impl Model for Worth {
+    ghost use Rattle.std.specs.Prelude.{map};
     ghost use Rattle.pc_rollup.specs.figures.Worth.{Worth};
 
     ghost Value = { Worth };
 
     ghost view = { λ worth. record {
-      budget = worth.budget.items;
-      actual = worth.actual.items;
-      value = worth.value.items;
-      overrun = worth.overrun.items;
+      budget = map (λ a. a.budget) worth.amounts.items;
+      actual = map (λ a. a.actual) worth.amounts.items;
+      value = map (λ a. a.value) worth.amounts.items;
+      overrun = map (λ a. a.overrun) worth.amounts.items;
     } };
 }
 
@@ -201,16 +150,9 @@ impl Worth {
         requires small { AreEntriesWithinLimits entries.now }
         ensures { IfOk result (IsWorthOf tree.now places.now states.now accounts.now entries.now) }
     {
-        let values = values(alloc, tree.len(), places, states, accounts, entries)?;
-        let value = item_sums(alloc, tree, accounts, &values)?;
-        let overrun = overrun_sums(alloc, tree, accounts, entries, &values)?;
-        let (budget, actual) = spent_sums(alloc, tree, accounts, entries)?;
-        Ok(Worth {
-            budget,
-            actual,
-            value,
-            overrun,
-        })
+        let progress = progress_of(alloc, tree.len(), places, states)?;
+        let amounts = sums_by_item(alloc, tree, &progress, accounts, entries)?;
+        Ok(Worth { amounts })
     }
 
     /// Returns the amounts of an item.
@@ -221,52 +163,31 @@ impl Worth {
         requires overrun { item < length self.now.overrun }
         ensures { result ≡ worth_amounts self.now item }
     {
-        let i = item as usize;
-        WorthAmounts {
-            budget: self.budget[i],
-            actual: self.actual[i],
-            value: self.value[i],
-            overrun: self.overrun[i],
-        }
+        self.amounts[item as usize]
     }
 }
 
-/// The sums by item of what may be spent and of what was spent.
-fn spent_sums(
+/// For each item the sums of the amounts of the accounts that are on it or below it.
+fn sums_by_item(
     alloc: Global,
     tree: &Tree,
+    progress: &[Option<bool>],
     accounts: &[AcctRow],
     entries: &[Entry],
-) -> Result<(Vec<i64>, Vec<i64>), AllocError>
+) -> Result<Vec<WorthAmounts>, AllocError>
+    requires progress_each { length progress.now ≡ length tree.now }
     requires on_tree { AreOnTree tree.now accounts.now }
     requires one_each { length entries.now ≡ length accounts.now }
     requires small { AreEntriesWithinLimits entries.now }
-    ensures budget { IfOk result (λ sums. AreItemSums tree.now accounts.now
-        (figure_at Budget entries.now) sums.0.items) }
-    ensures actual { IfOk result (λ sums. AreItemSums tree.now accounts.now
-        (figure_at Actual entries.now) sums.1.items) }
+    ensures { IfOk result (λ sums. AreSumsByItem worth_columns tree.now accounts.now
+        (worth_at progress.now accounts.now entries.now) sums.items) }
 {
-    let budget = figure_sums(alloc, tree, accounts, entries, Figure::Budget)?;
-    let actual = figure_sums(alloc, tree, accounts, entries, Figure::Actual)?;
-    Ok((budget, actual))
-}
-
-/// The sums by item of how much more was spent on the accounts than their work is worth.
-fn overrun_sums(
-    alloc: Global,
-    tree: &Tree,
-    accounts: &[AcctRow],
-    entries: &[Entry],
-    values: &[i64],
-) -> Result<Vec<i64>, AllocError>
-    requires on_tree { AreOnTree tree.now accounts.now }
-    requires one_each { length entries.now ≡ length accounts.now }
-    requires value_each { length values.now ≡ length entries.now }
-    requires entries { AreEntriesWithinLimits entries.now }
-    requires values { (a : ℕ) → unsigned_abs (amount_at values.now a) ≤ MAX_COST }
-    ensures { IfOk result (λ totals. AreItemSums tree.now accounts.now
-        (overrun_at entries.now values.now) totals.items) }
-{
-    let overruns = overruns(alloc, entries, values)?;
-    item_sums(alloc, tree, accounts, &overruns)
+    let mut sums = vec![in alloc; WorthAmounts::NONE; tree.len() as usize]?;
+    for a in 0..accounts.len() {
+        let item = accounts[a].item;
+        let finished = progress[item as usize].unwrap_or(false);
+        add_at(&mut sums, item, WorthAmounts::of(&entries[a], finished));
+    }
+    roll(tree, &mut sums);
+    Ok(sums)
 }

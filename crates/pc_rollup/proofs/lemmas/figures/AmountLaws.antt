@@ -1,50 +1,56 @@
--- Amounts of accounts, made one after the other.
-use Rattle.std.proofs.Common.{◌≡◌, ℕ, ◌+◌, ◌*◌, ◌<◌, ◌≤◌, ◌^◌, List, [], ◌∷◌, ◌++◌, length, take, sym, ap, ◌∙◌, subst, arith}
-use Rattle.std.specs.Prelude.{ℤ, pos, unsigned_abs, sum_by}
-use Rattle.std.proofs.lemmas.List.{length_push}
-use Rattle.std.proofs.lemmas.List.Sums.{sum_by_push, sum_by_more}
-use Rattle.std.proofs.Math.Seq.{take-length}
+-- How great the amounts of accounts are together.
+use Rattle.std.proofs.Common.{◌≡◌, ℕ, zero, suc, ◌+◌, ◌*◌, ◌<◌, ◌≤◌, ◌^◌, List, length, take, refl, ap, subst, arith}
+use Rattle.std.specs.Prelude.{ℤ, ◌+ℤ◌, unsigned_abs, sum_by}
+use Rattle.std.proofs.lemmas.Int.{ints}
+use Rattle.std.proofs.lemmas.List.Sums.{sum_by_more, sum_by-take-le}
+use Rattle.pc_model.specs.Sums.{sum_to}
 use Rattle.pc_model.specs.declared.limits.TheConstants.{MAX_COST}
 use Rattle.pc_accounts.specs.declared.entry.Entry.{Entry}
-use Rattle.pc_accounts.specs.Entries.{entry_at, AreEntriesWithinLimits}
-use Rattle.pc_accounts.specs.Entries.{IsEntryWithinLimits}
-use Rattle.std.proofs.lemmas.Int.{ints}
-use Rattle.pc_rollup.specs.declared.figures.column.Figure.{Figure}
-use Rattle.pc_rollup.specs.declared.figures.column.Figure.TheVariants.{Budget, Actual, ToGo, Latest, Overrun}
-use Rattle.pc_rollup.specs.figures.Figures.{figure_of}
-use Rattle.pc_rollup.specs.inside.figures.Figures.{AreAmounts}
-use Rattle.pc_rollup.proofs.lemmas.figures.PushLaws.{each_more}
+use Rattle.pc_accounts.specs.Entries.{entry_at, AreEntriesWithinLimits, IsEntryWithinLimits}
+use Rattle.pc_rollup.specs.declared.figures.summary.SummaryAmounts.{SummaryAmounts}
+use Rattle.pc_rollup.specs.inside.Amounts.{IsSum}
+use Rattle.pc_rollup.specs.Totals.{amount_at}
+use Rattle.pc_rollup.specs.figures.Figures.{account_at, amounts_of}
+use Rattle.pc_rollup.specs.inside.figures.Columns.{summary_columns}
+use Rattle.pc_rollup.proofs.ColumnLaws.{Fit}
 
--- the amounts of the first n accounts, which together are no more than what was spent on these, their budgets, and what is
--- to go
-pub record AreAmountsTo (amount : ℕ → ℤ) (entries : List Entry) (n : ℕ) (amounts : List ℤ) : Type 0 where
-  pub are : AreAmounts amount n amounts
-  pub small : sum_by unsigned_abs amounts ≤ sum_by (λ (e : Entry). e.actual) (take n entries) + n * (2 * MAX_COST)
+-- the amounts of the first n accounts are together no more than what was spent on these, their budgets, and what is to go
+within : (amount : ℕ → ℤ) (entries : List Entry) → ((a : ℕ) → a < length entries → unsigned_abs (amount a) ≤ (entry_at entries a).actual + 2 * MAX_COST) →
+    (n : ℕ) → n ≤ length entries → sum_to n (λ a. unsigned_abs (amount a)) ≤ sum_by (λ (e : Entry). e.actual) (take n entries) + n * (2 * MAX_COST)
+within amount entries each zero le = omega arith
+within amount entries each (suc n) le =
+    let next : n + 1 ≡ suc n = omega arith in
+    let more = sum_by_more (λ (e : Entry). e.actual) entries n (record { budget = 0; actual = 0; to_go = 0 }) (omega arith) in
+    let same = ap (λ (m : ℕ). sum_by (λ (e : Entry). e.actual) (take m entries)) next in
+    omega (arith, within amount entries each n (omega arith), each n (omega arith), more, same)
 
--- one amount more
-pub amounts_more : (amount : ℕ → ℤ) (entries : List Entry) (n : ℕ) (amounts more : List ℤ) (next : ℤ) →
-    AreAmountsTo amount entries n amounts → n < length entries → more ≡ amounts ++ next ∷ [] → next ≡ amount n →
-    unsigned_abs next ≤ (entry_at entries n).actual + 2 * MAX_COST → AreAmountsTo amount entries (n + 1) more
-amounts_more amount entries n amounts more next so_far within pushed is bound =
-    subst (AreAmountsTo amount entries (n + 1)) (sym pushed) (record {
-      are = record {
-        one_each = omega (arith, length_push amounts next, so_far.are.one_each);
-        each = each_more (λ a z. z ≡ amount a) amounts next (pos 0) n so_far.are.one_each so_far.are.each is;
-      };
-      small = omega (arith, so_far.small, bound, sum_by_push unsigned_abs amounts next, sum_by_more (λ (e : Entry). e.actual) entries n (record { budget = 0; actual = 0; to_go = 0 }) within);
-    })
+-- all of them fit
+pub amounts_fit : (amount : ℕ → ℤ) (entries : List Entry) (n : ℕ) → AreEntriesWithinLimits entries → length entries ≡ n →
+    ((a : ℕ) → a < length entries → unsigned_abs (amount a) ≤ (entry_at entries a).actual + 2 * MAX_COST) →
+    sum_to n (λ a. unsigned_abs (amount a)) < 2 ^ 63
+amounts_fit amount entries n small count each =
+    subst (λ (m : ℕ). sum_to m (λ a. unsigned_abs (amount a)) < 2 ^ 63) count
+    (omega (arith, within amount entries each (length entries) (omega arith), small.together, small.few, sum_by-take-le (λ (e : Entry). e.actual) entries (length entries)))
 
--- all of them together fit
-pub amounts_fit : (amount : ℕ → ℤ) (entries : List Entry) (n : ℕ) (amounts : List ℤ) → AreEntriesWithinLimits entries → n ≡ length entries →
-    AreAmountsTo amount entries n amounts → sum_by unsigned_abs amounts < 2 ^ 63
-amounts_fit amount entries n amounts small all so_far =
-    let whole : take n entries ≡ entries = ap (λ (k : ℕ). take k entries) all ∙ take-length entries in
-    omega (arith, so_far.small, small.together, small.few, ap (sum_by (λ (e : Entry). e.actual)) whole)
+-- no amount of an account is greater than what was spent, the budget and what is to go
+summary_small : (entry : Entry) → IsEntryWithinLimits entry → (c : ℕ) → unsigned_abs (amount_at (summary_columns (amounts_of entry)) c) ≤ entry.actual + 2 * MAX_COST
+summary_small entry small zero = omega (arith, small.budget)
+summary_small entry small (suc zero) = omega arith
+summary_small entry small (suc (suc zero)) = omega (arith, small.to_go)
+summary_small entry small (suc (suc (suc zero))) = omega (arith, small.to_go)
+summary_small entry small (suc (suc (suc (suc zero)))) = omega (arith, ints, small.budget, small.to_go)
+summary_small entry small (suc (suc (suc (suc (suc c))))) = omega arith
 
--- no figure is greater than what was spent, the budget and what is to go
-pub figure_small : (figure : Figure) (entry : Entry) → IsEntryWithinLimits entry → unsigned_abs (figure_of figure entry) ≤ entry.actual + 2 * MAX_COST
-figure_small Budget entry small = omega (arith, small.budget)
-figure_small Actual entry small = omega arith
-figure_small ToGo entry small = omega (arith, small.to_go)
-figure_small Latest entry small = omega (arith, small.to_go)
-figure_small Overrun entry small = omega (arith, ints, small.budget, small.to_go)
+pub summary_fits : (place : ℕ → ℕ) (entries : List Entry) (n : ℕ) → AreEntriesWithinLimits entries → length entries ≡ n → Fit summary_columns place (account_at entries) n
+summary_fits place entries n small count c =
+    amounts_fit (λ a. amount_at (summary_columns (account_at entries a)) c) entries n small count (λ a lt. summary_small (entry_at entries a) (small.each a lt) c)
+
+-- sums of each column
+pub summary_sum : (a b sum : SummaryAmounts) → sum.budget ≡ a.budget +ℤ b.budget → sum.actual ≡ a.actual +ℤ b.actual → sum.to_go ≡ a.to_go +ℤ b.to_go →
+    sum.latest ≡ a.latest +ℤ b.latest → sum.overrun ≡ a.overrun +ℤ b.overrun → IsSum (summary_columns a) (summary_columns b) (summary_columns sum)
+summary_sum a b sum is_budget is_actual is_to_go is_latest is_overrun zero = is_budget
+summary_sum a b sum is_budget is_actual is_to_go is_latest is_overrun (suc zero) = is_actual
+summary_sum a b sum is_budget is_actual is_to_go is_latest is_overrun (suc (suc zero)) = is_to_go
+summary_sum a b sum is_budget is_actual is_to_go is_latest is_overrun (suc (suc (suc zero))) = is_latest
+summary_sum a b sum is_budget is_actual is_to_go is_latest is_overrun (suc (suc (suc (suc zero)))) = is_overrun
+summary_sum a b sum is_budget is_actual is_to_go is_latest is_overrun (suc (suc (suc (suc (suc c))))) = refl

@@ -14,11 +14,10 @@ use Rattle.pc_rollup.specs.Totals.{amount_at}
 use Rattle.pc_rollup.specs.Least.{IsLeastOver, least_at}
 use Rattle.pc_rollup.proofs.SumLaws.{IsSumOver-only}
 use Rattle.pc_times.specs.declared.forecasts.ActState.{ActState}
-use Rattle.pc_rollup.specs.declared.figures.column.Figure.TheVariants.{Budget, Actual, ToGo, Latest, Overrun}
 use Rattle.pc_rollup.specs.declared.figures.outline.OutlineRow.{OutlineRow}
 use Rattle.pc_rollup.specs.figures.Columns.{AreOnTree, AreItemSums, AmountColumn, IsColumn, IsLevelSum}
 use Rattle.pc_rollup.specs.inside.figures.Columns.{IsTotal}
-use Rattle.pc_rollup.specs.figures.Figures.{figure_at}
+use Rattle.pc_rollup.specs.figures.Figures.{account_at, actual_at, budget_at}
 use Rattle.pc_rollup.specs.figures.Outline.{AreOutlineRows, IsOutline, row_at}
 use Rattle.pc_rollup.specs.figures.Packages.{IsValueOf, overrun_at}
 use Rattle.pc_rollup.specs.figures.Slacks.{AreLeastSlacks}
@@ -83,11 +82,11 @@ pub one_summary : (tree : List ItemRow) (accounts : List AcctRow) (entries : Lis
     AreOnTree tree accounts → IsSummaryOf tree accounts entries s → IsSummaryOf tree accounts entries t → s ≡ t
 one_summary tree accounts entries s t ranged sound on_tree x y =
     same_parts (one_outline tree s.outline t.outline sound x.outline y.outline)
-    (one_column tree accounts ranged sound on_tree (figure_at Budget entries) s.budget t.budget x.budget y.budget)
-    (one_column tree accounts ranged sound on_tree (figure_at Actual entries) s.actual t.actual x.actual y.actual)
-    (one_column tree accounts ranged sound on_tree (figure_at ToGo entries) s.to_go t.to_go x.to_go y.to_go)
-    (one_column tree accounts ranged sound on_tree (figure_at Latest entries) s.latest t.latest x.latest y.latest)
-    (one_column tree accounts ranged sound on_tree (figure_at Overrun entries) s.overrun t.overrun x.overrun y.overrun)
+    (one_column tree accounts ranged sound on_tree (λ a. (account_at entries a).budget) s.budget t.budget x.budget y.budget)
+    (one_column tree accounts ranged sound on_tree (λ a. (account_at entries a).actual) s.actual t.actual x.actual y.actual)
+    (one_column tree accounts ranged sound on_tree (λ a. (account_at entries a).to_go) s.to_go t.to_go x.to_go y.to_go)
+    (one_column tree accounts ranged sound on_tree (λ a. (account_at entries a).latest) s.latest t.latest x.latest y.latest)
+    (one_column tree accounts ranged sound on_tree (λ a. (account_at entries a).overrun) s.overrun t.overrun x.overrun y.overrun)
 
 -- ---- the worth of the work
 
@@ -112,8 +111,8 @@ one_worth tree places states accounts entries v w x y =
     (λ a lt. one_value places states accounts entries a (amount_at x.values a) (amount_at y.values a)
     (x.are_values.each a (omega (arith, lt, x.are_values.one_each))) (y.are_values.each a (omega (arith, lt, x.are_values.one_each)))) in
     same_worth
-    (one_item_sums tree accounts (figure_at Budget entries) v.budget w.budget x.budget y.budget)
-    (one_item_sums tree accounts (figure_at Actual entries) v.actual w.actual x.actual y.actual)
+    (one_item_sums tree accounts (budget_at entries) v.budget w.budget x.budget y.budget)
+    (one_item_sums tree accounts (actual_at entries) v.actual w.actual x.actual y.actual)
     (one_item_sums tree accounts (amount_at y.values) v.value w.value (subst (λ (vs : List ℤ). AreItemSums tree accounts (amount_at vs) v.value) values x.value) y.value)
     (one_item_sums tree accounts (overrun_at entries y.values) v.overrun w.overrun (subst (λ (vs : List ℤ). AreItemSums tree accounts (overrun_at entries vs) v.overrun) values x.overrun) y.overrun)
 

@@ -1,38 +1,74 @@
 -- How an outlook is made of what activities cost and of the budgets of packages without activities.
-use Rattle.std.proofs.Common.{◌≡◌, ◌≢◌, ℕ, zero, suc, ◌+◌, ◌*◌, ◌<◌, ◌≤◌, ◌^◌, inl, inr, ⊎_elim, Bool, true, false, IsTrue, ◌↔◌, List, [], ◌∷◌, ◌++◌}
-use Rattle.std.proofs.Common.{length, slice_index, set, refl, sym, ap, ◌∙◌, subst, get_or-set_same, get_or-set_other, length-set, add-one, arith}
-use Rattle.std.specs.Prelude.{ℤ, pos, ◌+ℤ◌, unsigned_abs, sum_by}
-use Rattle.std.proofs.lemmas.Bool.{cases_eq, cases_lt}
+use Rattle.std.proofs.Common.{◌≡◌, ◌≢◌, ℕ, zero, suc, ◌+◌, ◌-◌, ◌<◌, ◌≤◌, ◌^◌, ◌⊎◌, inl, inr, ⊎_elim, Bool, true, false, IsTrue, ◌↔◌, List, cond, ltb}
+use Rattle.std.proofs.Common.{length, slice_index, set, refl, sym, ap, ◌∙◌, subst, get_or-set_same, get_or-set_other, length-set, arith}
+use Rattle.std.specs.Prelude.{ℤ, pos, ◌+ℤ◌, unsigned_abs}
+use Rattle.std.proofs.lemmas.Bool.{cases_eq, cases_lt, le-ltb, lt-ltb}
 use Rattle.std.proofs.lemmas.Int.{ints}
-use Rattle.std.proofs.lemmas.List.{length_push, get_or_past}
-use Rattle.std.proofs.lemmas.List.Sums.{sum_by_push}
-use Rattle.pc_model.specs.declared.limits.TheConstants.{MAX_ACCOUNTS, MAX_COST}
+use Rattle.std.proofs.lemmas.List.{get_or-map}
+use Rattle.pc_model.specs.declared.limits.TheConstants.{MAX_COST}
 use Rattle.pc_model.specs.Sums.{sum_to}
-use Rattle.pc_model.proofs.Sums.{sum_to-most}
+use Rattle.pc_model.proofs.Sums.{sum_to-le, sum_to-most}
 use Rattle.pc_wbs.specs.declared.tree.ItemRow.{ItemRow}
 use Rattle.pc_wbs.specs.Climb.{AreInRange, IsBelow, IsLeaf, IsTree}
 use Rattle.pc_wbs.proofs.OrderLaws.{IsBelow-top}
 use Rattle.pc_accounts.specs.declared.entry.Entry.{Entry}
 use Rattle.pc_accounts.specs.declared.book.AcctRow.{AcctRow}
 use Rattle.pc_accounts.specs.Amounts.{item_of}
-use Rattle.pc_accounts.specs.Entries.{AreEntriesWithinLimits}
-use Rattle.pc_rollup.specs.declared.totals.Placed.{Placed}
+use Rattle.pc_accounts.specs.Entries.{entry_at, AreEntriesWithinLimits, IsEntryWithinLimits}
 use Rattle.pc_rollup.specs.Sums.{IsSumOver}
 use Rattle.pc_rollup.specs.Totals.{amount_at}
-use Rattle.pc_rollup.specs.inside.Totals.{place_of, amount_of, AreOnLeaves, AreTotalsOf}
-use Rattle.pc_rollup.proofs.SumLaws.{IsSumOver-bound, IsSumOver-part, IsSumOver-same}
-use Rattle.pc_rollup.specs.declared.figures.column.Figure.TheVariants.{Budget}
+use Rattle.pc_rollup.specs.inside.Amounts.{column, AreRolled, CanBeRolled, CanTake, HaveTaken, IsSum}
+use Rattle.pc_rollup.proofs.SumLaws.{IsSumOver-amounts, IsSumOver-nothing, IsSumOver-only, IsSumOver-part, IsSumOver-plus, IsSumOver-same}
+use Rattle.pc_rollup.proofs.ColumnLaws.{AreSummedTo, Fit, below_sum, can_roll, can_take, length_rolled, taken}
 use Rattle.pc_rollup.specs.declared.figures.outlook.OutlookAmounts.{OutlookAmounts}
-use Rattle.pc_rollup.specs.figures.Columns.{AreItemSums, AreOnTree, IsItemSum}
-use Rattle.pc_rollup.specs.figures.Figures.{figure_at}
-use Rattle.pc_rollup.specs.figures.Outline.{IsOutline}
-use Rattle.pc_rollup.specs.figures.Outlook.{Outlook, AreAmountsOf, HasActivity, IsOutlookOf, IsRest, IsWork, amounts_at}
+use Rattle.pc_rollup.specs.figures.Columns.{AreOnTree, IsItemSum}
+use Rattle.pc_rollup.specs.figures.Figures.{budget_at}
+use Rattle.pc_rollup.specs.figures.Outlook.{Outlook, AreAmountsOf, HasActivity, IsOutlookOf, IsRest, amounts_at}
 use Rattle.pc_rollup.specs.inside.figures.Outlook.{HasWholeAtTop, StandOnLeaves}
-use Rattle.pc_rollup.specs.inside.figures.OutlookParts.{AreAdded, AreAddedTo, AreMarked, ArePlacedCosts, AreRests, AreSpare, AreWorks, CanBeAdded, HasActivityTo, IsSpare, mark_at}
-use Rattle.pc_rollup.proofs.lemmas.figures.PushLaws.{each_more}
-use Rattle.pc_rollup.proofs.lemmas.figures.SumLaws.{IsSumOver-alike}
+use Rattle.pc_rollup.specs.inside.figures.OutlookParts.{AreMarked, AreOutlooks, HasActivityTo, account_outlook, activity_outlook, mark_at, outlook_columns, rest_of}
 
 -- Sums
+
+-- the first n numbers have one function, those after them another
+abbrev pub joined : {X : Type 0} → ℕ → (ℕ → X) → (ℕ → X) → ℕ → X
+joined n f g k = cond (ltb k n) (f k) (g (k - n))
+
+module _ {X : Type 0} (n : ℕ) (f g : ℕ → X) where
+  pub joined_low : (k : ℕ) → k < n → joined n f g k ≡ f k
+  joined_low k lt = ap (λ (b : Bool). cond b (f k) (g (k - n))) (lt-ltb k n lt)
+
+  pub joined_high : (a : ℕ) → joined n f g (n + a) ≡ g a
+  joined_high a =
+      let after : (n + a) - n ≡ a = omega arith in
+      ap (λ (b : Bool). cond b (f (n + a)) (g ((n + a) - n))) (le-ltb (n + a) n (omega arith)) ∙ ap g after
+
+-- a sum over the numbers of both is one over the first n and one over those after them
+abbrev IsSplit : (ℕ → Type 0) → ℕ → ℕ → (ℕ → ℤ) → ℤ → Type 0
+IsSplit P n m f t =
+    (s : ℤ) × ((u : ℤ) × (IsSumOver P n f s × IsSumOver (λ a. P (n + a)) m (λ a. f (n + a)) u × (t ≡ s +ℤ u)))
+
+split_sum : (P : ℕ → Type 0) (n m : ℕ) (f : ℕ → ℤ) (t : ℤ) → IsSumOver P (n + m) f t → IsSplit P n m f t
+split_sum P n zero f t is =
+    let none : n + 0 ≡ n = omega arith in
+    (t, (pos 0, (subst (λ (k : ℕ). IsSumOver P k f t) none is, refl, omega (arith, ints))))
+split_sum P n (suc m) f t is =
+    let next : n + suc m ≡ suc (n + m) = omega arith in
+    of_last (λ z over. split_sum P n m f z over) (subst (λ (k : ℕ). IsSumOver P k f t) next is)
+  where
+    of_last : ((z : ℤ) → IsSumOver P (n + m) f z → IsSplit P n m f z) → IsSumOver P (suc (n + m)) f t → IsSplit P n (suc m) f t
+    of_last before (inl (p, (r, (over, e)))) =
+        let (s, (u, (first, second, sum))) = before r over in
+        (s, (u +ℤ f (n + m), (first, inl (p, (u, (second, refl))), omega (arith, ints))))
+    of_last before (inr (none, over)) =
+        let (s, (u, (first, second, sum))) = before t over in (s, (u, (first, inr (none, second), sum)))
+
+split_count : (n m : ℕ) (f : ℕ → ℕ) → sum_to (n + m) f ≡ sum_to n f + sum_to m (λ a. f (n + a))
+split_count n zero f =
+    let none : n + 0 ≡ n = omega arith in
+    omega (arith, ap (λ (k : ℕ). sum_to k f) none)
+split_count n (suc m) f =
+    let next : n + suc m ≡ suc (n + m) = omega arith in
+    omega (arith, split_count n m f, ap (λ (k : ℕ). sum_to k f) next)
 
 -- sums of functions that agree on the numbers that count
 pub IsSumOver-on : (P : ℕ → Type 0) (n : ℕ) (f g : ℕ → ℤ) (t : ℤ) → ((x : ℕ) → x < n → P x → f x ≡ g x) → IsSumOver P n f t → IsSumOver P n g t
@@ -84,202 +120,191 @@ marks_more items places n x marks so_far place known = record {
           λ (a, (below, at)). subst IsTrue (sym same) (from (⊎_elim (λ e. absurd (ne (place ∙ subst (λ (k : ℕ). slice_index places k ≡ y) e at))) (λ apart. (a, (omega arith, at))) (cases_eq a n))),
         )
 
--- Budgets of packages without activities
+-- What accounts and activities add
 
--- the amounts of the first n accounts, and how great they are together
-pub record AreSpareTo (places : List ℕ) (accounts : List AcctRow) (entries : List Entry) (n : ℕ) (amounts : List ℤ) : Type 0 where
-  pub one_each : length amounts ≡ n
-  pub each : (b : ℕ) → b < n → IsSpare places accounts entries b (amount_at amounts b)
-  pub small : (b : ℕ) → b < n → unsigned_abs (amount_at amounts b) ≤ MAX_COST
-  pub together : sum_by unsigned_abs amounts ≤ n * MAX_COST
+-- where each account and each activity stands, and what it adds
+module _ (marks : List Bool) (places : List ℕ) (cost : ℕ → ℕ) (accounts : List AcctRow) (entries : List Entry) where
+  abbrev pub account_adds : ℕ → OutlookAmounts
+  account_adds b = account_outlook (mark_at marks (item_of accounts b)) (entry_at entries b)
 
--- what the mark of its item makes of a budget
-pub spare_is : (places : List ℕ) (accounts : List AcctRow) (entries : List Entry) (b x : ℕ) (marks : List Bool) (has : Bool) (amount : ℤ) →
-    AreMarked (length marks) places (length places) marks → x ≡ item_of accounts b → x < length marks → has ≡ mark_at marks x →
-    (IsTrue has → amount ≡ pos 0) → ((IsTrue has → ⊥) → amount ≡ figure_at Budget entries b) → IsSpare places accounts entries b amount
-spare_is places accounts entries b x marks true amount are place known read some none =
-    inl (subst (HasActivity places) place ((are.each x known).0 (sym read)), some refl)
-spare_is places accounts entries b x marks false amount are place known read some none =
-    inr (λ has. never (read ∙ (are.each x known).1 (subst (HasActivity places) (sym place) has)), none never)
+  abbrev pub activity_adds : ℕ → OutlookAmounts
+  activity_adds a = activity_outlook (cost a)
 
--- one amount more
-pub spare_more : (places : List ℕ) (accounts : List AcctRow) (entries : List Entry) (n : ℕ) (amounts more : List ℤ) (next : ℤ) →
-    AreSpareTo places accounts entries n amounts → more ≡ amounts ++ next ∷ [] → IsSpare places accounts entries n next →
-    unsigned_abs next ≤ MAX_COST → AreSpareTo places accounts entries (n + 1) more
-spare_more places accounts entries n amounts more next so_far pushed is bound =
-    subst (AreSpareTo places accounts entries (n + 1)) (sym pushed) (record {
-      one_each = omega (arith, length_push amounts next, so_far.one_each);
-      each = each_more (IsSpare places accounts entries) amounts next (pos 0) n so_far.one_each so_far.each is;
-      small = each_more (λ a z. unsigned_abs z ≤ MAX_COST) amounts next (pos 0) n so_far.one_each so_far.small bound;
-      together = omega (arith, so_far.together, bound, sum_by_push unsigned_abs amounts next);
-    })
+  abbrev pub place_added : ℕ → ℕ
+  place_added = joined (length accounts) (item_of accounts) (slice_index places)
 
--- all of them
-pub spare_all : (places : List ℕ) (accounts : List AcctRow) (entries : List Entry) (n : ℕ) (amounts : List ℤ) → n ≡ length accounts →
-    AreSpareTo places accounts entries n amounts → AreSpare places accounts entries (length accounts) amounts
-spare_all places accounts entries n amounts all so_far = record {
-  one_each = so_far.one_each ∙ all;
-  each = λ b lt. so_far.each b (omega arith);
-  small = λ b. ⊎_elim (λ lt. so_far.small b lt) (λ past. omega (arith, ap unsigned_abs (get_or_past amounts b (pos 0) (omega (arith, so_far.one_each))))) (cases_lt b n);
-}
+  abbrev pub added : ℕ → OutlookAmounts
+  added = joined (length accounts) account_adds activity_adds
 
--- all of them together fit
-pub spare_fit : (places : List ℕ) (accounts : List AcctRow) (entries : List Entry) (n : ℕ) (amounts : List ℤ) → n ≤ MAX_ACCOUNTS →
-    AreSpareTo places accounts entries n amounts → sum_by unsigned_abs amounts < 2 ^ 63
-spare_fit places accounts entries n amounts few so_far = omega (arith, so_far.together, few)
+  abbrev pub AreAddedTo : ℕ → ℕ → List OutlookAmounts → Type 0
+  AreAddedTo items n sums =
+      AreSummedTo outlook_columns place_added added (length accounts + length places) items n sums
 
--- sums over them are sums of budgets
-pub rest_is : (tree : List ItemRow) (places : List ℕ) (accounts : List AcctRow) (entries : List Entry) (amounts : List ℤ) (y : ℕ) (t : ℤ) →
-    AreSpare places accounts entries (length accounts) amounts → IsItemSum tree accounts (amount_at amounts) y t →
-    IsRest tree places accounts entries y t
-rest_is tree places accounts entries amounts y t spare sum =
-    IsSumOver-on (λ b. (HasActivity places (item_of accounts b) → ⊥) × IsBelow tree (item_of accounts b) y) (length accounts) (amount_at amounts) (figure_at Budget entries) t
-    (λ b lt (free, below). ⊎_elim (λ (has, is). absurd (free has)) (λ (without, is). is) (spare.each b lt))
-    (IsSumOver-part (λ b. IsBelow tree (item_of accounts b) y) (λ b. HasActivity places (item_of accounts b) → ⊥) (length accounts) (amount_at amounts) t
-    (λ b lt. ⊎_elim (λ (has, is). inr (λ free. free has, is)) (λ (without, is). inl without) (spare.each b lt))
-    sum)
+  -- no amount is too large
+  rest_small : (has : Bool) (entry : Entry) → IsEntryWithinLimits entry → (c : ℕ) → unsigned_abs (amount_at (outlook_columns (account_outlook has entry)) c) ≤ MAX_COST
+  rest_small has entry small zero = small.budget
+  rest_small true entry small (suc zero) = omega arith
+  rest_small false entry small (suc zero) = small.budget
+  rest_small true entry small (suc (suc zero)) = omega (arith, ints, small.budget)
+  rest_small false entry small (suc (suc zero)) = omega (arith, ints)
+  rest_small has entry small (suc (suc (suc c))) = omega arith
 
--- Costs of activities
+  cost_small : (a c : ℕ) → unsigned_abs (amount_at (outlook_columns (activity_adds a)) c) ≤ cost a
+  cost_small a zero = omega arith
+  cost_small a (suc zero) = omega arith
+  cost_small a (suc (suc zero)) = omega arith
+  cost_small a (suc (suc (suc c))) = omega arith
 
--- the costs of the first n activities on their items
-pub record ArePlacedCostsTo (places costs : List ℕ) (n : ℕ) (placed : List Placed) : Type 0 where
-  pub are : ArePlacedCosts places costs n placed
-  pub same : sum_by (λ (p : Placed). unsigned_abs p.amount) placed ≡ sum_to n (slice_index costs)
+  pub added_fits : AreEntriesWithinLimits entries → length entries ≡ length accounts → sum_to (length places) cost ≤ 2 ^ 60 →
+      Fit outlook_columns place_added added (length accounts + length places)
+  added_fits small count fit c =
+      let size : OutlookAmounts → ℕ = λ o. unsigned_abs (amount_at (outlook_columns o) c) in
+      let n = length accounts in
+      let low = sum_to-most n MAX_COST (λ k. size (added k))
+      (λ k lt. subst (λ (o : OutlookAmounts). size o ≤ MAX_COST) (sym (joined_low n account_adds activity_adds k lt))
+      (rest_small (mark_at marks (item_of accounts k)) (entry_at entries k) (small.each k (omega arith)) c)) in
+      let high = sum_to-le (length places) (λ a. size (added (n + a))) cost
+      (λ a lt. subst (λ (o : OutlookAmounts). size o ≤ cost a) (sym (joined_high n account_adds activity_adds a)) (cost_small a c)) in
+      omega (arith, split_count n (length places) (λ k. size (added k)), low, high, small.few)
 
--- one cost more
-pub costs_more : (places costs : List ℕ) (n : ℕ) (placed more : List Placed) (next : Placed) → ArePlacedCostsTo places costs n placed →
-    more ≡ placed ++ next ∷ [] → next ≡ record { item = slice_index places n; amount = pos (slice_index costs n) } →
-    ArePlacedCostsTo places costs (n + 1) more
-costs_more places costs n placed more next so_far pushed is =
-    subst (ArePlacedCostsTo places costs (n + 1)) (sym pushed) (record {
-      are = record {
-        one_each = omega (arith, length_push placed next, so_far.are.one_each);
-        each = each_more (λ a p. p ≡ record { item = slice_index places a; amount = pos (slice_index costs a) }) placed next
-            (record { item = 0; amount = pos 0 }) n so_far.are.one_each so_far.are.each is;
-      };
-      same = omega (arith, so_far.same, sum_by_push (λ (p : Placed). unsigned_abs p.amount) placed next, ap (λ (p : Placed). unsigned_abs p.amount) is, one_more n);
-    })
-  where
-    one_more : (k : ℕ) → sum_to (k + 1) (slice_index costs) ≡ sum_to k (slice_index costs) + slice_index costs k
-    one_more k = rw add-one refl
+  module _ (tree : List ItemRow) (on_tree : AreOnTree tree accounts) (stand : StandOnLeaves tree places) where
+    pub known : (k : ℕ) → k < length accounts + length places → place_added k < length tree
+    known k lt =
+        ⊎_elim (λ low. subst (λ (x : ℕ). x < length tree) (sym (joined_low (length accounts) (item_of accounts) (slice_index places) k low)) (on_tree.known k low))
+        (λ high. rw (le-ltb k (length accounts) high) (stand.known (k - length accounts) (omega arith)))
+        (cases_lt k (length accounts))
 
--- what is placed stands on leaves
-pub costs_on_leaves : (tree : List ItemRow) (places costs : List ℕ) (placed : List Placed) → StandOnLeaves tree places → ArePlacedCosts places costs (length places) placed → AreOnLeaves tree placed
-costs_on_leaves tree places costs placed stand are = record {
-  known = λ k lt. subst (λ (x : ℕ). x < length tree) (sym (place k (omega (arith, are.one_each)))) (stand.known k (omega (arith, are.one_each)));
-  leaves = λ k lt. subst (IsLeaf tree) (sym (place k (omega (arith, are.one_each)))) (stand.leaves k (omega (arith, are.one_each)));
-}
-  where
-    place : (a : ℕ) → a < length places → place_of placed a ≡ slice_index places a
-    place a h = ap (λ (p : Placed). p.item) (are.each a h)
+    leaves : (k : ℕ) → k < length accounts + length places → IsLeaf tree (place_added k)
+    leaves k lt =
+        ⊎_elim (λ low. subst (IsLeaf tree) (sym (joined_low (length accounts) (item_of accounts) (slice_index places) k low)) (on_tree.leaves k low))
+        (λ high. rw (le-ltb k (length accounts) high) (stand.leaves (k - length accounts) (omega arith)))
+        (cases_lt k (length accounts))
 
--- sums over what is placed are sums over the activities
-pub work_is : (tree : List ItemRow) (places costs : List ℕ) (placed : List Placed) (totals : List ℤ) (y : ℕ) →
-    ArePlacedCosts places costs (length places) placed → AreTotalsOf tree placed totals → y < length tree →
-    IsWork tree places (slice_index costs) y (amount_at totals y)
-work_is tree places costs placed totals y are sums lt =
-    subst (λ (n : ℕ). IsSumOver (λ a. IsBelow tree (slice_index places a) y) n (λ a. pos (slice_index costs a)) (amount_at totals y)) are.one_each
-    (IsSumOver-alike (λ a. IsBelow tree (slice_index places a) y) (length placed) (amount_of placed) (λ a. pos (slice_index costs a)) (amount_at totals y)
-    (λ a h. ap (λ (p : Placed). p.amount) (are.each a (omega (arith, are.one_each))))
-    (IsSumOver-same (λ k. IsBelow tree (place_of placed k) y) (λ a. IsBelow tree (slice_index places a) y) (length placed) (amount_of placed) (amount_at totals y)
-    (λ a h below. subst (λ (x : ℕ). IsBelow tree x y) (place a (omega (arith, are.one_each))) below)
-    (λ a h below. subst (λ (x : ℕ). IsBelow tree x y) (sym (place a (omega (arith, are.one_each)))) below)
-    (sums.each y lt)))
-  where
-    place : (a : ℕ) → a < length places → place_of placed a ≡ slice_index places a
-    place a h = ap (λ (p : Placed). p.item) (are.each a h)
+    -- an account's turn, and an activity's
+    pub account_takes : (n : ℕ) (sums : List OutlookAmounts) → Fit outlook_columns place_added added (length accounts + length places) → n < length accounts →
+        AreAddedTo (length tree) n sums → CanTake outlook_columns sums (item_of accounts n) (account_adds n)
+    account_takes n sums fit lt so_far =
+        subst (λ (o : OutlookAmounts). CanTake outlook_columns sums (item_of accounts n) o) (joined_low (length accounts) account_adds activity_adds n lt)
+        (subst (λ (x : ℕ). CanTake outlook_columns sums x (added n)) (joined_low (length accounts) (item_of accounts) (slice_index places) n lt)
+        (can_take outlook_columns place_added added (length accounts + length places) (length tree) n sums fit (omega arith) (known n (omega arith)) so_far))
 
--- the sums by item
+    pub account_taken : (n : ℕ) (old new : List OutlookAmounts) → n < length accounts → AreAddedTo (length tree) n old →
+        HaveTaken outlook_columns old (item_of accounts n) (account_adds n) new → AreAddedTo (length tree) (n + 1) new
+    account_taken n old new lt so_far took =
+        taken outlook_columns place_added added (length accounts + length places) (length tree) n old new (omega arith) (known n (omega arith)) so_far
+        (subst (λ (o : OutlookAmounts). HaveTaken outlook_columns old (place_added n) o new) (sym (joined_low (length accounts) account_adds activity_adds n lt))
+        (subst (λ (x : ℕ). HaveTaken outlook_columns old x (account_adds n) new) (sym (joined_low (length accounts) (item_of accounts) (slice_index places) n lt)) took))
 
--- of spare budgets
-pub rests_are : (tree : List ItemRow) (places : List ℕ) (accounts : List AcctRow) (entries : List Entry) (amounts rests : List ℤ) →
-    AreSpare places accounts entries (length accounts) amounts → AreItemSums tree accounts (amount_at amounts) rests →
-    AreRests tree places accounts entries rests
-rests_are tree places accounts entries amounts rests spare sums = record {
-  one_each = sums.one_each;
-  each = λ y lt. rest_is tree places accounts entries amounts y (amount_at rests y) spare (sums.each y lt);
-}
+    pub activity_takes : (a : ℕ) (sums : List OutlookAmounts) → Fit outlook_columns place_added added (length accounts + length places) → a < length places →
+        AreAddedTo (length tree) (length accounts + a) sums → CanTake outlook_columns sums (slice_index places a) (activity_adds a)
+    activity_takes a sums fit lt so_far =
+        subst (λ (o : OutlookAmounts). CanTake outlook_columns sums (slice_index places a) o) (joined_high (length accounts) account_adds activity_adds a)
+        (subst (λ (x : ℕ). CanTake outlook_columns sums x (added (length accounts + a))) (joined_high (length accounts) (item_of accounts) (slice_index places) a)
+        (can_take outlook_columns place_added added (length accounts + length places) (length tree) (length accounts + a) sums fit (omega arith) (known (length accounts + a) (omega arith)) so_far))
 
--- of costs
-pub works_are : (tree : List ItemRow) (places costs : List ℕ) (placed : List Placed) (works : List ℤ) →
-    ArePlacedCosts places costs (length places) placed → AreTotalsOf tree placed works → AreWorks tree places (slice_index costs) works
-works_are tree places costs placed works are sums = record {
-  one_each = sums.one_each;
-  each = λ y lt. work_is tree places costs placed works y are sums lt;
-}
+    pub activity_taken : (a : ℕ) (old new : List OutlookAmounts) → a < length places → AreAddedTo (length tree) (length accounts + a) old →
+        HaveTaken outlook_columns old (slice_index places a) (activity_adds a) new → AreAddedTo (length tree) (length accounts + (a + 1)) new
+    activity_taken a old new lt so_far took =
+        let next : length accounts + a + 1 ≡ length accounts + (a + 1) = omega arith in
+        subst (λ (m : ℕ). AreAddedTo (length tree) m new) next
+        (taken outlook_columns place_added added (length accounts + length places) (length tree) (length accounts + a) old new (omega arith) (known (length accounts + a) (omega arith)) so_far
+        (subst (λ (o : OutlookAmounts). HaveTaken outlook_columns old (place_added (length accounts + a)) o new) (sym (joined_high (length accounts) account_adds activity_adds a))
+        (subst (λ (x : ℕ). HaveTaken outlook_columns old x (activity_adds a) new) (sym (joined_high (length accounts) (item_of accounts) (slice_index places) a)) took)))
 
--- How great the amounts are
+    pub all_roll : (n : ℕ) (sums : List OutlookAmounts) → Fit outlook_columns place_added added (length accounts + length places) → n ≡ length places →
+        AreAddedTo (length tree) (length accounts + n) sums → CanBeRolled outlook_columns tree sums
+    all_roll n sums fit all so_far =
+        can_roll outlook_columns place_added added (length accounts + length places) tree known leaves (length accounts + n) sums fit (omega arith) so_far
 
--- sums of budgets
-pub budgets_add : (tree : List ItemRow) (accounts : List AcctRow) (entries : List Entry) (totals : List ℤ) → AreEntriesWithinLimits entries →
-    length entries ≡ length accounts → AreItemSums tree accounts (figure_at Budget entries) totals → CanBeAdded totals
-budgets_add tree accounts entries totals small each sums = λ y lt.
-    let bound = IsSumOver-bound (λ a. IsBelow tree (item_of accounts a) y) (length accounts) (figure_at Budget entries) (amount_at totals y) (sums.each y (omega (arith, sums.one_each))) in
-    let within = sum_to-most (length accounts) MAX_COST (λ a. unsigned_abs (figure_at Budget entries a)) (λ a h. (small.each a (omega arith)).budget) in
-    omega (arith, small.few)
+    -- what an item has in a column is what accounts and what activities add
+    parts : (sums totals : List OutlookAmounts) → AreAddedTo (length tree) (length accounts + length places) sums → AreRolled outlook_columns tree sums totals →
+        (c y : ℕ) → y < length tree → (s : ℤ) × ((u : ℤ) × (IsItemSum tree accounts (λ b. amount_at (outlook_columns (account_adds b)) c) y s
+        × IsSumOver (λ a. IsBelow tree (slice_index places a) y) (length places) (λ a. amount_at (outlook_columns (activity_adds a)) c) u
+        × (amount_at (column outlook_columns c totals) y ≡ s +ℤ u)))
+    parts sums totals so_far rolled c y lt =
+        let n = length accounts in
+        let of : ℕ → ℤ = λ k. amount_at (outlook_columns (added k)) c in
+        let (s, (u, (first, second, sum))) = split_sum (λ k. IsBelow tree (place_added k) y) n (length places) of _
+        (below_sum outlook_columns place_added added (n + length places) tree known leaves (n + length places) sums totals refl so_far rolled c y lt) in (
+          s,
+          (
+            u,
+            (
+              IsSumOver-amounts (λ b. IsBelow tree (item_of accounts b) y) n of (λ b. amount_at (outlook_columns (account_adds b)) c) s
+                  (λ k h. ap (λ (o : OutlookAmounts). amount_at (outlook_columns o) c) (joined_low n account_adds activity_adds k h))
+                  (IsSumOver-same (λ k. IsBelow tree (place_added k) y) (λ b. IsBelow tree (item_of accounts b) y) n of s
+                  (λ k h below. subst (λ (x : ℕ). IsBelow tree x y) (joined_low n (item_of accounts) (slice_index places) k h) below)
+                  (λ k h below. subst (λ (x : ℕ). IsBelow tree x y) (sym (joined_low n (item_of accounts) (slice_index places) k h)) below) first),
+              IsSumOver-amounts (λ a. IsBelow tree (slice_index places a) y) (length places) (λ a. of (n + a)) (λ a. amount_at (outlook_columns (activity_adds a)) c) u
+                  (λ a h. ap (λ (o : OutlookAmounts). amount_at (outlook_columns o) c) (joined_high n account_adds activity_adds a))
+                  (IsSumOver-same (λ a. IsBelow tree (place_added (n + a)) y) (λ a. IsBelow tree (slice_index places a) y) (length places) (λ a. of (n + a)) u
+                  (λ a h below. subst (λ (x : ℕ). IsBelow tree x y) (joined_high n (item_of accounts) (slice_index places) a) below)
+                  (λ a h below. subst (λ (x : ℕ). IsBelow tree x y) (sym (joined_high n (item_of accounts) (slice_index places) a)) below) second),
+              sum,
+            ),
+          ),
+        )
 
--- sums of spare budgets
-pub rests_add : (tree : List ItemRow) (places : List ℕ) (accounts : List AcctRow) (entries : List Entry) (amounts totals : List ℤ) →
-    length accounts ≤ MAX_ACCOUNTS → AreSpare places accounts entries (length accounts) amounts →
-    AreItemSums tree accounts (amount_at amounts) totals → CanBeAdded totals
-rests_add tree places accounts entries amounts totals few spare sums = λ y lt.
-    let bound = IsSumOver-bound (λ a. IsBelow tree (item_of accounts a) y) (length accounts) (amount_at amounts) (amount_at totals y) (sums.each y (omega (arith, sums.one_each))) in
-    let within = sum_to-most (length accounts) MAX_COST (λ a. unsigned_abs (amount_at amounts a)) (λ a h. spare.small a) in
-    omega arith
+    -- the budgets that count are those of accounts without activities
+    rest_is : AreMarked (length tree) places (length places) marks → (y : ℕ) (t : ℤ) →
+        IsItemSum tree accounts (λ b. rest_of (mark_at marks (item_of accounts b)) (entry_at entries b)) y t → IsRest tree places accounts entries y t
+    rest_is are y t sum =
+        IsSumOver-on (λ b. (HasActivity places (item_of accounts b) → ⊥) × IsBelow tree (item_of accounts b) y) (length accounts)
+        (λ b. rest_of (mark_at marks (item_of accounts b)) (entry_at entries b)) (budget_at entries) t
+        (λ b lt (free, below). ⊎_elim (λ (has, is). absurd (free has)) (λ (without, is). is) (told b lt))
+        (IsSumOver-part (λ b. IsBelow tree (item_of accounts b) y) (λ b. HasActivity places (item_of accounts b) → ⊥) (length accounts)
+        (λ b. rest_of (mark_at marks (item_of accounts b)) (entry_at entries b)) t
+        (λ b lt. ⊎_elim (λ (has, is). inr (λ free. free has, is)) (λ (without, is). inl without) (told b lt))
+        sum)
+      where
+        by_mark : (b : ℕ) (mark : Bool) → (IsTrue mark ↔ HasActivity places (item_of accounts b)) →
+            (HasActivity places (item_of accounts b) × (rest_of mark (entry_at entries b) ≡ pos 0))
+            ⊎ ((HasActivity places (item_of accounts b) → ⊥) × (rest_of mark (entry_at entries b) ≡ budget_at entries b))
+        by_mark b true tells = inl (tells.0 refl, refl)
+        by_mark b false tells = inr (λ has. never (tells.1 has), refl)
 
--- sums of costs
-pub works_add : (tree : List ItemRow) (places costs : List ℕ) (placed : List Placed) (totals : List ℤ) →
-    ArePlacedCosts places costs (length places) placed → AreTotalsOf tree placed totals →
-    sum_to (length places) (slice_index costs) ≤ 2 ^ 60 → CanBeAdded totals
-works_add tree places costs placed totals are sums fit = λ y lt.
-    let bound = IsSumOver-bound (λ a. IsBelow tree (slice_index places a) y) (length places) (λ a. pos (slice_index costs a))
-    (amount_at totals y) (work_is tree places costs placed totals y are sums (omega (arith, sums.one_each))) in
-    omega arith
+        told : (b : ℕ) → b < length accounts →
+            (HasActivity places (item_of accounts b) × (rest_of (mark_at marks (item_of accounts b)) (entry_at entries b) ≡ pos 0))
+            ⊎ ((HasActivity places (item_of accounts b) → ⊥) × (rest_of (mark_at marks (item_of accounts b)) (entry_at entries b) ≡ budget_at entries b))
+        told b lt = by_mark b (mark_at marks (item_of accounts b)) (are.each (item_of accounts b) (on_tree.known b lt))
+
+    -- the sums by item are an outlook
+    pub outlooks_are : (n : ℕ) (sums totals : List OutlookAmounts) → n ≡ length places → AreMarked (length tree) places (length places) marks →
+        AreAddedTo (length tree) (length accounts + n) sums → AreRolled outlook_columns tree sums totals → AreOutlooks tree places cost accounts entries totals
+    outlooks_are n sums totals all are so_far rolled = record {
+      one_each = length_rolled outlook_columns tree sums totals rolled;
+      each = of_item;
+    }
+      where
+        of_item : (y : ℕ) → y < length tree → AreAmountsOf tree places cost accounts entries y (amounts_at totals y)
+        of_item y lt =
+            let long = length_rolled outlook_columns tree sums totals rolled in
+            let none : OutlookAmounts = record { budget = pos 0; outlook = pos 0; change = pos 0 } in
+            let whole = subst (λ (m : ℕ). AreAddedTo (length tree) (length accounts + m) sums) all so_far in
+            let under : ℕ → Type 0 = λ a. IsBelow tree (slice_index places a) y in
+            let above : ℕ → Type 0 = λ b. IsBelow tree (item_of accounts b) y in
+            let (s, (u, (budgets, nothing, budget))) = parts sums totals whole rolled 0 y lt in
+            let (rest, (work, (rests, works, outlook))) = parts sums totals whole rolled 1 y lt in
+            let (less, (more, (changes, also, change))) = parts sums totals whole rolled 2 y lt in
+            let at_budget = get_or-map (λ (o : OutlookAmounts). o.budget) totals y none (pos 0) (omega arith) in
+            let at_outlook = get_or-map (λ (o : OutlookAmounts). o.outlook) totals y none (pos 0) (omega arith) in
+            let at_change = get_or-map (λ (o : OutlookAmounts). o.change) totals y none (pos 0) (omega arith) in
+            let empty = IsSumOver-only under (length places) (λ a. pos 0) u (pos 0) nothing (IsSumOver-nothing under (length places) (λ a. pos 0) u nothing) in
+            let same = IsSumOver-only under (length places) (λ a. pos (cost a)) more work also works in
+            let both = IsSumOver-only above (length accounts) (λ b. (account_adds b).outlook) (less +ℤ s) rest
+            (IsSumOver-amounts above (length accounts) (λ b. (account_adds b).change +ℤ (account_adds b).budget) (λ b. (account_adds b).outlook) (less +ℤ s)
+            (λ b h. omega (arith, ints)) (IsSumOver-plus above (length accounts) (λ b. (account_adds b).change) (λ b. (account_adds b).budget) less s changes budgets)) rests in
+            record {
+              budget = subst (IsItemSum tree accounts (budget_at entries) y) (omega (arith, ints, at_budget, budget, empty)) budgets;
+              work = work;
+              work_is = works;
+              rest = rest;
+              rest_is = rest_is are y rest rests;
+              outlook = omega (arith, ints, at_outlook, outlook);
+              change = omega (arith, ints, at_budget, at_outlook, at_change, budget, outlook, change, empty, same, both);
+            }
 
 -- The outlook
-
--- the amounts of one item more
-pub added_more : (budgets works rests : List ℤ) (n : ℕ) (amounts more : List OutlookAmounts) (next : OutlookAmounts) →
-    AreAddedTo budgets works rests n amounts → more ≡ amounts ++ next ∷ [] →
-    AreAdded (amount_at budgets n) (amount_at works n) (amount_at rests n) next → AreAddedTo budgets works rests (n + 1) more
-added_more budgets works rests n amounts more next so_far pushed is =
-    subst (AreAddedTo budgets works rests (n + 1)) (sym pushed) (record {
-      one_each = omega (arith, length_push amounts next, so_far.one_each);
-      each = each_more (λ y (a : OutlookAmounts). AreAdded (amount_at budgets y) (amount_at works y) (amount_at rests y) a) amounts next
-          (record { budget = pos 0; outlook = pos 0; change = pos 0 }) n so_far.one_each so_far.each is;
-    })
-
--- the parts that an outlook is made from
-pub record HasParts (tree : List ItemRow) (places : List ℕ) (cost : ℕ → ℕ) (accounts : List AcctRow) (entries : List Entry) (outlook : Outlook) : Type 0 where
-  pub outline : IsOutline tree outlook.outline
-  pub budgets : List ℤ
-  pub budgets_are : AreItemSums tree accounts (figure_at Budget entries) budgets
-  pub works : List ℤ
-  pub works_are : AreWorks tree places cost works
-  pub rests : List ℤ
-  pub rests_are : AreRests tree places accounts entries rests
-  pub added : AreAddedTo budgets works rests (length budgets) outlook.amounts
-
--- it is the outlook
-pub parts_make : (tree : List ItemRow) (places : List ℕ) (cost : ℕ → ℕ) (accounts : List AcctRow) (entries : List Entry)
-    (outlook : Outlook) → HasParts tree places cost accounts entries outlook → IsOutlookOf tree places cost accounts entries outlook
-parts_make tree places cost accounts entries outlook parts = record {
-  outline = parts.outline;
-  one_each = parts.added.one_each ∙ parts.budgets_are.one_each;
-  each = of_item;
-}
-  where
-    of_item : (y : ℕ) → y < length tree → AreAmountsOf tree places cost accounts entries y (amounts_at outlook.amounts y)
-    of_item y lt =
-        let at = parts.added.each y (omega (arith, parts.budgets_are.one_each)) in record {
-          budget = subst (IsItemSum tree accounts (figure_at Budget entries) y) (sym at.budget) (parts.budgets_are.each y lt);
-          work = amount_at parts.works y;
-          work_is = parts.works_are.each y lt;
-          rest = amount_at parts.rests y;
-          rest_is = parts.rests_are.each y lt;
-          outlook = at.outlook;
-          change = rw (at.budget, at.outlook) at.change;
-        }
 
 -- everything stands below the top, so that the top has the whole outlook
 pub whole_at_top : (tree : List ItemRow) (places : List ℕ) (cost : ℕ → ℕ) (accounts : List AcctRow) (entries : List Entry)
@@ -295,7 +320,7 @@ whole_at_top tree places cost accounts entries outlook ranged sound stand on_tre
     record {
       rest = at.rest;
       rest_is = IsSumOver-same (λ b. (HasActivity places (item_of accounts b) → ⊥) × IsBelow tree (item_of accounts b) top)
-          (λ b. HasActivity places (item_of accounts b) → ⊥) (length accounts) (figure_at Budget entries) at.rest
+          (λ b. HasActivity places (item_of accounts b) → ⊥) (length accounts) (budget_at entries) at.rest
           (λ b h (free, below). free)
           (λ b h free. (free, rw same (IsBelow-top tree only_top (item_of accounts b) ranged sound only (on_tree.known b h))))
           at.rest_is;
@@ -317,9 +342,17 @@ outlook_alike tree places f g accounts entries outlook same is = record {
         let at = is.each y lt in record {
           budget = at.budget;
           work = at.work;
-          work_is = IsSumOver-alike (λ a. IsBelow tree (slice_index places a) y) (length places) (λ a. pos (f a)) (λ a. pos (g a)) at.work (λ a h. ap pos (same a h)) at.work_is;
+          work_is = IsSumOver-amounts (λ a. IsBelow tree (slice_index places a) y) (length places) (λ a. pos (f a)) (λ a. pos (g a)) at.work (λ a h. ap pos (same a h)) at.work_is;
           rest = at.rest;
           rest_is = at.rest_is;
           outlook = at.outlook;
           change = at.change;
         }
+
+-- sums of each column
+pub outlook_sum : (a b sum : OutlookAmounts) → sum.budget ≡ a.budget +ℤ b.budget → sum.outlook ≡ a.outlook +ℤ b.outlook → sum.change ≡ a.change +ℤ b.change →
+    IsSum (outlook_columns a) (outlook_columns b) (outlook_columns sum)
+outlook_sum a b sum is_budget is_outlook is_change zero = is_budget
+outlook_sum a b sum is_budget is_outlook is_change (suc zero) = is_outlook
+outlook_sum a b sum is_budget is_outlook is_change (suc (suc zero)) = is_change
+outlook_sum a b sum is_budget is_outlook is_change (suc (suc (suc c))) = refl

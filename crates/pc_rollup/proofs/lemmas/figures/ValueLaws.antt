@@ -1,21 +1,31 @@
 -- Which packages are finished, and what accounts are worth, made one after the other.
-use Rattle.std.proofs.Common.{◌≡◌, ◌≢◌, ℕ, ◌+◌, ◌*◌, ◌<◌, ◌≤◌, ◌^◌, ◌⊎◌, inl, inr, ⊎_elim, Bool, true, false, IsTrue, ◌&&◌, ◌↔◌, List, [], ◌∷◌, ◌++◌, length}
+use Rattle.std.proofs.Common.{◌≡◌, ◌≢◌, ℕ, zero, suc, ◌+◌, ◌*◌, ◌/◌, ◌<◌, ◌≤◌, ◌⊎◌, inl, inr, ⊎_elim, Bool, true, false, IsTrue, ◌&&◌, ◌↔◌, List, length, map}
 use Rattle.std.proofs.Common.{slice_index, set, Option, Some, None, unwrap_or, refl, sym, ap, ◌∙◌, subst, get_or-set_same, get_or-set_other, length-set, arith}
-use Rattle.std.specs.Prelude.{ℤ, pos, unsigned_abs, sum_by}
-use Rattle.std.proofs.lemmas.Bool.{cases_eq, cases_lt}
-use Rattle.std.proofs.lemmas.List.{length_push, get_or_past}
-use Rattle.std.proofs.lemmas.List.Sums.{sum_by_push}
-use Rattle.pc_model.specs.declared.limits.TheConstants.{MAX_ACCOUNTS, MAX_COST}
+use Rattle.std.specs.Prelude.{ℤ, pos, ◌+ℤ◌, ◌-ℤ◌, unsigned_abs}
+use Rattle.std.specs.List.{range_with_len}
+use Rattle.std.proofs.lemmas.Bool.{cases_eq, ne_eqb}
+use Rattle.std.proofs.lemmas.Int.{ints}
+use Rattle.std.proofs.lemmas.List.FromFn.{get_or-map-range_with_len, length-map-range_with_len}
+use Rattle.std.proofs.Math.Nat.{div-le_of_le-mul, mul_comm, mul-le-mul_left}
+use Rattle.pc_model.specs.declared.limits.TheConstants.{MAX_COST}
+use Rattle.pc_wbs.specs.declared.tree.ItemRow.{ItemRow}
 use Rattle.pc_accounts.specs.declared.book.AcctRow.{AcctRow}
 use Rattle.pc_accounts.specs.declared.entry.Entry.{Entry}
 use Rattle.pc_accounts.specs.Amounts.{item_of}
-use Rattle.pc_accounts.specs.Entries.{entry_at, value_of}
+use Rattle.pc_accounts.specs.Entries.{entry_at, latest_of, value_of, AreEntriesWithinLimits, IsEntryWithinLimits}
+use Rattle.pc_rollup.specs.inside.Amounts.{IsSum}
 use Rattle.pc_rollup.specs.Totals.{amount_at}
 use Rattle.pc_times.specs.declared.forecasts.ActState.{ActState}
 use Rattle.pc_times.specs.Forecast.{state_at}
-use Rattle.pc_rollup.specs.figures.Packages.{IsFinished, IsFinishedPackage, IsValueOf, AreValues}
-use Rattle.pc_rollup.specs.inside.figures.Packages.{IsProgress, progress_at, AreProgress}
-use Rattle.pc_rollup.proofs.lemmas.figures.PushLaws.{each_more}
+use Rattle.pc_rollup.specs.declared.figures.worth.WorthAmounts.{WorthAmounts}
+use Rattle.pc_rollup.specs.figures.Columns.{AreOnTree}
+use Rattle.pc_rollup.specs.figures.Packages.{IsFinished, IsFinishedPackage, IsValueOf, AreValues, overrun_at}
+use Rattle.pc_rollup.specs.figures.Worth.{IsWorthOf}
+use Rattle.pc_rollup.specs.inside.figures.Columns.{AreSumsByItem, worth_columns}
+use Rattle.pc_rollup.specs.inside.figures.Packages.{IsProgress, progress_at, AreProgress, worth_at, worth_of}
+use Rattle.pc_rollup.proofs.ColumnLaws.{Fit}
+use Rattle.pc_rollup.proofs.lemmas.figures.AmountLaws.{amounts_fit}
+use Rattle.pc_rollup.proofs.lemmas.figures.SumLaws.{item_sums_alike}
 
 -- a test that failed did not pass
 never : IsTrue false → ⊥
@@ -96,40 +106,80 @@ value_is places states accounts entries a x o v place is worth =
     by_test false same (yes_it, inr no_it) =
         inr (λ finished. no_it (subst (IsFinishedPackage places states) (sym place) finished), ap pos (worth ∙ ap (λ (b : Bool). value_of b (entry_at entries a)) same))
 
--- the values of the first n accounts
-pub record AreValuesTo (places : List ℕ) (states : List ActState) (accounts : List AcctRow) (entries : List Entry) (n : ℕ) (values : List ℤ) : Type 0 where
-  pub one_each : length values ≡ n
-  pub each : (a : ℕ) → a < n → IsValueOf places states accounts entries a (amount_at values a)
-  pub small : (a : ℕ) → a < n → unsigned_abs (amount_at values a) ≤ MAX_COST
-  pub together : sum_by unsigned_abs values ≤ n * MAX_COST
+-- no value is greater than the budget
+value_small : (finished : Bool) (entry : Entry) → value_of finished entry ≤ entry.budget
+value_small true entry = omega arith
+value_small false entry =
+    ⊎_elim (λ e. rw e (omega arith)) (λ ne. rw (ne_eqb (latest_of entry) 0 ne) (rounded (mul-le-mul_left entry.budget (le_add entry.actual entry.to_go)))) (cases_eq (latest_of entry) 0)
+  where
+    le_add : (m n : ℕ) → m ≤ m + n
+    le_add m n = omega arith
 
--- one value more
-pub values_more : (places : List ℕ) (states : List ActState) (accounts : List AcctRow) (entries : List Entry) (n : ℕ) (values more : List ℤ)
-    (next : ℤ) → AreValuesTo places states accounts entries n values → more ≡ values ++ next ∷ [] →
-    IsValueOf places states accounts entries n next → unsigned_abs next ≤ MAX_COST → AreValuesTo places states accounts entries (n + 1) more
-values_more places states accounts entries n values more next so_far pushed is bound =
-    subst (AreValuesTo places states accounts entries (n + 1)) (sym pushed) (record {
-      one_each = omega (arith, length_push values next, so_far.one_each);
-      each = each_more (IsValueOf places states accounts entries) values next (pos 0) n so_far.one_each so_far.each is;
-      small = each_more (λ a z. unsigned_abs z ≤ MAX_COST) values next (pos 0) n so_far.one_each so_far.small bound;
-      together = omega (arith, so_far.together, bound, sum_by_push unsigned_abs values next);
-    })
+    rounded : entry.budget * entry.actual ≤ entry.budget * latest_of entry → entry.budget * entry.actual / latest_of entry ≤ entry.budget
+    rounded le =
+        div-le_of_le-mul (latest_of entry) (subst (λ (n : ℕ). entry.budget * entry.actual ≤ n) (mul_comm entry.budget (latest_of entry)) le)
 
--- all of them
-pub values_all : (places : List ℕ) (states : List ActState) (accounts : List AcctRow) (entries : List Entry) (n : ℕ) (values : List ℤ) →
-    n ≡ length accounts → AreValuesTo places states accounts entries n values → AreValues places states accounts entries values
-values_all places states accounts entries n values all so_far = record {
-  one_each = so_far.one_each ∙ all;
-  each = λ a lt. so_far.each a (omega arith);
+-- nor is any other amount greater than what was spent and what an account may spend
+worth_small : (finished : Bool) (entry : Entry) → IsEntryWithinLimits entry → (c : ℕ) → unsigned_abs (amount_at (worth_columns (worth_of finished entry)) c) ≤ entry.actual + 2 * MAX_COST
+worth_small finished entry small zero = omega (arith, small.budget)
+worth_small finished entry small (suc zero) = omega arith
+worth_small finished entry small (suc (suc zero)) = omega (arith, small.budget, value_small finished entry)
+worth_small finished entry small (suc (suc (suc zero))) =
+    omega (arith, ints, small.budget, value_small finished entry)
+worth_small finished entry small (suc (suc (suc (suc c)))) = omega arith
+
+pub worth_fits : (progress : List (Option Bool)) (accounts : List AcctRow) (entries : List Entry) → AreEntriesWithinLimits entries →
+    length entries ≡ length accounts → Fit worth_columns (item_of accounts) (worth_at progress accounts entries) (length accounts)
+worth_fits progress accounts entries small count c =
+    amounts_fit (λ a. amount_at (worth_columns (worth_at progress accounts entries a)) c) entries (length accounts) small count
+    (λ a lt. worth_small (unwrap_or (progress_at progress (item_of accounts a)) false) (entry_at entries a) (small.each a lt) c)
+
+-- the values of the accounts, from the progress of all items
+abbrev pub values_of : List (Option Bool) → List AcctRow → List Entry → List ℤ
+values_of progress accounts entries =
+    map (λ a. (worth_at progress accounts entries a).value) (range_with_len 0 (length accounts))
+
+value_at : (progress : List (Option Bool)) (accounts : List AcctRow) (entries : List Entry) (a : ℕ) → a < length accounts →
+    amount_at (values_of progress accounts entries) a ≡ (worth_at progress accounts entries a).value
+value_at progress accounts entries a lt =
+    get_or-map-range_with_len (λ a. (worth_at progress accounts entries a).value) 0 (length accounts) a a (pos 0) lt (omega arith)
+
+values_are : (items : ℕ) (places : List ℕ) (states : List ActState) (progress : List (Option Bool)) (accounts : List AcctRow) (entries : List Entry) →
+    AreProgress items places states (length places) progress → ((a : ℕ) → a < length accounts → item_of accounts a < items) →
+    AreValues places states accounts entries (values_of progress accounts entries)
+values_are items places states progress accounts entries are known = record {
+  one_each = length-map-range_with_len (λ a. (worth_at progress accounts entries a).value) 0 (length accounts);
+  each = λ a lt. subst (IsValueOf places states accounts entries a) (sym (value_at progress accounts entries a lt))
+      (value_is places states accounts entries a (item_of accounts a) (progress_at progress (item_of accounts a))
+      (value_of (unwrap_or (progress_at progress (item_of accounts a)) false) (entry_at entries a)) refl (are.each (item_of accounts a) (known a lt)) refl);
 }
 
--- and none is greater than the limit
-pub values_small : (places : List ℕ) (states : List ActState) (accounts : List AcctRow) (entries : List Entry) (n : ℕ) (values : List ℤ) →
-    AreValuesTo places states accounts entries n values → (a : ℕ) → unsigned_abs (amount_at values a) ≤ MAX_COST
-values_small places states accounts entries n values so_far a =
-    ⊎_elim (λ lt. so_far.small a lt) (λ past. omega (arith, ap unsigned_abs (get_or_past values a (pos 0) (omega (arith, so_far.one_each))))) (cases_lt a n)
+-- the sums by item of what accounts are worth
+pub worth_is : (tree : List ItemRow) (places : List ℕ) (states : List ActState) (progress : List (Option Bool)) (accounts : List AcctRow) (entries : List Entry)
+    (sums : List WorthAmounts) → AreProgress (length tree) places states (length places) progress → AreOnTree tree accounts →
+    AreSumsByItem worth_columns tree accounts (worth_at progress accounts entries) sums →
+    IsWorthOf tree places states accounts entries (record {
+      budget = map (λ (w : WorthAmounts). w.budget) sums;
+      actual = map (λ (w : WorthAmounts). w.actual) sums;
+      value = map (λ (w : WorthAmounts). w.value) sums;
+      overrun = map (λ (w : WorthAmounts). w.overrun) sums;
+    })
+worth_is tree places states progress accounts entries sums are on_tree summed = record {
+  values = values_of progress accounts entries;
+  are_values = values_are (length tree) places states progress accounts entries are on_tree.known;
+  budget = summed 0;
+  actual = summed 1;
+  value = item_sums_alike tree accounts (λ a. (worth_at progress accounts entries a).value) (amount_at (values_of progress accounts entries)) _
+      (λ a lt. sym (value_at progress accounts entries a lt)) (summed 2);
+  overrun = item_sums_alike tree accounts (λ a. (worth_at progress accounts entries a).overrun) (overrun_at entries (values_of progress accounts entries)) _
+      (λ a lt. ap (λ (z : ℤ). pos (entry_at entries a).actual -ℤ z) (sym (value_at progress accounts entries a lt))) (summed 3);
+}
 
--- all of them together fit
-pub values_fit : (places : List ℕ) (states : List ActState) (accounts : List AcctRow) (entries : List Entry) (n : ℕ) (values : List ℤ) →
-    n ≤ MAX_ACCOUNTS → AreValuesTo places states accounts entries n values → sum_by unsigned_abs values < 2 ^ 63
-values_fit places states accounts entries n values few so_far = omega (arith, so_far.together, few)
+-- sums of each column
+pub worth_sum : (a b sum : WorthAmounts) → sum.budget ≡ a.budget +ℤ b.budget → sum.actual ≡ a.actual +ℤ b.actual → sum.value ≡ a.value +ℤ b.value →
+    sum.overrun ≡ a.overrun +ℤ b.overrun → IsSum (worth_columns a) (worth_columns b) (worth_columns sum)
+worth_sum a b sum is_budget is_actual is_value is_overrun zero = is_budget
+worth_sum a b sum is_budget is_actual is_value is_overrun (suc zero) = is_actual
+worth_sum a b sum is_budget is_actual is_value is_overrun (suc (suc zero)) = is_value
+worth_sum a b sum is_budget is_actual is_value is_overrun (suc (suc (suc zero))) = is_overrun
+worth_sum a b sum is_budget is_actual is_value is_overrun (suc (suc (suc (suc c)))) = refl

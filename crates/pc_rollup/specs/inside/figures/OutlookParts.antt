@@ -1,17 +1,10 @@
 -- What an outlook is made from.
-use Rattle.std.specs.Prelude.{◌≡◌, ◌⊎◌, ℕ, ◌<◌, ◌≤◌, ◌^◌, Bool, false, IsTrue, ◌↔◌, ℤ, pos, ◌+ℤ◌, ◌-ℤ◌, unsigned_abs, List, length, slice_index, slice_index_or}
-use Rattle.pc_model.specs.declared.limits.TheConstants.{MAX_COST}
+use Rattle.std.specs.Prelude.{◌≡◌, ℕ, ◌<◌, Bool, false, IsTrue, if◌then◌else◌, ◌↔◌, ℤ, pos, ◌-ℤ◌, List, [], ◌∷◌, length, slice_index, slice_index_or}
 use Rattle.pc_wbs.specs.declared.tree.ItemRow.{ItemRow}
 use Rattle.pc_accounts.specs.declared.entry.Entry.{Entry}
 use Rattle.pc_accounts.specs.declared.book.AcctRow.{AcctRow}
-use Rattle.pc_accounts.specs.Amounts.{item_of}
-use Rattle.pc_rollup.specs.declared.totals.Placed.{Placed}
-use Rattle.pc_rollup.specs.Totals.{amount_at}
-use Rattle.pc_rollup.specs.inside.Totals.{placed_at}
-use Rattle.pc_rollup.specs.declared.figures.column.Figure.TheVariants.{Budget}
 use Rattle.pc_rollup.specs.declared.figures.outlook.OutlookAmounts.{OutlookAmounts}
-use Rattle.pc_rollup.specs.figures.Figures.{figure_at}
-use Rattle.pc_rollup.specs.figures.Outlook.{HasActivity, IsRest, IsWork, amounts_at}
+use Rattle.pc_rollup.specs.figures.Outlook.{AreAmountsOf, amounts_at}
 
 -- of the first n activities, whether one stands on item x
 abbrev pub HasActivityTo : List ℕ → ℕ → ℕ → Type 0
@@ -26,44 +19,28 @@ pub record AreMarked (items : ℕ) (places : List ℕ) (n : ℕ) (marks : List B
   pub one_each : length marks ≡ items
   pub each : (x : ℕ) → x < items → IsTrue (mark_at marks x) ↔ HasActivityTo places n x
 
--- account b's budget, if its package has no activities, and nothing where it has some
-abbrev pub IsSpare : List ℕ → List AcctRow → List Entry → ℕ → ℤ → Type 0
-IsSpare places accounts entries b amount =
-    (HasActivity places (item_of accounts b) × (amount ≡ pos 0))
-    ⊎ ((HasActivity places (item_of accounts b) → ⊥) × (amount ≡ figure_at Budget entries b))
+-- the columns of an outlook
+abbrev pub outlook_columns : OutlookAmounts → List ℤ
+outlook_columns amounts =
+    amounts.budget ∷ amounts.outlook ∷ amounts.change ∷ []
 
--- one such amount for each of the first n accounts
-pub record AreSpare (places : List ℕ) (accounts : List AcctRow) (entries : List Entry) (n : ℕ) (amounts : List ℤ) : Type 0 where
-  pub one_each : length amounts ≡ n
-  pub each : (b : ℕ) → b < n → IsSpare places accounts entries b (amount_at amounts b)
-  pub small : (b : ℕ) → unsigned_abs (amount_at amounts b) ≤ MAX_COST
+-- what of an account's budget counts for the outlook, where its package has activities or has none
+abbrev pub rest_of : Bool → Entry → ℤ
+rest_of has_activity entry = if has_activity then pos 0 else pos entry.budget
 
--- what each of the first n activities costs, on the activity's item
-pub record ArePlacedCosts (places costs : List ℕ) (n : ℕ) (placed : List Placed) : Type 0 where
-  pub one_each : length placed ≡ n
-  pub each : (a : ℕ) → a < n → placed_at placed a ≡ record { item = slice_index places a; amount = pos (slice_index costs a) }
+-- what an account adds
+abbrev pub account_outlook : Bool → Entry → OutlookAmounts
+account_outlook has_activity entry = record {
+  budget = pos entry.budget;
+  outlook = rest_of has_activity entry;
+  change = rest_of has_activity entry -ℤ pos entry.budget;
+}
 
--- for each item what the activities cost together that stand on it or below it
-pub record AreWorks (tree : List ItemRow) (places : List ℕ) (cost : ℕ → ℕ) (works : List ℤ) : Type 0 where
-  pub one_each : length works ≡ length tree
-  pub each : (y : ℕ) → y < length tree → IsWork tree places cost y (amount_at works y)
+-- what an activity adds
+abbrev pub activity_outlook : ℕ → OutlookAmounts
+activity_outlook cost = record { budget = pos 0; outlook = pos cost; change = pos cost }
 
--- for each item the budgets together of the accounts on it or below it whose package has no activities
-pub record AreRests (tree : List ItemRow) (places : List ℕ) (accounts : List AcctRow) (entries : List Entry) (rests : List ℤ) : Type 0 where
-  pub one_each : length rests ≡ length tree
-  pub each : (y : ℕ) → y < length tree → IsRest tree places accounts entries y (amount_at rests y)
-
--- the amounts of an item from its budget, its work and its rest
-pub record AreAdded (allowed work rest : ℤ) (amounts : OutlookAmounts) : Type 0 where
-  pub budget : amounts.budget ≡ allowed
-  pub outlook : amounts.outlook ≡ work +ℤ rest
-  pub change : amounts.change ≡ (work +ℤ rest) -ℤ allowed
-
--- the same of the first n items
-pub record AreAddedTo (budgets works rests : List ℤ) (n : ℕ) (amounts : List OutlookAmounts) : Type 0 where
-  pub one_each : length amounts ≡ n
-  pub each : (y : ℕ) → y < n → AreAdded (amount_at budgets y) (amount_at works y) (amount_at rests y) (amounts_at amounts y)
-
--- no amount is too large to be added
-abbrev pub CanBeAdded : List ℤ → Type 0
-CanBeAdded amounts = (y : ℕ) → y < length amounts → unsigned_abs (amount_at amounts y) ≤ 2 ^ 60
+-- for each item the amounts of an outlook
+pub record AreOutlooks (tree : List ItemRow) (places : List ℕ) (cost : ℕ → ℕ) (accounts : List AcctRow) (entries : List Entry) (amounts : List OutlookAmounts) : Type 0 where
+  pub one_each : length amounts ≡ length tree
+  pub each : (y : ℕ) → y < length tree → AreAmountsOf tree places cost accounts entries y (amounts_at amounts y)
