@@ -1,5 +1,6 @@
 -- A deck is not both a project and refused, and each refusal can be told.
 use Rattle.std.proofs.Common.{◌≡◌, ◌≢◌, List, refl, sym, ◌∙◌, subst, ap}
+use Rattle.std.specs.Prelude.{Result, Ok, Err, IfErr, IsErrAnd}
 use Rattle.pc_wbs.specs.declared.error.TreeError.{TreeError}
 use Rattle.pc_wbs.specs.declared.error.TreeError.TheVariants as tree
 use Rattle.pc_wbs.specs.Climb.{IsTree}
@@ -177,6 +178,11 @@ told_of-refused deck fault (of_togos plan leaves even ordered second) = told_of-
 told_of-refused deck fault (of_pieces plan figures first) = told_of-piece deck fault first.holds
 told_of-refused deck fault (of_terms plan figures pieces first) = told_of-terms deck fault first.holds
 
+-- an error that a `?` hands on has what it had
+pub handed_on : {T : Type 0} (P : DeckError → Type 0) (result : Result T DeckError) (error : DeckError) → IsErrAnd result (λ e. e ≡ error) → P error → IfErr result P
+handed_on P (Ok value) error is has = tt
+handed_on P (Err e) error is has = subst P (sym is) has
+
 -- what a refusal that is told as one of the tree, or of the network, says
 pub refused_by_tree : (deck : Deck) (result : DeckError) → HasNoMisfit deck → Refuses (IsTreeFault deck.items (rows_of deck)) result → Refuses (IsRefusedWith deck) result
 refused_by_tree deck (Fault fault) cards at = of_tree cards at
@@ -187,7 +193,11 @@ pub refused_by_net : (deck : Deck) (e : NetError) (result : DeckError) → HasNo
 refused_by_net deck e (Fault fault) cards items refused is = of_network cards items e refused is
 refused_by_net deck e OutOfMemory cards items refused is = tt
 
--- what a fault of packages, of statuses and as-of, of amounts to go or of pieces says
+-- what a fault of leaves, of packages, of statuses and as-of, of amounts to go or of pieces says
+pub refused_by_leaves : (deck : Deck) (result : DeckError) → HasSoundPlan deck → Refuses (IsFirstFault (HasLeafFault deck)) result → Refuses (IsRefusedWith deck) result
+refused_by_leaves deck (Fault fault) plan first = of_leaves plan first
+refused_by_leaves deck OutOfMemory plan first = tt
+
 pub refused_by_packages : (deck : Deck) (result : DeckError) → HasSoundPlan deck → HasNoLeafFault deck → Refuses (IsFirstUnevenFault deck) result → Refuses (IsRefusedWith deck) result
 refused_by_packages deck (Fault fault) plan leaves first = of_packages plan leaves first
 refused_by_packages deck OutOfMemory plan leaves first = tt

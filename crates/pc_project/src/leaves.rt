@@ -1,12 +1,13 @@
 //! Whether activities and accounts are on leaves of the tree.
-ghost use Rattle.std.specs.Prelude.{◌≡◌, ◌<◌, length, map};
+ghost use Rattle.std.specs.Prelude.{◌≡◌, ◌<◌, IfErr, OnOk, length, map};
 ghost use Rattle.std.specs.List.{Any};
 ghost use Rattle.pc_wbs.specs.Climb.{IsLeaf};
 ghost use Rattle.pc_faults.specs.Faults.{not_a_leaf};
-ghost use Rattle.pc_faults.specs.inside.First.{IsFirstIn};
+ghost use Rattle.pc_faults.specs.First.{IsFirstFault};
+ghost use Rattle.pc_faults.specs.inside.First.{IsFirstIn, Refuses};
 ghost use Rattle.pc_project.specs.Misfit.{HasNoMisfit};
 ghost use Rattle.pc_project.specs.inside.Numbered.{AreNumbersOf};
-ghost use Rattle.pc_project.specs.PackageFaults.{HasLeafFault, StandsOnBranch};
+ghost use Rattle.pc_project.specs.PackageFaults.{HasLeafFault, HasNoLeafFault, StandsOnBranch};
 ghost use Rattle.pc_project.specs.Project.{accounts_in, rows_of};
 ghost use Rattle.pc_project.specs.inside.Project.{placement_of};
 
@@ -14,21 +15,28 @@ use crate::numbers::Numbers;
 use crate::placed::Placement;
 use pc_accounts::AcctRow;
 use pc_deck::Cards;
-use pc_faults::{Fault, earliest};
+use pc_faults::{DeckError, Fault, earliest};
 use pc_text::Code;
 use pc_wbs::Tree;
 
-/// Returns the first fault of activities and accounts whose item has items below it, if there is one (F28).
+/// Checks that no activity and no account is on an item that has items below it.
 ///
 /// Linear in activities and accounts.
-pub(crate) fn leaf_fault(cards: &Cards, numbers: &Numbers, tree: &Tree) -> Option<Fault>
+///
+/// # Errors
+/// The first fault of those that are (F28).
+pub(crate) fn check_leaves(cards: &Cards, numbers: &Numbers, tree: &Tree) -> Result<(), DeckError>
     requires numbers { AreNumbersOf cards.now numbers.now }
     requires tree { tree.now ≡ rows_of cards.now }
-    ensures { IsFirstIn (HasLeafFault cards.now) result }
+    ensures none { OnOk result (HasNoLeafFault cards.now) }
+    ensures first { IfErr result (Refuses (IsFirstFault (HasLeafFault cards.now))) }
 {
-    let of_acts = act_fault(cards, &numbers.lists.placements, tree);
-    let of_accounts = account_fault(cards, &numbers.lists.figures.accounts, tree);
-    earliest(of_acts, of_accounts)
+    let of_acts = act_fault(cards, &numbers.placements, tree);
+    let of_accounts = account_fault(cards, &numbers.accounts, tree);
+    match earliest(of_acts, of_accounts) {
+        Some(fault) => Err(DeckError::Fault(fault)),
+        None => Ok(()),
+    }
 }
 
 fn act_fault(cards: &Cards, placements: &[Placement], tree: &Tree) -> Option<Fault>

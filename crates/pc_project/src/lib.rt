@@ -4,12 +4,9 @@
 #![tactic(auto)]
 
 mod activity;
-mod costing;
 pub mod deck_text;
 mod estimates;
-mod figures;
 mod heading;
-mod kept;
 pub mod laws;
 mod leaves;
 mod lists;
@@ -21,9 +18,6 @@ mod packages;
 mod phases;
 mod pieces;
 mod placed;
-mod plan;
-mod pricing;
-mod progress;
 mod project;
 mod refers;
 mod statuses;

@@ -1,13 +1,11 @@
 //! The lists of a project, each in card order.
-ghost use Rattle.std.specs.Prelude.{◌≡◌, ◌≤◌, All, map, IfOk, OnOk};
+ghost use Rattle.std.specs.Prelude.{◌≡◌, ◌≤◌, All, map, IfOk};
 ghost use Rattle.pc_model.specs.declared.limits.TheConstants.{MAX_UNIT_DAYS};
 ghost use Rattle.pc_times.specs.Estimates.{expected_time, variance_of};
 ghost use Rattle.pc_deck.specs.Deck.{act_codes, event_codes};
 ghost use Rattle.pc_deck.specs.inside.Act.{IsActWithin};
 ghost use Rattle.pc_project.specs.Misfit.{HasOrderedEstimates};
 ghost use Rattle.pc_project.specs.Project.{term_of};
-ghost use Rattle.pc_project.specs.inside.Numbered.{AreProjectLists};
-ghost use Rattle.pc_project.specs.inside.Project.{placement_of};
 ghost use Rattle.pc_project.specs.Records.{codes_among};
 
 use crate::placed::Placement;
@@ -17,45 +15,8 @@ use pc_text::Code;
 use pc_times::{expected_sixths, variance_36};
 use std::alloc::{AllocError, Global};
 
-/// The lists of a project's activities and events.
-#[derive(Drop)]
-pub(crate) struct Lists {
-    pub events: Vec<Code>,
-    pub activities: Vec<Code>,
-    /// The number of each activity's item.
-    pub places: Vec<u32>,
-    pub terms: Vec<Term>,
-    /// The expected times of the activities, in sixths of a day.
-    pub expected: Vec<u64>,
-    /// The variances of these times, in thirty-sixths of a squared day.
-    pub variances: Vec<u64>,
-}
-
-impl Lists {
-    /// Replaces the lists by those of the cards.
-    pub(crate) fn fill(
-        &mut self,
-        alloc: Global,
-        cards: &Cards,
-        placements: &[Placement],
-    ) -> Result<(), AllocError>
-        requires ordered { All HasOrderedEstimates cards.now.acts }
-        requires placements { placements.now ≡ map (placement_of cards.now) cards.now.acts }
-        ensures lists { OnOk result (AreProjectLists cards.now self.new) }
-    {
-        let acts = cards.acts();
-        let unit_days = cards.project().unit_days;
-        self.events = codes_of_events(alloc, cards)?;
-        self.activities = codes_of_acts(alloc, cards)?;
-        self.places = places(alloc, placements)?;
-        self.terms = terms(alloc, acts)?;
-        self.expected = expected_times(alloc, acts, unit_days)?;
-        self.variances = variances(alloc, acts, unit_days)?;
-        Ok(())
-    }
-}
-
-fn codes_of_events(alloc: Global, cards: &Cards) -> Result<Vec<Code>, AllocError>
+/// Returns the code of each event, in card order.
+pub(crate) fn codes_of_events(alloc: Global, cards: &Cards) -> Result<Vec<Code>, AllocError>
     ensures { IfOk result (λ codes. codes.items ≡ event_codes cards.now) }
 {
     cards.events().iter().map(|event| event.code).collect(alloc)
@@ -75,7 +36,8 @@ pub(crate) fn codes_of_items(alloc: Global, items: &[ItemCard]) -> Result<Vec<Co
     items.iter().map(|item| item.code).collect(alloc)
 }
 
-fn places(alloc: Global, placements: &[Placement]) -> Result<Vec<u32>, AllocError>
+/// Returns the number of each activity's item, in card order.
+pub(crate) fn places(alloc: Global, placements: &[Placement]) -> Result<Vec<u32>, AllocError>
     ensures { IfOk result (λ places. places.items ≡ map (λ placement. placement.item) placements.now) }
 {
     placements
@@ -94,7 +56,8 @@ pub(crate) fn arcs(alloc: Global, placements: &[Placement]) -> Result<Vec<Arc>, 
         .collect(alloc)
 }
 
-fn terms(alloc: Global, acts: &[ActCard]) -> Result<Vec<Term>, AllocError>
+/// Returns what each activity may last and costs, in card order.
+pub(crate) fn terms(alloc: Global, acts: &[ActCard]) -> Result<Vec<Term>, AllocError>
     ensures { IfOk result (λ terms. terms.items ≡ map term_of acts.now) }
 {
     acts.iter()
@@ -108,7 +71,11 @@ fn terms(alloc: Global, acts: &[ActCard]) -> Result<Vec<Term>, AllocError>
 }
 
 /// Returns the expected time of each activity, in sixths of a day.
-fn expected_times(alloc: Global, acts: &[ActCard], unit_days: u64) -> Result<Vec<u64>, AllocError>
+pub(crate) fn expected_times(
+    alloc: Global,
+    acts: &[ActCard],
+    unit_days: u64,
+) -> Result<Vec<u64>, AllocError>
     requires unit { unit_days ≤ MAX_UNIT_DAYS }
     requires ordered { All HasOrderedEstimates acts.now }
     requires within { All IsActWithin acts.now }
@@ -123,7 +90,11 @@ fn expected_times(alloc: Global, acts: &[ActCard], unit_days: u64) -> Result<Vec
 }
 
 /// Returns the variance of each activity's time, in thirty-sixths of a squared day.
-fn variances(alloc: Global, acts: &[ActCard], unit_days: u64) -> Result<Vec<u64>, AllocError>
+pub(crate) fn variances(
+    alloc: Global,
+    acts: &[ActCard],
+    unit_days: u64,
+) -> Result<Vec<u64>, AllocError>
     requires unit { unit_days ≤ MAX_UNIT_DAYS }
     requires ordered { All HasOrderedEstimates acts.now }
     requires within { All IsActWithin acts.now }

@@ -28,9 +28,9 @@ pub(crate) fn net_of(alloc: Global, cards: &Cards, numbers: &Numbers) -> Result<
     ensures sound { OnOk result (IsSound (network_of cards.now)) }
     ensures refused { IfErr result (Refuses (IsRefusedWith cards.now)) }
 {
-    let arcs = arcs(alloc, &numbers.lists.placements)?;
+    let arcs = arcs(alloc, &numbers.placements)?;
     let events = cards.events().len() as u32;
-    match Net::build(alloc, events, numbers.ends.start, numbers.ends.end, &arcs) {
+    match Net::build(alloc, events, numbers.start, numbers.end, &arcs) {
         Ok(net) => Ok(net),
         Err(error) => Err(fault_of(alloc, cards, error)),
     }

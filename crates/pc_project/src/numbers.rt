@@ -6,35 +6,32 @@ ghost use Rattle.pc_faults.specs.inside.First.{IsFirstIn, Refuses};
 ghost use Rattle.pc_project.specs.Misfit.{HasListedFault, HasMisfit};
 ghost use Rattle.pc_project.specs.inside.Numbered.{AreListsOf, AreNumbersOf};
 
-use crate::figures::Figures;
 use crate::load::LoadItem;
-use crate::placed::{Ends, Placement, ends_of};
+use crate::placed::{Placement, ends_of};
 use crate::refers::look_up_all;
+use pc_accounts::status::StatusRow;
+use pc_accounts::{AcctRow, MoneyRow};
 use pc_deck::Cards;
 use pc_faults::{DeckError, Fault, earlier_of, earliest};
 use pc_model::PieceRow;
 use pc_wbs::ItemRow;
 use std::alloc::{AllocError, Global};
 
-/// What the cards of a deck name, by numbers.
+/// What the cards of a deck name, by numbers: each list has one entry per card of its kind, in card order.
 #[derive(Drop)]
 pub(crate) struct Numbers {
-    pub ends: Ends,
-    pub lists: FoundLists,
-}
-
-/// What the cards that are in lists name, by numbers, as far as they have no fault.
-#[derive(Drop)]
-pub(crate) struct FoundLists {
-    /// One for each item, in card order.
+    /// The event where the project starts.
+    pub start: u32,
+    /// The event where the project ends.
+    pub end: u32,
     pub rows: Vec<ItemRow>,
-    /// One for each activity, in card order.
     pub placements: Vec<Placement>,
-    /// One for each PIECE card, in card order.
     pub pieces: Vec<PieceRow>,
-    /// One for each LOAD card, in card order.
     pub loads: Vec<LoadItem>,
-    pub figures: Figures,
+    pub accounts: Vec<AcctRow>,
+    pub charges: Vec<MoneyRow>,
+    pub togos: Vec<MoneyRow>,
+    pub statuses: Vec<StatusRow>,
 }
 
 /// Looks up once what each card names.
@@ -45,49 +42,61 @@ pub(crate) fn numbers_of(alloc: Global, cards: &Cards) -> Result<Numbers, DeckEr
     ensures numbers { IfOk result (AreNumbersOf cards.now) }
     ensures first { IfErr result (Refuses (IsFirstFault (HasMisfit cards.now))) }
 {
-    let mut lists = FoundLists {
+    let mut numbers = Numbers {
+        start: 0,
+        end: 0,
         rows: Vec::new(alloc),
         placements: Vec::new(alloc),
         pieces: Vec::new(alloc),
         loads: Vec::new(alloc),
-        figures: Figures {
-            accounts: Vec::new(alloc),
-            charges: Vec::new(alloc),
-            togos: Vec::new(alloc),
-            statuses: Vec::new(alloc),
-        },
+        accounts: Vec::new(alloc),
+        charges: Vec::new(alloc),
+        togos: Vec::new(alloc),
+        statuses: Vec::new(alloc),
     };
-    let of_lists = lists.look_up(cards)?;
+    let of_lists = numbers.look_up_lists(cards)?;
     match (ends_of(cards), of_lists) {
-        (Ok(ends), None) => Ok(Numbers { ends, lists }),
+        (Ok(ends), None) => {
+            numbers.start = ends.0;
+            numbers.end = ends.1;
+            Ok(numbers)
+        }
         (Ok(_), Some(fault)) => Err(DeckError::Fault(fault)),
         (Err(first), fault) => Err(DeckError::Fault(earlier_of(first, fault))),
     }
 }
 
-impl FoundLists {
+impl Numbers {
     /// Looks up what each card of a list names, and returns the first fault of these cards.
-    fn look_up(&mut self, cards: &Cards) -> Result<Option<Fault>, AllocError>
+    ///
+    /// The numbers are complete only if there is no fault.
+    fn look_up_lists(&mut self, cards: &Cards) -> Result<Option<Fault>, AllocError>
         requires rows { self.old.rows.items ≡ [] }
         requires placements { self.old.placements.items ≡ [] }
         requires pieces { self.old.pieces.items ≡ [] }
         requires loads { self.old.loads.items ≡ [] }
-        requires accounts { self.old.figures.accounts.items ≡ [] }
-        requires charges { self.old.figures.charges.items ≡ [] }
-        requires togos { self.old.figures.togos.items ≡ [] }
-        requires statuses { self.old.figures.statuses.items ≡ [] }
+        requires accounts { self.old.accounts.items ≡ [] }
+        requires charges { self.old.charges.items ≡ [] }
+        requires togos { self.old.togos.items ≡ [] }
+        requires statuses { self.old.statuses.items ≡ [] }
         ensures first { IfOk result (IsFirstIn (HasListedFault cards.now)) }
         ensures lists { IfOk result (λ fault. fault ≡ None → AreListsOf cards.now self.new) }
         ensures within { OnOk result (IsWithinLimits cards.now) }
     {
-        let row = look_up_all(cards, cards.items(), &mut self.rows)?;
+        let item = look_up_all(cards, cards.items(), &mut self.rows)?;
         let act = look_up_all(cards, cards.acts(), &mut self.placements)?;
         let piece = look_up_all(cards, cards.pieces(), &mut self.pieces)?;
         let load = look_up_all(cards, cards.loads(), &mut self.loads)?;
-        let figure = self.figures.look_up(cards)?;
-        let of_acts = earliest(row, act);
+        let account = look_up_all(cards, cards.accounts(), &mut self.accounts)?;
+        let charge = look_up_all(cards, cards.charges(), &mut self.charges)?;
+        let togo = look_up_all(cards, cards.togos(), &mut self.togos)?;
+        let status = look_up_all(cards, cards.statuses(), &mut self.statuses)?;
+        let of_acts = earliest(item, act);
         let of_parts = earliest(piece, load);
-        let of_both = earliest(of_acts, of_parts);
-        Ok(earliest(of_both, figure))
+        let of_spent = earliest(account, charge);
+        let of_rest = earliest(togo, status);
+        let of_plan = earliest(of_acts, of_parts);
+        let of_figures = earliest(of_spent, of_rest);
+        Ok(earliest(of_plan, of_figures))
     }
 }

@@ -33,8 +33,8 @@ pub(crate) fn check_packages(
     ensures even { OnOk result (IsEven cards.now) }
     ensures first { IfErr result (Refuses (IsFirstUnevenFault cards.now)) }
 {
-    let work = work_rows(alloc, cards, &numbers.lists.placements)?;
-    match reconcile(alloc, tree, &numbers.lists.figures.accounts, &work) {
+    let work = work_rows(alloc, cards, &numbers.placements)?;
+    match reconcile(alloc, tree, &numbers.accounts, &work) {
         Ok(()) => Ok(()),
         Err(uneven) => Err(fault_of(cards, uneven)),
     }

@@ -1,5 +1,5 @@
 //! From the cards of a deck to its project, phase by phase.
-ghost use Rattle.std.specs.Prelude.{◌≡◌, length, IfOk, IfErr, OnOk};
+ghost use Rattle.std.specs.Prelude.{◌≡◌, All, length, map, IfOk, IfErr, OnOk};
 ghost use Rattle.pc_accounts.specs.Amounts.{AreEntriesOf};
 ghost use Rattle.pc_accounts.specs.Entries.{AreEntriesWithinLimits};
 ghost use Rattle.pc_faults.specs.declared.fault.Fault.{Fault};
@@ -7,25 +7,35 @@ ghost use Rattle.pc_faults.specs.inside.First.{Refuses};
 ghost use Rattle.pc_project.specs.DisorderFaults.{as_of_in};
 ghost use Rattle.pc_project.specs.Figures.{AreStatesOf, IsProjectOfDeck};
 ghost use Rattle.pc_project.specs.inside.Numbered.{AreNumbersOf, AreProjectLists};
-ghost use Rattle.pc_project.specs.inside.Parts.{project_with};
-ghost use Rattle.pc_project.specs.Planned.{IsPlanned};
+ghost use Rattle.pc_project.specs.inside.Project.{placement_of};
+ghost use Rattle.pc_project.specs.Misfit.{HasOrderedEstimates};
+ghost use Rattle.pc_project.specs.PackageFaults.{HasNoLeafFault};
 ghost use Rattle.pc_project.specs.PieceFaults.{HasNoPieceFault};
 ghost use Rattle.pc_project.specs.Makes.{MakesProject};
 ghost use Rattle.pc_project.specs.Project.{accounts_in, charges_in, network_of, rows_of, statuses_in, togos_in};
-ghost use Rattle.pc_project.specs.Refusal.{HasNoFault, HasSoundFigures, HasSoundPlan, IsRefusedWith};
+ghost use Rattle.pc_project.specs.Refusal.{HasNoFault, HasSoundFigures, HasSoundPlan, IsEven, IsRefusedWith};
 ghost use Rattle.pc_project.specs.TermsFaults.{HasTermsFault};
 
-use crate::lists::Lists;
+use crate::leaves::check_leaves;
+use crate::lists::{codes_of_acts, codes_of_events, expected_times, places, terms, variances};
 use crate::network::net_of;
 use crate::numbers::{Numbers, numbers_of};
-use crate::pieces::first_piece_fault;
-use crate::plan::{Frame, Plan};
-use crate::progress::progress_of;
+use crate::packages::check_packages;
+use crate::pieces::check_pieces;
+use crate::placed::Placement;
 use crate::project::Project;
+use crate::statuses::states_of;
+use crate::togos::book_of;
 use crate::tree::tree_between;
+use pc_accounts::Book;
 use pc_deck::Cards;
 use pc_faults::{DeckError, Fault};
-use std::alloc::Global;
+use pc_model::Term;
+use pc_net::Net;
+use pc_text::Code;
+use pc_times::ActState;
+use pc_wbs::Tree;
+use std::alloc::{AllocError, Global};
 
 /// Makes the project of the cards, and keeps the cards in it.
 ///
@@ -58,29 +68,42 @@ pub fn project_of(alloc: Global, cards: Cards) -> Result<Project, DeckError>
     ensures makes { IfOk result (λ _. MakesProject cards) }
     ensures refused { IfErr result (Refuses (IsRefusedWith cards)) }
 {
-    match plan_of(alloc, &cards) {
-        Ok(plan) => Ok(Project { cards, plan }),
-        Err(error) => Err(error),
-    }
+    let numbers = numbers_of(alloc, &cards)?;
+    let frame = frame_of(alloc, &cards, &numbers)?;
+    Ok(Project {
+        cards,
+        tree: frame.tree,
+        net: frame.net,
+        book: frame.book,
+        states: frame.states,
+        events: frame.events,
+        activities: frame.activities,
+        places: frame.places,
+        terms: frame.terms,
+        expected: frame.expected,
+        variances: frame.variances,
+        pieces: numbers.pieces,
+        loads: numbers.loads,
+        accounts: numbers.accounts,
+        charges: numbers.charges,
+        togos: numbers.togos,
+        statuses: numbers.statuses,
+    })
 }
 
-fn plan_of(alloc: Global, cards: &Cards) -> Result<Plan, DeckError>
-    ensures plan { IfOk result (λ plan. IsPlanned (project_with cards.now plan)) }
-    ensures refused { IfErr result (Refuses (IsRefusedWith cards.now)) }
-{
-    let numbers = match numbers_of(alloc, cards) {
-        Ok(numbers) => numbers,
-        Err(error) => return Err(error),
-    };
-    match frame_of(alloc, cards, &numbers) {
-        Ok(frame) => Ok(Plan {
-            frame,
-            pieces: numbers.lists.pieces,
-            loads: numbers.lists.loads,
-            figures: numbers.lists.figures,
-        }),
-        Err(error) => Err(error),
-    }
+/// What the phases after the look-ups give of a project.
+#[derive(Drop)]
+pub(crate) struct Frame {
+    pub tree: Tree,
+    pub net: Net,
+    pub book: Book,
+    pub states: Vec<ActState>,
+    pub events: Vec<Code>,
+    pub activities: Vec<Code>,
+    pub places: Vec<u32>,
+    pub terms: Vec<Term>,
+    pub expected: Vec<u64>,
+    pub variances: Vec<u64>,
 }
 
 /// Goes through the phases after the look-ups. Each phase relies on the earlier ones having found no fault.
@@ -90,51 +113,26 @@ fn frame_of(alloc: Global, cards: &Cards, numbers: &Numbers) -> Result<Frame, De
     ensures tree { IfOk result (λ frame. frame.tree ≡ rows_of cards.now) }
     ensures network { IfOk result (λ frame. frame.net ≡ network_of cards.now) }
     ensures entries { IfOk result (λ frame. AreEntriesOf (accounts_in cards.now) (charges_in cards.now)
-        (togos_in cards.now) (as_of_in cards.now) frame.progress.book) }
-    ensures small { IfOk result (λ frame. AreEntriesWithinLimits frame.progress.book) }
+        (togos_in cards.now) (as_of_in cards.now) frame.book) }
+    ensures small { IfOk result (λ frame. AreEntriesWithinLimits frame.book) }
     ensures states { IfOk result (λ frame. AreStatesOf cards.now.project.start_day (statuses_in cards.now)
-        (length cards.now.acts) frame.progress.states.items) }
-    ensures lists { IfOk result (λ frame. AreProjectLists cards.now frame.lists) }
-    ensures refused { IfErr result (Refuses (IsRefusedWith cards.now)) }
-{
-    let tree = match tree_between(alloc, cards.items(), &numbers.lists.rows) {
-        Ok(tree) => tree,
-        Err(error) => return Err(error),
-    };
-    let net = match net_of(alloc, cards, numbers) {
-        Ok(net) => net,
-        Err(error) => return Err(error),
-    };
-    let progress = match progress_of(alloc, cards, numbers, &tree) {
-        Ok(progress) => progress,
-        Err(error) => return Err(error),
-    };
-    // Called for the bound on each entry (`AreEntriesWithinLimits`), which the book's type keeps.
-    let _entries = progress.book.entries();
-    match lists_of(alloc, cards, numbers) {
-        Ok(lists) => Ok(Frame {
-            tree,
-            net,
-            progress,
-            lists,
-        }),
-        Err(error) => Err(error),
-    }
-}
-
-/// Returns the lists of a project with sound figures, or the first fault of its pieces or terms of time (F33 to F36).
-fn lists_of(alloc: Global, cards: &Cards, numbers: &Numbers) -> Result<Lists, DeckError>
-    requires plan { HasSoundPlan cards.now }
-    requires figures { HasSoundFigures cards.now }
-    requires numbers { AreNumbersOf cards.now numbers.now }
-    ensures makes { OnOk result (HasNoFault cards.now) }
+        (length cards.now.acts) frame.states.items) }
     ensures lists { IfOk result (AreProjectLists cards.now) }
     ensures refused { IfErr result (Refuses (IsRefusedWith cards.now)) }
 {
-    if let Err(error) = check_costs(alloc, cards, numbers) {
-        return Err(error);
-    }
-    let mut lists = Lists {
+    let tree = tree_between(alloc, cards.items(), &numbers.rows)?;
+    let net = net_of(alloc, cards, numbers)?;
+    check_items(alloc, cards, numbers, &tree)?;
+    let states = states_of(alloc, cards, numbers)?;
+    let book = book_of(alloc, cards, numbers)?;
+    // Called for the bound on each entry (`AreEntriesWithinLimits`), which the book's type keeps.
+    let _entries = book.entries();
+    check_costs(alloc, cards, numbers)?;
+    let mut frame = Frame {
+        tree,
+        net,
+        book,
+        states,
         events: Vec::new(alloc),
         activities: Vec::new(alloc),
         places: Vec::new(alloc),
@@ -142,10 +140,56 @@ fn lists_of(alloc: Global, cards: &Cards, numbers: &Numbers) -> Result<Lists, De
         expected: Vec::new(alloc),
         variances: Vec::new(alloc),
     };
-    match lists.fill(alloc, cards, &numbers.lists.placements) {
-        Ok(()) => Ok(lists),
-        Err(_) => Err(DeckError::OutOfMemory),
+    frame.fill(alloc, cards, &numbers.placements)?;
+    Ok(frame)
+}
+
+impl Frame {
+    /// Replaces the lists of events and activities by those of the cards.
+    fn fill(
+        &mut self,
+        alloc: Global,
+        cards: &Cards,
+        placements: &[Placement],
+    ) -> Result<(), AllocError>
+        requires ordered { All HasOrderedEstimates cards.now.acts }
+        requires placements { placements.now ≡ map (placement_of cards.now) cards.now.acts }
+        ensures lists { OnOk result (AreProjectLists cards.now self.new) }
+        ensures tree { self.new.tree ≡ self.old.tree }
+        ensures network { self.new.net ≡ self.old.net }
+        ensures entries { self.new.book ≡ self.old.book }
+        ensures states { self.new.states.items ≡ self.old.states.items }
+    {
+        let acts = cards.acts();
+        let unit_days = cards.project().unit_days;
+        self.events = codes_of_events(alloc, cards)?;
+        self.activities = codes_of_acts(alloc, cards)?;
+        self.places = places(alloc, placements)?;
+        self.terms = terms(alloc, acts)?;
+        self.expected = expected_times(alloc, acts, unit_days)?;
+        self.variances = variances(alloc, acts, unit_days)?;
+        Ok(())
     }
+}
+
+/// Checks that activities and accounts are on leaves, and that the budgets of each package are the costs of its
+/// activities (F28, F29).
+fn check_items(
+    alloc: Global,
+    cards: &Cards,
+    numbers: &Numbers,
+    tree: &Tree,
+) -> Result<(), DeckError>
+    requires plan { HasSoundPlan cards.now }
+    requires numbers { AreNumbersOf cards.now numbers.now }
+    requires tree { tree.now ≡ rows_of cards.now }
+    ensures leaves { OnOk result (HasNoLeafFault cards.now) }
+    ensures even { OnOk result (IsEven cards.now) }
+    ensures refused { IfErr result (Refuses (IsRefusedWith cards.now)) }
+{
+    check_leaves(cards, numbers, tree)?;
+    check_packages(alloc, cards, numbers, tree)?;
+    Ok(())
 }
 
 /// Checks the pieces, and then the terms of time, of a project with sound figures (F33 to F36).
@@ -157,9 +201,7 @@ fn check_costs(alloc: Global, cards: &Cards, numbers: &Numbers) -> Result<(), De
     ensures terms { OnOk result ((fault : Fault) → HasTermsFault cards.now fault → ⊥) }
     ensures refused { IfErr result (Refuses (IsRefusedWith cards.now)) }
 {
-    if let Some(fault) = first_piece_fault(alloc, cards, &numbers.lists.pieces)? {
-        return Err(DeckError::Fault(fault));
-    }
+    check_pieces(alloc, cards, &numbers.pieces)?;
     match cards.terms() {
         Some(card) if card.penalty < card.bonus => {
             Err(DeckError::Fault(Fault::bonus_above_penalty(card.row)))

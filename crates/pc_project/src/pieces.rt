@@ -1,13 +1,14 @@
 //! Whether the pieces of the activities' costs have a fault.
-ghost use Rattle.std.specs.Prelude.{◌≡◌, ◌+◌, ◌^◌, ◌<◌, IfOk, map, slice_set};
-ghost use Rattle.pc_faults.specs.inside.First.{IsFirstIn};
+ghost use Rattle.std.specs.Prelude.{◌≡◌, ◌+◌, ◌^◌, ◌<◌, IfOk, IfErr, OnOk, map, slice_set};
+ghost use Rattle.pc_faults.specs.First.{IsFirstFault};
+ghost use Rattle.pc_faults.specs.inside.First.{IsFirstIn, Refuses};
 ghost use Rattle.pc_project.specs.Misfit.{HasNoMisfit};
-ghost use Rattle.pc_project.specs.PieceFaults.{HasFlaw, HasPieceFault};
+ghost use Rattle.pc_project.specs.PieceFaults.{HasFlaw, HasNoPieceFault, HasPieceFault};
 ghost use Rattle.pc_project.specs.Project.{pieces_in, term_of};
 ghost use Rattle.pc_project.specs.inside.Runs.{HasFlawBehind, IsNext, run_at, run_with};
 
 use pc_deck::{ActCard, Cards, PieceCard};
-use pc_faults::{Fault, earliest};
+use pc_faults::{DeckError, Fault, earliest};
 use pc_model::{MAX_PIECES_EACH, PieceRow};
 use std::alloc::{AllocError, Global};
 
@@ -20,15 +21,19 @@ pub(crate) struct Run {
     pub units: u64,
 }
 
-/// Returns the first fault of the pieces, if they have one (F33 to F35), in one pass.
-pub(crate) fn first_piece_fault(
+/// Checks the pieces, in one pass.
+///
+/// # Errors
+/// The first fault of the pieces (F33 to F35), or out of memory.
+pub(crate) fn check_pieces(
     alloc: Global,
     cards: &Cards,
     pieces: &[PieceRow],
-) -> Result<Option<Fault>, AllocError>
+) -> Result<(), DeckError>
     requires numbers { pieces.now ≡ pieces_in cards.now }
     requires faultless { HasNoMisfit cards.now }
-    ensures { IfOk result (IsFirstIn (HasPieceFault cards.now)) }
+    ensures none { OnOk result (HasNoPieceFault cards.now) }
+    ensures first { IfErr result (Refuses (IsFirstFault (HasPieceFault cards.now))) }
 {
     let acts = cards.acts();
     let mut runs = first_runs(alloc, acts)?;
@@ -36,7 +41,10 @@ pub(crate) fn first_piece_fault(
     for (i, card) in cards.pieces().iter().enumerate() {
         fault = earliest(fault, take_in(&mut runs, acts, pieces[i], card));
     }
-    Ok(fault)
+    match fault {
+        Some(fault) => Err(DeckError::Fault(fault)),
+        None => Ok(()),
+    }
 }
 
 /// Returns the first fault of a piece after those of its activity that were read, and adds the piece to them.

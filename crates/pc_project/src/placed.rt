@@ -21,17 +21,10 @@ pub(crate) struct Placement {
     pub item: u32,
 }
 
-/// The events where a project starts and ends.
-#[derive(Clone, Copy)]
-pub(crate) struct Ends {
-    pub start: u32,
-    pub end: u32,
-}
-
-/// Looks up the start and the end, or returns the PROJECT card's first fault.
-pub(crate) fn ends_of(cards: &Cards) -> Result<Ends, Fault>
-    ensures start { IfOk result (λ ends. ends.start ≡ (network_of cards.now).start) }
-    ensures end { IfOk result (λ ends. ends.end ≡ (network_of cards.now).end) }
+/// Looks up the events where the project starts and ends, or returns the PROJECT card's first fault.
+pub(crate) fn ends_of(cards: &Cards) -> Result<(u32, u32), Fault>
+    ensures start { IfOk result (λ ends. ends.0 ≡ (network_of cards.now).start) }
+    ensures end { IfOk result (λ ends. ends.1 ≡ (network_of cards.now).end) }
     ensures faultless { OnOk result ((fault : Fault) → HasProjectFault cards.now cards.now.project fault → ⊥) }
     ensures first { IfErr result (IsFirstFault (HasProjectFault cards.now cards.now.project)) }
 {
@@ -45,7 +38,7 @@ pub(crate) fn ends_of(cards: &Cards) -> Result<Ends, Fault>
     if card.start == card.end {
         return Err(Fault::one_event(card.row, card.start));
     }
-    Ok(Ends { start, end })
+    Ok((start, end))
 }
 
 impl Refers for ItemCard {

@@ -1,18 +1,23 @@
 //! A project as one value.
-ghost use Rattle.std.specs.Prelude.{◌≡◌, ◌^◌, ◌<◌, ◌≤◌, length, slice_index_or, []};
+ghost use Rattle.std.specs.Prelude.{◌≡◌, ◌^◌, ◌<◌, ◌≤◌, length, slice_index_or, IfOk, []};
+ghost use Rattle.pc_model.specs.Cost.{activity_cost};
+ghost use Rattle.pc_model.specs.Pieces.{knees_of};
 ghost use Rattle.pc_model.specs.declared.limits.TheConstants.{MAX_UNIT_DAYS};
 ghost use Rattle.pc_accounts.specs.status.Statuses.{IsSixths};
 ghost use Rattle.pc_times.specs.Forecast.{state_at};
+ghost use Rattle.pc_deck.specs.Deck.{account_codes};
+ghost use Rattle.pc_project.specs.inside.Kept.{account_titles, act_titles, estimates_at, event_titles, resource_titles};
 ghost use Rattle.pc_project.specs.Planned.{IsPlanned};
 ghost use Rattle.pc_project.specs.inside.Project.{activity_at};
 
 use crate::activity::Activity;
+use crate::estimates::Estimates;
 use crate::heading::Counts;
 use crate::load::LoadItem;
-use crate::plan::Plan;
 use crate::statuses::as_of;
 use pc_accounts::status::StatusRow;
 use pc_accounts::{AcctRow, Book, MoneyRow};
+use pc_crash::{CrashNet, MAX_ACTIVITY_COST, cost_of_one};
 use pc_days::{Day, days_between};
 use pc_deck::Cards;
 use pc_model::{PieceRow, Term};
@@ -20,21 +25,59 @@ use pc_net::Net;
 use pc_text::{Code, Title};
 use pc_times::ActState;
 use pc_wbs::Tree;
+use std::alloc::{AllocError, Global};
 use std::marker::Model;
 
 /// A project: what a deck says, with numbers in place of codes.
 ///
-/// Events, activities, items, accounts and resources are counted in card order from 0. The project keeps the cards
-/// themselves, so that nothing that they say is lost.
+/// Events, activities, items, accounts and resources are counted in card order from 0, and each list has one entry per
+/// card of its kind, in card order. The project keeps the cards themselves, so that nothing that they say is lost.
 pub struct Project {
     pub(crate) cards: Cards,
-    pub(crate) plan: Plan,
+    pub(crate) tree: Tree,
+    pub(crate) net: Net,
+    pub(crate) book: Book,
+    pub(crate) states: Vec<ActState>,
+    // The codes are in lists of their own, beside the cards, for callers that take them as slices.
+    pub(crate) events: Vec<Code>,
+    pub(crate) activities: Vec<Code>,
+    /// The number of each activity's item.
+    pub(crate) places: Vec<u32>,
+    pub(crate) terms: Vec<Term>,
+    /// The expected times of the activities, in sixths of a day.
+    pub(crate) expected: Vec<u64>,
+    /// The variances of these times, in thirty-sixths of a squared day.
+    pub(crate) variances: Vec<u64>,
+    pub(crate) pieces: Vec<PieceRow>,
+    pub(crate) loads: Vec<LoadItem>,
+    pub(crate) accounts: Vec<AcctRow>,
+    pub(crate) charges: Vec<MoneyRow>,
+    pub(crate) togos: Vec<MoneyRow>,
+    pub(crate) statuses: Vec<StatusRow>,
 }
 
 impl Drop for Project {
-    // Written by hand so that the proof of dropping a project is done once, here.
+    // Written by hand so that the proof of dropping a project, with all its lists, is done once, here.
     fn drop(self) {
-        let Project { cards: _, plan: _ } = self;
+        let Project {
+            cards: _,
+            tree: _,
+            net: _,
+            book: _,
+            states: _,
+            events: _,
+            activities: _,
+            places: _,
+            terms: _,
+            expected: _,
+            variances: _,
+            pieces: _,
+            loads: _,
+            accounts: _,
+            charges: _,
+            togos: _,
+            statuses: _,
+        } = self;
     }
 }
 
@@ -51,11 +94,26 @@ impl Model for Project {
 }
 
 impl Project {
+    /// Returns the cards of the deck.
+    pub fn cards(&self) -> &Cards
+        ensures cards { result.now ≡ self.now.deck }
+        ensures planned { IsPlanned self.now }
+    {
+        &self.cards
+    }
+
     /// Returns the project's code.
     pub fn code(&self) -> Code
         ensures { result ≡ self.now.heading.code }
     {
         self.cards.project().code
+    }
+
+    /// Returns the project's title.
+    pub fn title(&self) -> &Title
+        ensures { result.now ≡ self.now.deck.project.title }
+    {
+        &self.cards.project().title
     }
 
     /// Returns the day on which the project starts.
@@ -93,7 +151,7 @@ impl Project {
         ensures network { result.now ≡ self.now.network }
         ensures planned { IsPlanned self.now }
     {
-        &self.plan.frame.net
+        &self.net
     }
 
     /// Returns the tree of the items.
@@ -101,7 +159,7 @@ impl Project {
         ensures tree { result.now ≡ self.now.tree }
         ensures planned { IsPlanned self.now }
     {
-        &self.plan.frame.tree
+        &self.tree
     }
 
     /// Returns the number of cards of each kind.
@@ -125,7 +183,15 @@ impl Project {
         requires { e < self.now.network.events }
         ensures { result ≡ slice_index_or self.now.events e [] }
     {
-        self.plan.frame.lists.events[e as usize]
+        self.events[e as usize]
+    }
+
+    /// Returns the title of an event.
+    pub fn event_title(&self, e: u32) -> &Title
+        requires { e < self.now.network.events }
+        ensures { result.now ≡ slice_index_or (event_titles self.now.deck) e [] }
+    {
+        &self.cards.events()[e as usize].title
     }
 
     /// Returns an activity's codes, numbers, durations and costs.
@@ -133,18 +199,39 @@ impl Project {
         requires { a < length self.now.network.arcs }
         ensures { result ≡ activity_at self.now a }
     {
-        let term = self.plan.frame.lists.terms[a as usize];
+        let term = self.terms[a as usize];
         Activity {
-            code: self.plan.frame.lists.activities[a as usize],
-            from: self.plan.frame.net.from(a),
-            to: self.plan.frame.net.to(a),
-            item: self.plan.frame.lists.places[a as usize],
-            expected: self.plan.frame.lists.expected[a as usize],
-            variance: self.plan.frame.lists.variances[a as usize],
+            code: self.activities[a as usize],
+            from: self.net.from(a),
+            to: self.net.to(a),
+            item: self.places[a as usize],
+            expected: self.expected[a as usize],
+            variance: self.variances[a as usize],
             normal: term.normal,
             crash: term.crash,
             cost: term.cost,
             slope: term.slope,
+        }
+    }
+
+    /// Returns the title of an activity.
+    pub fn activity_title(&self, a: u32) -> &Title
+        requires { a < length self.now.network.arcs }
+        ensures { result.now ≡ slice_index_or (act_titles self.now.deck) a [] }
+    {
+        &self.cards.acts()[a as usize].title
+    }
+
+    /// Returns the three estimates of an activity, in units.
+    pub fn estimates(&self, a: u32) -> Estimates
+        requires { a < length self.now.network.arcs }
+        ensures { result ≡ estimates_at self.now.deck a }
+    {
+        let act = &self.cards.acts()[a as usize];
+        Estimates {
+            optimistic: act.opt,
+            likely: act.likely,
+            pessimistic: act.pess,
         }
     }
 
@@ -170,7 +257,7 @@ impl Project {
         ensures each { length result.now ≡ self.now.network.events }
         ensures planned { IsPlanned self.now }
     {
-        &self.plan.frame.lists.events
+        &self.events
     }
 
     /// Returns the code of each activity, in card order.
@@ -179,7 +266,7 @@ impl Project {
         ensures each { length result.now ≡ length self.now.network.arcs }
         ensures planned { IsPlanned self.now }
     {
-        &self.plan.frame.lists.activities
+        &self.activities
     }
 
     /// Returns what each activity may last, in units, and costs, in card order.
@@ -187,7 +274,7 @@ impl Project {
         ensures terms { result.now ≡ self.now.terms }
         ensures planned { IsPlanned self.now }
     {
-        &self.plan.frame.lists.terms
+        &self.terms
     }
 
     /// Returns the expected time of each activity, in sixths of a day, in card order.
@@ -195,7 +282,7 @@ impl Project {
         ensures expected { result.now ≡ self.now.expected }
         ensures planned { IsPlanned self.now }
     {
-        &self.plan.frame.lists.expected
+        &self.expected
     }
 
     /// Returns the variance of each activity's time, in thirty-sixths of a squared day, in card order.
@@ -204,7 +291,7 @@ impl Project {
         ensures each { length result.now ≡ length self.now.network.arcs }
         ensures planned { IsPlanned self.now }
     {
-        &self.plan.frame.lists.variances
+        &self.variances
     }
 
     /// Returns the number of each activity's item, in card order.
@@ -212,7 +299,7 @@ impl Project {
         ensures places { result.now ≡ self.now.places }
         ensures planned { IsPlanned self.now }
     {
-        &self.plan.frame.lists.places
+        &self.places
     }
 
     /// Returns the further pieces of the activities' costs, one per PIECE card, in card order.
@@ -220,7 +307,44 @@ impl Project {
         ensures pieces { result.now ≡ self.now.pieces }
         ensures planned { IsPlanned self.now }
     {
-        &self.plan.pieces
+        &self.pieces
+    }
+
+    /// Returns the cost of an activity at a duration in units.
+    ///
+    /// Takes no memory. Linear in the pieces of all activities: for the costs of many activities, use
+    /// [`Project::priced`].
+    pub fn cost_at(&self, a: u32, duration: u64) -> u64
+        requires { a < length self.now.network.arcs }
+        ensures cost { result ≡ activity_cost self.now.terms (knees_of self.now.terms self.now.pieces) a duration }
+        ensures limit { result ≤ MAX_ACTIVITY_COST }
+    {
+        cost_of_one(&self.terms, &self.pieces, a, duration)
+    }
+
+    /// Returns the network with what its activities may last and cost, for everything about the time-cost curve.
+    ///
+    /// Linear in events, activities and pieces.
+    ///
+    /// # Errors
+    /// Out of memory.
+    pub fn priced(&self, alloc: Global) -> Result<CrashNet<'_>, AllocError>
+        ensures network { IfOk result (λ priced. priced.network ≡ self.now.network) }
+        ensures terms { IfOk result (λ priced. priced.terms ≡ self.now.terms) }
+        ensures pieces { IfOk result (λ priced. priced.pieces ≡ self.now.pieces) }
+        ensures project { IfOk result (λ priced. priced.project ≡ self.now.heading.code) }
+        ensures events { IfOk result (λ priced. priced.events ≡ self.now.events) }
+        ensures activities { IfOk result (λ priced. priced.activities ≡ self.now.activities) }
+    {
+        CrashNet::build(
+            alloc,
+            &self.net,
+            &self.terms,
+            &self.pieces,
+            self.cards.project().code,
+            &self.events,
+            &self.activities,
+        )
     }
 
     /// Returns the terms of time: the cost of each unit of the project's length, the target in units, the bonus for
@@ -254,12 +378,20 @@ impl Project {
         self.cards.resources()[r as usize].code
     }
 
+    /// Returns the title of a resource.
+    pub fn resource_title(&self, r: u32) -> &Title
+        requires { r < length self.now.resources }
+        ensures { result.now ≡ slice_index_or (resource_titles self.now.deck) r [] }
+    {
+        &self.cards.resources()[r as usize].title
+    }
+
     /// Returns the loads of activities on resources, one per LOAD card, in card order.
     pub fn loads(&self) -> &[LoadItem]
         ensures loads { result.now ≡ self.now.loads }
         ensures planned { IsPlanned self.now }
     {
-        &self.plan.loads
+        &self.loads
     }
 
     /// Returns the cost accounts, each with its leaf of the tree, in card order.
@@ -267,7 +399,23 @@ impl Project {
         ensures accounts { result.now ≡ self.now.accounts }
         ensures planned { IsPlanned self.now }
     {
-        &self.plan.figures.accounts
+        &self.accounts
+    }
+
+    /// Returns the code of an account.
+    pub fn account_code(&self, a: u32) -> Code
+        requires { a < length self.now.accounts }
+        ensures { result ≡ slice_index_or (account_codes self.now.deck) a [] }
+    {
+        self.cards.accounts()[a as usize].code
+    }
+
+    /// Returns the title of an account.
+    pub fn account_title(&self, a: u32) -> &Title
+        requires { a < length self.now.accounts }
+        ensures { result.now ≡ slice_index_or (account_titles self.now.deck) a [] }
+    {
+        &self.cards.accounts()[a as usize].title
     }
 
     /// Returns the charges to accounts of all days, in card order.
@@ -275,7 +423,7 @@ impl Project {
         ensures charges { result.now ≡ self.now.charges }
         ensures planned { IsPlanned self.now }
     {
-        &self.plan.figures.charges
+        &self.charges
     }
 
     /// Returns the amounts to go of accounts on the days for which cards give them, in card order.
@@ -283,7 +431,7 @@ impl Project {
         ensures togos { result.now ≡ self.now.togos }
         ensures planned { IsPlanned self.now }
     {
-        &self.plan.figures.togos
+        &self.togos
     }
 
     /// Returns what each account has spent up to as-of, and its amount to go.
@@ -291,7 +439,7 @@ impl Project {
         ensures entries { result.now ≡ self.now.entries }
         ensures planned { IsPlanned self.now }
     {
-        &self.plan.frame.progress.book
+        &self.book
     }
 
     /// Returns the days on which activities began and ended, one per STATUS card, in card order.
@@ -299,7 +447,7 @@ impl Project {
         ensures statuses { result.now ≡ self.now.statuses }
         ensures planned { IsPlanned self.now }
     {
-        &self.plan.figures.statuses
+        &self.statuses
     }
 
     /// Returns how far each activity is, in sixths of a day from the start, in card order.
@@ -307,7 +455,7 @@ impl Project {
         ensures states { result.now ≡ self.now.states }
         ensures planned { IsPlanned self.now }
     {
-        &self.plan.frame.progress.states
+        &self.states
     }
 
     /// Returns how far an activity is, in sixths of a day from the start.
@@ -315,7 +463,7 @@ impl Project {
         requires { a < length self.now.network.arcs }
         ensures { result ≡ state_at self.now.states a }
     {
-        self.plan.frame.progress.states[a as usize]
+        self.states[a as usize]
     }
 
     /// Returns the as-of day, in sixths of a day from the start.

@@ -42,7 +42,7 @@ pub(crate) fn states_of(
     ensures first { IfErr result (Refuses (IsFirstFault (HasDisorder cards.now))) }
 {
     let activities = cards.acts().len() as u32;
-    let statuses = Vec::from_slice(alloc, &numbers.lists.figures.statuses)?;
+    let statuses = Vec::from_slice(alloc, &numbers.statuses)?;
     let log = Log::build(alloc, activities, statuses)?;
     states_in(alloc, cards, &log)
 }

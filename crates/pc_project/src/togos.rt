@@ -27,13 +27,12 @@ pub(crate) fn book_of(alloc: Global, cards: &Cards, numbers: &Numbers) -> Result
     ensures once { OnOk result (HasNoSecondToGo cards.now) }
     ensures first { IfErr result (Refuses (IsFirstSecondToGo cards.now)) }
 {
-    let figures = &numbers.lists.figures;
     let as_of = as_of(cards);
     match Book::build(
         alloc,
-        &figures.accounts,
-        &figures.charges,
-        &figures.togos,
+        &numbers.accounts,
+        &numbers.charges,
+        &numbers.togos,
         as_of,
     ) {
         Ok(book) => Ok(book),

@@ -23,10 +23,10 @@ arcs_are deck arcs placements is same =
 
 -- the network of the numbers is that of the cards
 net_is : (deck : Deck) (numbers : Numbers) (events : ℕ) (arcs : List Arc) (placements : List Placement) → AreNumbersOf deck numbers → events ≡ length deck.events
-    → arcs ≡ map (λ placement. placement.arc) placements → placements ≡ numbers.lists.placements.items
-    → let net : Network = record { events = events; start = numbers.ends.start; end = numbers.ends.end; arcs = arcs } in net ≡ network_of deck
+    → arcs ≡ map (λ placement. placement.arc) placements → placements ≡ numbers.placements.items
+    → let net : Network = record { events = events; start = numbers.start; end = numbers.end; arcs = arcs } in net ≡ network_of deck
 net_is deck numbers events arcs placements known same is read =
-    network_of-is deck events numbers.ends.start numbers.ends.end arcs same known.start known.end (arcs_are deck arcs placements is (read ∙ known.lists.placements))
+    network_of-is deck events numbers.start numbers.end arcs same known.start known.end (arcs_are deck arcs placements is (read ∙ known.lists.placements))
 
 pub build-requires-clause-few_activities : goal.build-requires-clause-few_activities
 build-requires-clause-few_activities c =

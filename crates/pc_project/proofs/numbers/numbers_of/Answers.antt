@@ -16,7 +16,16 @@ returns-in-Ok-None-clause-numbers c =
       within = c.in_ok-of_lists.ensures.within;
       start = c.in-Ok-None.ensures.start;
       end = c.in-Ok-None.ensures.end;
-      lists = lists;
+      lists = record {
+        rows = lists.rows;
+        placements = lists.placements;
+        pieces = lists.pieces;
+        loads = lists.loads;
+        accounts = lists.accounts;
+        charges = lists.charges;
+        togos = lists.togos;
+        statuses = lists.statuses;
+      };
       few = omega (arith, ap length lists.rows, length-map deck.items (row_of deck), (c.in_ok-of_lists.ensures.within Wbs).few);
     }
 

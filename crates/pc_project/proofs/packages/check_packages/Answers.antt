@@ -10,7 +10,7 @@ use Rattle.pc_project.proofs.packages.check_packages.Goals as goal
 pub reconcile-requires-clause-few_accounts : goal.reconcile-requires-clause-few_accounts
 reconcile-requires-clause-few_accounts c =
     let deck = c.args.cards.now in
-    omega (arith, ap length (c.deref-2.ensures.value ∙ c.requires.numbers.lists.figures.accounts), length-map deck.accounts (account_of deck), (c.requires.numbers.within Acct).few)
+    omega (arith, ap length (c.deref-2.ensures.value ∙ c.requires.numbers.lists.accounts), length-map deck.accounts (account_of deck), (c.requires.numbers.within Acct).few)
 
 pub reconcile-requires-clause-few_activities : goal.reconcile-requires-clause-few_activities
 reconcile-requires-clause-few_activities c =
@@ -19,7 +19,7 @@ reconcile-requires-clause-few_activities c =
 
 pub reconcile-requires-clause-items : goal.reconcile-requires-clause-items
 reconcile-requires-clause-items c =
-    let same = c.deref-2.ensures.value ∙ c.requires.numbers.lists.figures.accounts in
+    let same = c.deref-2.ensures.value ∙ c.requires.numbers.lists.accounts in
     λ a below.
     omega (
       arith,
@@ -30,7 +30,7 @@ reconcile-requires-clause-items c =
 
 pub reconcile-requires-clause-budgets : goal.reconcile-requires-clause-budgets
 reconcile-requires-clause-budgets c =
-    subst AreBudgets (sym (c.deref-2.ensures.value ∙ c.requires.numbers.lists.figures.accounts)) (accounts_cheap c.args.cards.now c.requires.numbers.within c.requires.numbers.faultless)
+    subst AreBudgets (sym (c.deref-2.ensures.value ∙ c.requires.numbers.lists.accounts)) (accounts_cheap c.args.cards.now c.requires.numbers.within c.requires.numbers.faultless)
 
 pub reconcile-requires-clause-work : goal.reconcile-requires-clause-work
 reconcile-requires-clause-work c =

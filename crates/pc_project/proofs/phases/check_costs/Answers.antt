@@ -1,19 +1,16 @@
-use Rattle.std.proofs.Common.{◌≡◌, ◌∙◌, refl, sym, subst, None, Some}
-use Rattle.std.specs.Prelude.{Option}
-use Rattle.pc_faults.specs.declared.fault.Fault.{Fault}
-use Rattle.pc_faults.specs.inside.First.{IsFirstIn}
-use Rattle.pc_project.specs.PieceFaults.{HasPieceFault}
-use Rattle.pc_project.specs.Refusal.{of_terms}
+use Rattle.std.proofs.Common.{◌∙◌, sym}
+use Rattle.pc_faults.specs.inside.First.{Refuses}
+use Rattle.pc_project.specs.Refusal.{IsRefusedWith, of_terms}
 use Rattle.pc_project.proofs.CardLaws.{first_bonus}
+use Rattle.pc_project.proofs.RefusalLaws.{handed_on, refused_by_pieces}
 use Rattle.pc_project.proofs.phases.check_costs.Goals as goal
 
-pub returns-in-Some-terms-clause-refused : goal.returns-in-Some-terms-clause-refused
-returns-in-Some-terms-clause-refused c =
-    let deck = c.args.cards.now in
-    of_terms c.requires.plan c.requires.figures
-    (subst (IsFirstIn (HasPieceFault deck)) (none_of c.in_ok-fault.field-0 c.in_default.not-Some) c.in_ok-fault.ensures)
-    (first_bonus deck c.in-Some-terms.card c.bonus_above_penalty.result (sym c.terms.ensures.terms ∙ c.in-Some-terms.is) c.if-card.true c.bonus_above_penalty.ensures)
-  where
-    none_of : (found : Option Fault) → ((fault : Fault) → found ≡ Some fault → ⊥) → found ≡ None
-    none_of None never = refl
-    none_of (Some fault) never = absurd (never fault refl)
+pub returns-in_err-check_pieces-clause-refused : goal.returns-in_err-check_pieces-clause-refused
+returns-in_err-check_pieces-clause-refused c =
+    handed_on (Refuses (IsRefusedWith c.args.cards.now)) c.from_residual.result c.in_err-check_pieces.field-0.0 c.from_residual.ensures.1
+    (refused_by_pieces c.args.cards.now c.in_err-check_pieces.field-0.0 c.requires.plan c.requires.figures c.in_err-check_pieces.ensures.first)
+
+pub returns-in-Some-clause-refused : goal.returns-in-Some-clause-refused
+returns-in-Some-clause-refused c =
+    of_terms c.requires.plan c.requires.figures c.in_ok-check_pieces.ensures.none
+    (first_bonus c.args.cards.now c.in-Some.card c.bonus_above_penalty.result (sym c.terms.ensures.terms ∙ c.in-Some.is) c.if-card.true c.bonus_above_penalty.ensures)

@@ -3,9 +3,9 @@ use Rattle.std.proofs.lemmas.List.{length-map}
 use Rattle.pc_wbs.specs.Climb.{AreInRange, IsTree}
 use Rattle.pc_faults.specs.inside.First.{Refuses}
 use Rattle.pc_project.specs.Project.{row_of, rows_of}
-use Rattle.pc_project.specs.Refusal.{IsTreeFault}
-use Rattle.pc_project.proofs.FitLaws.{rows_of-in_range}
-use Rattle.pc_project.proofs.RefusalLaws.{refused_by_tree}
+use Rattle.pc_project.specs.Refusal.{IsRefusedWith, IsTreeFault}
+use Rattle.pc_project.proofs.FitLaws.{all_fit, rows_of-in_range}
+use Rattle.pc_project.proofs.RefusalLaws.{handed_on, refused_by_statuses, refused_by_togos, refused_by_tree}
 use Rattle.pc_project.proofs.phases.frame_of.Goals as goal
 
 pub tree_between-requires-clause-each : goal.tree_between-requires-clause-each
@@ -17,55 +17,86 @@ pub tree_between-requires-clause-in_range : goal.tree_between-requires-clause-in
 tree_between-requires-clause-in_range c =
     subst AreInRange (sym (c.deref.ensures.value ∙ c.requires.lists.rows)) (rows_of-in_range c.args.cards.now c.requires.faultless)
 
-pub returns-in-Err-clause-refused : goal.returns-in-Err-clause-refused
-returns-in-Err-clause-refused c =
-    refused_by_tree c.args.cards.now c.in-Err.error c.requires.faultless
-    (subst (λ items. Refuses (IsTreeFault items (rows_of c.args.cards.now)) c.in-Err.error) c.items.ensures.cards
-    (subst (λ rows. Refuses (IsTreeFault c.items.result.now rows) c.in-Err.error) (c.deref.ensures.value ∙ c.requires.lists.rows) c.in-Err.ensures.refused))
+pub returns-in_err-tree-clause-refused : goal.returns-in_err-tree-clause-refused
+returns-in_err-tree-clause-refused c =
+    let deck = c.args.cards.now in
+    let error = c.in_err-tree.field-0.0 in
+    handed_on (Refuses (IsRefusedWith deck)) c.from_residual.result error c.from_residual.ensures.1
+    (refused_by_tree deck error c.requires.faultless
+    (subst (λ items. Refuses (IsTreeFault items (rows_of deck)) error) c.items.ensures.cards
+    (subst (λ rows. Refuses (IsTreeFault c.items.result.now rows) error) (c.deref.ensures.value ∙ c.requires.lists.rows) c.in_err-tree.ensures.refused)))
 
 pub net_of-requires-clause-tree : goal.net_of-requires-clause-tree
-net_of-requires-clause-tree c = subst IsTree (c.deref.ensures.value ∙ c.requires.lists.rows) c.in-Ok.ensures.tree
+net_of-requires-clause-tree c = subst IsTree (c.deref.ensures.value ∙ c.requires.lists.rows) c.in_ok-tree.ensures.tree
 
-pub progress_of-requires-clause-plan : goal.progress_of-requires-clause-plan
-progress_of-requires-clause-plan c = record {
+pub check_items-requires-clause-plan : goal.check_items-requires-clause-plan
+check_items-requires-clause-plan c = record {
   cards = c.requires.faultless;
-  tree = subst IsTree (c.deref.ensures.value ∙ c.requires.lists.rows) c.in-Ok.ensures.tree;
-  sound = c.in-Ok-net_of.ensures.sound;
+  tree = subst IsTree (c.deref.ensures.value ∙ c.requires.lists.rows) c.in_ok-tree.ensures.tree;
+  sound = c.in_ok-net.ensures.sound;
 }
 
-pub progress_of-requires-clause-tree : goal.progress_of-requires-clause-tree
-progress_of-requires-clause-tree c = c.in-Ok.ensures.rows ∙ (c.deref.ensures.value ∙ c.requires.lists.rows)
+pub check_items-requires-clause-tree : goal.check_items-requires-clause-tree
+check_items-requires-clause-tree c = c.in_ok-tree.ensures.rows ∙ (c.deref.ensures.value ∙ c.requires.lists.rows)
 
-pub lists_of-requires-clause-plan : goal.lists_of-requires-clause-plan
-lists_of-requires-clause-plan c = record {
+pub returns-in_err-states-clause-refused : goal.returns-in_err-states-clause-refused
+returns-in_err-states-clause-refused c =
+    let deck = c.args.cards.now in
+    let error = c.in_err-states.field-0.0 in
+    handed_on (Refuses (IsRefusedWith deck)) c.from_residual-in_err-states.result error c.from_residual-in_err-states.ensures.1
+    (refused_by_statuses deck error
+    (record {
+      cards = c.requires.faultless;
+      tree = subst IsTree (c.deref.ensures.value ∙ c.requires.lists.rows) c.in_ok-tree.ensures.tree;
+      sound = c.in_ok-net.ensures.sound;
+    })
+    c.in_ok-check_items.ensures.leaves c.in_ok-check_items.ensures.even c.in_err-states.ensures.first)
+
+pub returns-in_err-book-clause-refused : goal.returns-in_err-book-clause-refused
+returns-in_err-book-clause-refused c =
+    let deck = c.args.cards.now in
+    let error = c.in_err-book.field-0.0 in
+    handed_on (Refuses (IsRefusedWith deck)) c.from_residual-in_err-book.result error c.from_residual-in_err-book.ensures.1
+    (refused_by_togos deck error
+    (record {
+      cards = c.requires.faultless;
+      tree = subst IsTree (c.deref.ensures.value ∙ c.requires.lists.rows) c.in_ok-tree.ensures.tree;
+      sound = c.in_ok-net.ensures.sound;
+    })
+    c.in_ok-check_items.ensures.leaves c.in_ok-check_items.ensures.even c.in_ok-states.ensures.ordered c.in_err-book.ensures.first)
+
+pub check_costs-requires-clause-plan : goal.check_costs-requires-clause-plan
+check_costs-requires-clause-plan c = record {
   cards = c.requires.faultless;
-  tree = subst IsTree (c.deref.ensures.value ∙ c.requires.lists.rows) c.in-Ok.ensures.tree;
-  sound = c.in-Ok-net_of.ensures.sound;
+  tree = subst IsTree (c.deref.ensures.value ∙ c.requires.lists.rows) c.in_ok-tree.ensures.tree;
+  sound = c.in_ok-net.ensures.sound;
 }
 
-pub returns-in-Ok-lists_of-clause-tree : goal.returns-in-Ok-lists_of-clause-tree
-returns-in-Ok-lists_of-clause-tree c = c.in-Ok.ensures.rows ∙ (c.deref.ensures.value ∙ c.requires.lists.rows)
+pub check_costs-requires-clause-figures : goal.check_costs-requires-clause-figures
+check_costs-requires-clause-figures c = record {
+  leaves = c.in_ok-check_items.ensures.leaves;
+  even = c.in_ok-check_items.ensures.even;
+  ordered = c.in_ok-states.ensures.ordered;
+  once = c.in_ok-book.ensures.once;
+}
 
-pub returns-in-Ok-lists_of-clause-makes : goal.returns-in-Ok-lists_of-clause-makes
-returns-in-Ok-lists_of-clause-makes c = c.in-Ok-lists_of.ensures.makes
+pub fill-requires-clause-ordered : goal.fill-requires-clause-ordered
+fill-requires-clause-ordered c = λ k d within. (all_fit c.args.cards.now c.requires.faultless k d within).ordered
 
-pub returns-in-Ok-lists_of-clause-lists : goal.returns-in-Ok-lists_of-clause-lists
-returns-in-Ok-lists_of-clause-lists c = c.in-Ok-lists_of.ensures.lists
+pub fill-requires-clause-placements : goal.fill-requires-clause-placements
+fill-requires-clause-placements c = c.deref-2.ensures.value ∙ c.requires.lists.placements
 
-pub returns-in-Ok-lists_of-clause-entries : goal.returns-in-Ok-lists_of-clause-entries
-returns-in-Ok-lists_of-clause-entries c = c.in-Ok-progress_of.ensures.entries
-
-pub returns-in-Ok-lists_of-clause-states : goal.returns-in-Ok-lists_of-clause-states
-returns-in-Ok-lists_of-clause-states c = c.in-Ok-progress_of.ensures.states
-
-pub returns-in-Ok-lists_of-clause-network : goal.returns-in-Ok-lists_of-clause-network
-returns-in-Ok-lists_of-clause-network c = c.in-Ok-net_of.ensures.network
-
-pub returns-in-Err-net_of-clause-refused : goal.returns-in-Err-net_of-clause-refused
-returns-in-Err-net_of-clause-refused c = c.in-Err-net_of.ensures.refused
-
-pub returns-in-Err-progress_of-clause-refused : goal.returns-in-Err-progress_of-clause-refused
-returns-in-Err-progress_of-clause-refused c = c.in-Err-progress_of.ensures.refused
-
-pub returns-in-Err-lists_of-clause-refused : goal.returns-in-Err-lists_of-clause-refused
-returns-in-Err-lists_of-clause-refused c = c.in-Err-lists_of.ensures.refused
+pub returns-clause-makes : goal.returns-clause-makes
+returns-clause-makes c = record {
+  cards = c.requires.faultless;
+  tree = subst IsTree (c.deref.ensures.value ∙ c.requires.lists.rows) c.in_ok-tree.ensures.tree;
+  sound = c.in_ok-net.ensures.sound;
+  figures = record {
+    leaves = c.in_ok-check_items.ensures.leaves;
+    even = c.in_ok-check_items.ensures.even;
+    ordered = c.in_ok-states.ensures.ordered;
+    once = c.in_ok-book.ensures.once;
+  };
+  pieces = c.in_ok-check_costs.ensures.pieces;
+  terms = c.in_ok-check_costs.ensures.terms;
+}

@@ -8,7 +8,7 @@ use Rattle.pc_project.proofs.statuses.states_of.Goals as goal
 
 pub build-requires-clause-known : goal.build-requires-clause-known
 build-requires-clause-known c =
-    let same = c.in_ok-statuses.ensures.items ∙ (c.deref.ensures.value ∙ c.requires.lists.figures.statuses) in
+    let same = c.in_ok-statuses.ensures.items ∙ (c.deref.ensures.value ∙ c.requires.lists.statuses) in
     λ k below.
     omega (
       arith,
@@ -20,5 +20,5 @@ build-requires-clause-known c =
 pub build-requires-clause-few : goal.build-requires-clause-few
 build-requires-clause-few c =
     let deck = c.args.cards.now in
-    let same = c.in_ok-statuses.ensures.items ∙ (c.deref.ensures.value ∙ c.requires.lists.figures.statuses) in
+    let same = c.in_ok-statuses.ensures.items ∙ (c.deref.ensures.value ∙ c.requires.lists.statuses) in
     omega (arith, ap length same, length-map deck.statuses (status_of deck), (c.acts.ensures.within Status).few)

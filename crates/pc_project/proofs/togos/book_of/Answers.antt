@@ -10,32 +10,32 @@ use Rattle.pc_project.proofs.togos.book_of.Goals as goal
 pub build-requires-clause-few_accounts : goal.build-requires-clause-few_accounts
 build-requires-clause-few_accounts c =
     let deck = c.args.cards.now in
-    omega (arith, ap length (c.deref.ensures.value ∙ c.requires.lists.figures.accounts), length-map deck.accounts (account_of deck), (c.requires.within Acct).few)
+    omega (arith, ap length (c.deref.ensures.value ∙ c.requires.lists.accounts), length-map deck.accounts (account_of deck), (c.requires.within Acct).few)
 
 pub build-requires-clause-few_charges : goal.build-requires-clause-few_charges
 build-requires-clause-few_charges c =
     let deck = c.args.cards.now in
-    omega (arith, ap length (c.deref-2.ensures.value ∙ c.requires.lists.figures.charges), length-map deck.charges (money_of deck), (c.requires.within Charge).few)
+    omega (arith, ap length (c.deref-2.ensures.value ∙ c.requires.lists.charges), length-map deck.charges (money_of deck), (c.requires.within Charge).few)
 
 pub build-requires-clause-few_togos : goal.build-requires-clause-few_togos
 build-requires-clause-few_togos c =
     let deck = c.args.cards.now in
-    omega (arith, ap length (c.deref-3.ensures.value ∙ c.requires.lists.figures.togos), length-map deck.togos (money_of deck), (c.requires.within ToGo).few)
+    omega (arith, ap length (c.deref-3.ensures.value ∙ c.requires.lists.togos), length-map deck.togos (money_of deck), (c.requires.within ToGo).few)
 
 pub build-requires-clause-budgets : goal.build-requires-clause-budgets
 build-requires-clause-budgets c =
-    subst AreBudgets (sym (c.deref.ensures.value ∙ c.requires.lists.figures.accounts)) (accounts_cheap c.args.cards.now c.requires.within c.requires.faultless)
+    subst AreBudgets (sym (c.deref.ensures.value ∙ c.requires.lists.accounts)) (accounts_cheap c.args.cards.now c.requires.within c.requires.faultless)
 
 pub build-requires-clause-charges : goal.build-requires-clause-charges
 build-requires-clause-charges c =
-    subst (λ n. AreMoney n c.deref-2.result.now) (sym (ap length (c.deref.ensures.value ∙ c.requires.lists.figures.accounts)))
-    (subst (AreMoney (length (accounts_in c.args.cards.now))) (sym (c.deref-2.ensures.value ∙ c.requires.lists.figures.charges)) (are_charges c.args.cards.now c.requires.within c.requires.faultless))
+    subst (λ n. AreMoney n c.deref-2.result.now) (sym (ap length (c.deref.ensures.value ∙ c.requires.lists.accounts)))
+    (subst (AreMoney (length (accounts_in c.args.cards.now))) (sym (c.deref-2.ensures.value ∙ c.requires.lists.charges)) (are_charges c.args.cards.now c.requires.within c.requires.faultless))
 
 pub build-requires-clause-togos : goal.build-requires-clause-togos
 build-requires-clause-togos c =
-    subst (λ n. AreMoney n c.deref-3.result.now) (sym (ap length (c.deref.ensures.value ∙ c.requires.lists.figures.accounts)))
-    (subst (AreMoney (length (accounts_in c.args.cards.now))) (sym (c.deref-3.ensures.value ∙ c.requires.lists.figures.togos)) (are_togos c.args.cards.now c.requires.within c.requires.faultless))
+    subst (λ n. AreMoney n c.deref-3.result.now) (sym (ap length (c.deref.ensures.value ∙ c.requires.lists.accounts)))
+    (subst (AreMoney (length (accounts_in c.args.cards.now))) (sym (c.deref-3.ensures.value ∙ c.requires.lists.togos)) (are_togos c.args.cards.now c.requires.within c.requires.faultless))
 
 pub returns-in-Ok-clause-once : goal.returns-in-Ok-clause-once
 returns-in-Ok-clause-once c = λ k repeated.
-    c.in-Ok.ensures.once k (subst (λ togos. IsRepeated togos k) (sym (c.deref-3.ensures.value ∙ c.requires.lists.figures.togos)) repeated)
+    c.in-Ok.ensures.once k (subst (λ togos. IsRepeated togos k) (sym (c.deref-3.ensures.value ∙ c.requires.lists.togos)) repeated)

@@ -1,13 +1,14 @@
-use Rattle.std.proofs.Common.{◌<◌, length, map, refl, ◌∙◌, ap, arith}
+use Rattle.std.proofs.Common.{◌<◌, length, map, refl, ◌∙◌, ap, subst, arith}
 use Rattle.std.proofs.lemmas.List.{length-map}
 use Rattle.pc_crash.specs.Priced.{piece_at}
-use Rattle.pc_project.specs.PieceFaults.{HasPieceFaultAt}
+use Rattle.pc_faults.specs.inside.First.{IsFirstIn}
+use Rattle.pc_project.specs.PieceFaults.{HasPieceFault, HasPieceFaultAt}
 use Rattle.pc_project.specs.Project.{piece_of, pieces_in, term_of, terms_in}
 use Rattle.pc_project.specs.inside.Runs.{run_at}
 use Rattle.pc_project.proofs.CountLaws.{first_of_none, first_of_all, first_with}
 use Rattle.pc_project.proofs.PieceSteps.{flaw-is, next-is, piece-known, piece-short}
 use Rattle.pc_project.proofs.RunLaws.{AreRuns-start, AreRuns-more}
-use Rattle.pc_project.proofs.pieces.first_piece_fault.Goals as goal
+use Rattle.pc_project.proofs.pieces.check_pieces.Goals as goal
 
 pub loop-i-init : goal.loop-i-init
 loop-i-init c = record {
@@ -40,8 +41,16 @@ loop-i-preserved c =
           (flaw-is deck c.requires.faultless limits i inside runs are c.card-item.result c.take_in.result card taken.fault);
     })
 
-pub returns : goal.returns
-returns c =
+pub returns-in-Some-clause-first : goal.returns-in-Some-clause-first
+returns-in-Some-clause-first c =
     let deck = c.args.cards.now in
-    first_of_all (HasPieceFaultAt deck) c.loop-i.i (length deck.pieces) c.loop-i.fault
-    (omega (arith, c.loop-i-test.false, c.loop-i.auto.i-end, ap length c.pieces-card-items.ensures.cards)) c.loop-i.invariant.first
+    subst (IsFirstIn (HasPieceFault deck)) c.in-Some.is
+    (first_of_all (HasPieceFaultAt deck) c.loop-i.i (length deck.pieces) c.loop-i.fault
+    (omega (arith, c.loop-i-test.false, c.loop-i.auto.i-end, ap length c.pieces-card-items.ensures.cards)) c.loop-i.invariant.first)
+
+pub returns-clause-none : goal.returns-clause-none
+returns-clause-none c =
+    let deck = c.args.cards.now in
+    subst (IsFirstIn (HasPieceFault deck)) c.in-None.is
+    (first_of_all (HasPieceFaultAt deck) c.loop-i.i (length deck.pieces) c.loop-i.fault
+    (omega (arith, c.loop-i-test.false, c.loop-i.auto.i-end, ap length c.pieces-card-items.ensures.cards)) c.loop-i.invariant.first)

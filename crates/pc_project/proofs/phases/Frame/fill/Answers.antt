@@ -9,7 +9,7 @@ use Rattle.pc_deck.proofs.NumberLemmas.{acts-within, project-within}
 use Rattle.pc_project.specs.Misfit.{HasOrderedEstimates}
 use Rattle.pc_project.specs.Project.{term_of}
 use Rattle.pc_project.specs.inside.Project.{placement_of}
-use Rattle.pc_project.proofs.lists.Lists.fill.Goals as goal
+use Rattle.pc_project.proofs.phases.Frame.fill.Goals as goal
 
 pub expected_times-requires-clause-unit : goal.expected_times-requires-clause-unit
 expected_times-requires-clause-unit c =
@@ -33,23 +33,21 @@ expected_times-requires-clause-ordered c = subst (All HasOrderedEstimates) (sym 
 pub variances-requires-clause-ordered : goal.variances-requires-clause-ordered
 variances-requires-clause-ordered c = subst (All HasOrderedEstimates) (sym c.acts-acts.ensures.cards) c.requires.ordered
 
-pub returns : goal.returns
-returns c =
+pub returns-clause-lists : goal.returns-clause-lists
+returns-clause-lists c =
     let deck = c.args.cards.now in
     let acts = c.acts-acts.ensures.cards in
     let card = c.project.ensures.card in
     record {
-      lists = record {
-        events = c.in_ok-self.ensures;
-        activities = c.in_ok-self-2.ensures;
-        places = c.in_ok-self-3.ensures ∙ (ap (map (λ placement. placement.item)) c.requires.placements
-            ∙ map-map (λ placement. placement.item) (placement_of deck) deck.acts);
-        terms = c.in_ok-self-4.ensures ∙ ap (map term_of) acts;
-        expected = c.in_ok-self-5.ensures
-            ∙ (ap (map (λ act. expected_time act.opt act.likely act.pess c.project.result.now.unit_days)) acts
-            ∙ ap (λ (card : ProjectCard). map (λ act. expected_time act.opt act.likely act.pess card.unit_days) deck.acts) card);
-        variances = c.in_ok-self-6.ensures
-            ∙ (ap (map (λ act. variance_of act.opt act.pess c.project.result.now.unit_days)) acts
-            ∙ ap (λ (card : ProjectCard). map (λ act. variance_of act.opt act.pess card.unit_days) deck.acts) card);
-      };
+      events = c.in_ok-self.ensures;
+      activities = c.in_ok-self-2.ensures;
+      places = c.in_ok-self-3.ensures ∙ (ap (map (λ placement. placement.item)) c.requires.placements
+          ∙ map-map (λ placement. placement.item) (placement_of deck) deck.acts);
+      terms = c.in_ok-self-4.ensures ∙ ap (map term_of) acts;
+      expected = c.in_ok-self-5.ensures
+          ∙ (ap (map (λ act. expected_time act.opt act.likely act.pess c.project.result.now.unit_days)) acts
+          ∙ ap (λ (card : ProjectCard). map (λ act. expected_time act.opt act.likely act.pess card.unit_days) deck.acts) card);
+      variances = c.in_ok-self-6.ensures
+          ∙ (ap (map (λ act. variance_of act.opt act.pess c.project.result.now.unit_days)) acts
+          ∙ ap (λ (card : ProjectCard). map (λ act. variance_of act.opt act.pess card.unit_days) deck.acts) card);
     }

@@ -2,7 +2,7 @@ use Rattle.pc_project.specs.PieceFaults.{HasPieceFaultAt}
 use Rattle.pc_project.specs.Project.{pieces_in, terms_in}
 use Rattle.pc_project.proofs.RunLaws.{AreRuns}
 use Rattle.pc_project.proofs.CountLaws.{IsFirstBelow}
-use Rattle.pc_project.proofs.pieces.first_piece_fault.Given as goal
+use Rattle.pc_project.proofs.pieces.check_pieces.Given as goal
 
 -- what the activities come to so far, and the first fault of the pieces so far
 pub record Kept (P Q : Type 0) : Type 0 where
