@@ -10,7 +10,7 @@ mod status;
 mod words;
 
 pub use crate::one_word::project_named;
-pub use crate::reading::{NoProject, project_in, read_deck};
+pub use crate::reading::{NoProject, load_deck, project_in};
 pub use crate::refusing::refuse;
 pub use crate::sending::send;
 pub use crate::status::Status;

@@ -16,7 +16,7 @@ use std::alloc::Global;
 
 /// Returns the project of the deck that the one word names.
 ///
-/// It pulls as [`read_deck`](crate::read_deck) does.
+/// It pulls as [`load_deck`](crate::load_deck) does.
 ///
 /// # Errors
 ///

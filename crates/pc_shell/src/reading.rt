@@ -36,7 +36,7 @@ pub enum NoProject {
 /// # Errors
 ///
 /// `Refused` if the deck is longer than a deck may be, `ReadFault` if the source fails, `OutOfMemory`.
-pub fn read_deck<S: Source>(alloc: Global, source: &mut S) -> Result<Vec<u8>, NoProject>
+pub fn load_deck<S: Source>(alloc: Global, source: &mut S) -> Result<Vec<u8>, NoProject>
     ensures deck { IfOk result (λ bytes. IsWholeDeck (side S.left S.faults source.old source.new) bytes.items) }
     ensures none { IfErr result (HasNoDeck (side S.left S.faults source.old source.new)) }
 
@@ -54,7 +54,7 @@ pub fn read_deck<S: Source>(alloc: Global, source: &mut S) -> Result<Vec<u8>, No
 
 /// Reads a plan to its end and returns its project.
 ///
-/// It pulls as [`read_deck`] does. Cards are looked up by the source's key.
+/// It pulls as [`load_deck`] does. Cards are looked up by the source's key.
 ///
 /// # Errors
 ///
@@ -65,7 +65,7 @@ pub(crate) fn read_project<S: Source>(alloc: Global, source: &mut S) -> Result<P
     ensures stops { IsReadWithin longest_deck STREAM_ROOM S.left S.faults S.pulls source.old source.new }
 {
     let key = source.key();
-    match read_deck(alloc, source) {
+    match load_deck(alloc, source) {
         Ok(bytes) => project_in(alloc, key, &bytes),
         Err(why) => Err(why),
     }

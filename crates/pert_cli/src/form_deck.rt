@@ -20,7 +20,7 @@ use pc_cards::sort::Sort;
 use pc_curve::bench::{MOST_ACTIVITIES, bench_deck};
 use pc_edges::{FIXED_KEY, Source};
 use pc_project::Project;
-use pc_shell::{NoProject, project_in, read_deck};
+use pc_shell::{NoProject, load_deck, project_in};
 use std::alloc::Global;
 
 /// Returns the project of a form's deck: its own deck, and then nothing is read, or the source's.
@@ -55,7 +55,7 @@ fn read_as<S: Source>(
     ensures stops { IsReadWithin longest_deck STREAM_ROOM S.left S.faults S.pulls source.old source.new }
 {
     let key = source.key();
-    match read_deck(alloc, source) {
+    match load_deck(alloc, source) {
         Ok(bytes) => {
             let project = project_as(alloc, key, sort, &bytes);
             *deck = bytes;

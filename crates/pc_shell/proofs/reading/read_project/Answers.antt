@@ -9,13 +9,13 @@ use Rattle.pc_shell.proofs.reading.read_project.Goals as goal
 pub returns-in-Ok-clause-project : goal.returns-in-Ok-clause-project
 returns-in-Ok-clause-project g c =
     let is = subst (λ (bytes : List ℕ). IfOk c.project_in.result (IsProjectOf bytes)) c.deref.ensures.value c.project_in.ensures.project in
-    whole_has IsProjectOf (side g.S.Source.left g.S.Source.faults c.args.source.now c.read_deck.new.source) c.in-Ok.bytes.items c.in-Ok.ensures.deck c.project_in.result is
+    whole_has IsProjectOf (side g.S.Source.left g.S.Source.faults c.args.source.now c.load_deck.new.source) c.in-Ok.bytes.items c.in-Ok.ensures.deck c.project_in.result is
 
 pub returns-in-Ok-clause-none : goal.returns-in-Ok-clause-none
 returns-in-Ok-clause-none g c =
     let why = subst (λ (bytes : List ℕ). IfErr c.project_in.result (IsNoProjectOf bytes)) c.deref.ensures.value c.project_in.ensures.none in
-    whole_lacks IsFault (side g.S.Source.left g.S.Source.faults c.args.source.now c.read_deck.new.source) c.in-Ok.bytes.items c.in-Ok.ensures.deck c.project_in.result why
+    whole_lacks IsFault (side g.S.Source.left g.S.Source.faults c.args.source.now c.load_deck.new.source) c.in-Ok.bytes.items c.in-Ok.ensures.deck c.project_in.result why
 
 pub returns-in-Err-clause-none : goal.returns-in-Err-clause-none
 returns-in-Err-clause-none g c =
-    unread_lacks IsFault (side g.S.Source.left g.S.Source.faults c.args.source.now c.read_deck.new.source) c.in-Err.why c.in-Err.ensures.none
+    unread_lacks IsFault (side g.S.Source.left g.S.Source.faults c.args.source.now c.load_deck.new.source) c.in-Err.why c.in-Err.ensures.none
