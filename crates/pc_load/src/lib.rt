@@ -13,4 +13,4 @@ mod text;
 pub use loading::{Loading, MAX_DAYS, NoLoad};
 pub use spread::{Spread, part};
 pub use table::{LoadRow, MAX_PERIODS, Table, item_table};
-pub use text::{write_load, write_load_on};
+pub use text::{put_loading, write_load};

@@ -1,7 +1,6 @@
 //! The text of the report of loads.
 ghost use Rattle.std.specs.Prelude.{◌≡◌, ℕ, ◌≤◌, List, length};
 ghost use Rattle.pc_edges.specs.inside.Writes.{Writes};
-ghost use Rattle.pc_edges.specs.inside.page.Page.{fresh};
 ghost use Rattle.pc_edges.specs.inside.page.Puts.{Puts};
 ghost use Rattle.pc_load.specs.inside.Loading.{IsReadyFor};
 ghost use Rattle.pc_load.specs.inside.PrintedLoad.{loading_of};
@@ -21,7 +20,7 @@ use pc_project::Project;
 /// The tables can be any that have the project's items and resources as rows, and as many periods as each other.
 ///
 /// Each piece of the text is pushed as it comes. So it takes no memory, and it does not flush the sink. With a page at
-/// hand, [`write_load_on`] pushes less often.
+/// hand, [`put_loading`] pushes less often.
 ///
 /// # Errors
 ///
@@ -54,26 +53,13 @@ pub fn write_load<O: Sink>(
     page.push_out(sink)
 }
 
-/// Writes the report of a project's loads on a page and flushes the sink: a row for each period, and then, for each
-/// item in preorder and for each resource in card order, a row for each period in which it has a part.
-///
-/// # Errors
-///
-/// `Failed` if a push or the flush failed.
-pub fn write_load_on<O: Sink>(
-    page: &mut Page,
-    sink: &mut O,
-    project: &Project,
-    loading: &Loading,
-) -> Result<(), Failed>
-    requires fresh { page.old ≡ fresh }
-    requires ready { IsReadyFor project.now loading.now }
-    ensures text { Writes result (O.taken sink.old) (O.taken sink.new) (O.faults sink.old) (O.faults sink.new)
-        (load_text project.now loading.now) }
-    ensures fresh { page.new ≡ fresh }
+/// Puts the report of a project's loads on a page: a row for each period, and then, for each item in preorder and for
+/// each resource in card order, a row for each period in which it has a part.
+pub fn put_loading<O: Sink>(page: &mut Page, sink: &mut O, project: &Project, loading: &Loading)
+    requires { IsReadyFor project.now loading.now }
+    ensures { Puts O.taken O.faults page.old sink.old page.new sink.new (load_text project.now loading.now) }
 {
     put_load(page, sink, project, &loading.printed());
-    page.finish(sink)
 }
 
 /// Puts the report on a page.

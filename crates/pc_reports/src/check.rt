@@ -1,29 +1,24 @@
 //! The text of an accepted deck.
 ghost use Rattle.std.specs.Prelude.{◌≡◌};
-ghost use Rattle.pc_edges.specs.inside.Writes.{Writes};
-ghost use Rattle.pc_edges.specs.inside.page.Page.{fresh};
 ghost use Rattle.pc_edges.specs.inside.page.Puts.{Puts};
 ghost use Rattle.pc_reports.specs.Check.{check_text, counts_text};
 
 use crate::lines::{put_code, put_number};
+use crate::report::Report;
+use pc_edges::Sink;
 use pc_edges::page::Page;
-use pc_edges::{Failed, Sink};
 use pc_project::{Counts, Project};
 
-/// Writes the project's code and how many cards of each kind its deck has on a page, and flushes the sink.
-///
-/// # Errors
-///
-/// `Failed` if a push or the flush failed.
-pub fn write_check<O: Sink>(page: &mut Page, sink: &mut O, project: &Project) -> Result<(), Failed>
-    requires { page.old ≡ fresh }
-    ensures text { Writes result (O.taken sink.old) (O.taken sink.new) (O.faults sink.old) (O.faults sink.new)
-        (check_text project.now) }
-    ensures fresh { page.new ≡ fresh }
-{
-    put_code(page, sink, b"accepted ", &project.code());
-    put_counts(page, sink, project.counts());
-    page.finish(sink)
+// The project's code, and how many cards of each kind its deck has.
+impl Report for Counts {
+    ghost IsFor = { λ counts project. counts ≡ project.counts };
+
+    ghost text = { λ counts project. check_text project };
+
+    fn put_on<O: Sink>(&self, page: &mut Page, sink: &mut O, project: &Project) {
+        put_code(page, sink, b"accepted ", &project.code());
+        put_counts(page, sink, *self);
+    }
 }
 
 /// Puts a line for each kind of card.

@@ -4,12 +4,12 @@
 mod cells;
 mod check;
 mod dates;
-mod earned;
 mod forecasts;
 mod lines;
 mod outlook_costs;
 mod outlook_report;
 mod outlook_rows;
+mod report;
 mod schedule;
 mod summary_report;
 mod summary_rows;
@@ -20,9 +20,9 @@ mod value_report;
 mod value_rows;
 mod view;
 
-pub use check::write_check;
 pub use outlook_report::OutlookReport;
-pub use schedule::{Schedule, put_plan, write_schedule, write_schedule_on};
+pub use report::Report;
+pub use schedule::{Schedule, put_plan, put_schedule, write_schedule};
 pub use summary_report::SummaryReport;
 pub use times::end_to_meet;
 pub use times_report::{TimesReport, write_times, write_times_on};

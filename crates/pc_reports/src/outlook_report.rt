@@ -1,16 +1,15 @@
 //! The outlook: what the items will cost at given durations of the activities.
-ghost use Rattle.std.specs.Prelude.{◌≡◌, ◌++◌, length, IfOk};
+ghost use Rattle.std.specs.Prelude.{◌≡◌, length, IfOk};
 ghost use Rattle.pc_edges.specs.inside.Writes.{Writes};
 ghost use Rattle.pc_edges.specs.inside.page.Puts.{Puts};
 ghost use Rattle.pc_reports.specs.OutlookText.{IsOutlook, outlook_text};
 ghost use Rattle.pc_reports.specs.inside.OutlookText.{IsOutlookFor, IsPricedNetOf, TellsTop};
-ghost use Rattle.pc_reports.specs.inside.Schedule.{text_of, IsWhole};
 
 use crate::outlook_costs::costs_in;
 use crate::outlook_rows::OutlookRows;
-use crate::schedule::{Schedule, put_schedule};
+use crate::report::{Report, write_report};
 use pc_crash::CrashNet;
-use pc_edges::page::{PAGE_ROOM, Page, put_rows};
+use pc_edges::page::{Page, put_rows};
 use pc_edges::{Failed, Sink};
 use pc_project::Project;
 use pc_rollup::figures::Outlook;
@@ -24,20 +23,15 @@ const HEAD: &[u8] = b"ITEM             LV         BUDGET        OUTLOOK         
 /// It takes all its memory when it is built; writing takes none. Contracts see it as the figures that it prints.
 #[derive(Drop)]
 pub struct OutlookReport {
-    page: Page,
     outlook: Outlook,
 }
 
 impl Model for OutlookReport {
-    ghost use Rattle.std.specs.Prelude.{◌≡◌};
-    ghost use Rattle.pc_edges.specs.inside.page.Page.{fresh};
     ghost use Rattle.pc_rollup.specs.figures.Outlook.{Outlook};
 
     ghost Value = { Outlook };
 
     ghost view = { λ report. report.outlook };
-
-    ghost invariant = { λ report. report.page ≡ fresh };
 }
 
 impl OutlookReport {
@@ -78,7 +72,6 @@ impl OutlookReport {
         ensures top { IfOk result (TellsTop project.now durations.now) }
     {
         Ok(OutlookReport {
-            page: Page::with_capacity(alloc, PAGE_ROOM)?,
             outlook: outlook_at(alloc, project, net, durations)?,
         })
     }
@@ -94,30 +87,17 @@ impl OutlookReport {
             (outlook_text project.now self.old) }
         ensures same { self.new ≡ self.old }
     {
-        put_outlook(&mut self.page, sink, project, &self.outlook);
-        self.page.finish(sink)
+        write_report(&*self, project, sink)
     }
+}
 
-    /// Writes a schedule and then the outlook, and flushes the sink.
-    ///
-    /// # Errors
-    ///
-    /// `Failed` if a push or the flush failed. The sink has taken the first bytes of the text then, or none.
-    pub fn write_after<O: Sink>(
-        &mut self,
-        schedule: &Schedule<'_>,
-        project: &Project,
-        sink: &mut O,
-    ) -> Result<(), Failed>
-        requires whole { IsWhole schedule.now }
-        requires outlook { IsOutlookFor project.now self.old }
-        ensures text { Writes result (O.taken sink.old) (O.taken sink.new) (O.faults sink.old) (O.faults sink.new)
-            (text_of schedule.now ++ outlook_text project.now self.old) }
-        ensures same { self.new ≡ self.old }
-    {
-        put_schedule(&mut self.page, sink, schedule);
-        put_outlook(&mut self.page, sink, project, &self.outlook);
-        self.page.finish(sink)
+impl Report for OutlookReport {
+    ghost IsFor = { λ report project. IsOutlookFor project report };
+
+    ghost text = { λ report project. outlook_text project report };
+
+    fn put_on<O: Sink>(&self, page: &mut Page, sink: &mut O, project: &Project) {
+        put_outlook(page, sink, project, &self.outlook);
     }
 }
 

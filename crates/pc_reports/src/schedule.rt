@@ -1,7 +1,6 @@
 //! The text of a schedule.
 ghost use Rattle.std.specs.Prelude.{◌≡◌, length, length as length_of};
 ghost use Rattle.pc_edges.specs.inside.Writes.{Writes};
-ghost use Rattle.pc_edges.specs.inside.page.Page.{fresh};
 ghost use Rattle.pc_edges.specs.inside.page.Puts.{Puts};
 ghost use Rattle.pc_reports.specs.Lines.{named_line_at};
 ghost use Rattle.pc_reports.specs.Schedule.{schedule_text};
@@ -29,7 +28,7 @@ pub struct Schedule<'a> {
 /// in card order.
 ///
 /// Each piece of the text is pushed as it comes. So it takes no memory, and it does not flush the sink. With a page at
-/// hand, [`write_schedule_on`] pushes less often.
+/// hand, [`put_schedule`] pushes less often.
 ///
 /// # Errors
 ///
@@ -80,29 +79,9 @@ fn put_durations<O: Sink>(page: &mut Page, sink: &mut O, net: &CrashNet<'_>, dur
     }
 }
 
-/// Writes a schedule on a page and flushes the sink: its length and its cost, the time of each event and the duration
-/// of each activity, in card order.
-///
-/// # Errors
-///
-/// `Failed` if a push or the flush failed.
-pub fn write_schedule_on<O: Sink>(
-    page: &mut Page,
-    sink: &mut O,
-    schedule: &Schedule<'_>,
-) -> Result<(), Failed>
-    requires whole { IsWhole schedule.now }
-    requires fresh { page.old ≡ fresh }
-    ensures text { Writes result (O.taken sink.old) (O.taken sink.new) (O.faults sink.old) (O.faults sink.new)
-        (text_of schedule.now) }
-    ensures fresh { page.new ≡ fresh }
-{
-    put_schedule(page, sink, schedule);
-    page.finish(sink)
-}
-
-/// Puts the lines of a schedule on a page. More can follow there.
-pub(crate) fn put_schedule<O: Sink>(page: &mut Page, sink: &mut O, schedule: &Schedule<'_>)
+/// Puts a schedule on a page: its length and its cost, the time of each event and the duration of each activity, in
+/// card order.
+pub fn put_schedule<O: Sink>(page: &mut Page, sink: &mut O, schedule: &Schedule<'_>)
     requires { IsWhole schedule.now }
     ensures { Puts O.taken O.faults page.old sink.old page.new sink.new (text_of schedule.now) }
 {

@@ -5,8 +5,9 @@ ghost use Rattle.pc_edges.specs.inside.page.Puts.{Puts};
 ghost use Rattle.pc_reports.specs.SummaryText.{IsSummary, ChargesCountOnce, summary_text};
 
 use crate::lines::put_dated;
+use crate::report::{Report, write_report};
 use crate::summary_rows::{ItemRows, LevelRows};
-use pc_edges::page::{PAGE_ROOM, Page, put_rows};
+use pc_edges::page::{Page, put_rows};
 use pc_edges::{Failed, Sink};
 use pc_project::Project;
 use pc_rollup::figures::Summary;
@@ -22,20 +23,15 @@ const HEAD: &[u8] =
 /// It takes all its memory when it is built; writing takes none. Contracts see it as the figures that it prints.
 #[derive(Drop)]
 pub struct SummaryReport {
-    page: Page,
     summary: Summary,
 }
 
 impl Model for SummaryReport {
-    ghost use Rattle.std.specs.Prelude.{◌≡◌};
-    ghost use Rattle.pc_edges.specs.inside.page.Page.{fresh};
     ghost use Rattle.pc_rollup.specs.figures.Summary.{Summary};
 
     ghost Value = { Summary };
 
     ghost view = { λ report. report.summary };
-
-    ghost invariant = { λ report. report.page ≡ fresh };
 }
 
 impl SummaryReport {
@@ -50,7 +46,6 @@ impl SummaryReport {
     {
         let entries = project.book().entries();
         Ok(SummaryReport {
-            page: Page::with_capacity(alloc, PAGE_ROOM)?,
             summary: Summary::build(alloc, project.tree(), project.accounts(), entries)?,
         })
     }
@@ -66,8 +61,17 @@ impl SummaryReport {
             (summary_text project.now self.old) }
         ensures same { self.new ≡ self.old }
     {
-        put_summary(&mut self.page, sink, project, &self.summary);
-        self.page.finish(sink)
+        write_report(&*self, project, sink)
+    }
+}
+
+impl Report for SummaryReport {
+    ghost IsFor = { λ report project. IsSummary project report };
+
+    ghost text = { λ report project. summary_text project report };
+
+    fn put_on<O: Sink>(&self, page: &mut Page, sink: &mut O, project: &Project) {
+        put_summary(page, sink, project, &self.summary);
     }
 }
 

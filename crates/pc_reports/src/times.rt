@@ -1,80 +1,15 @@
-//! The figures of the report of event times.
-ghost use Rattle.std.specs.Prelude.{◌≡◌, ◌<◌, ◌≤◌, ◌≤ℤ◌, pos, unsigned_abs, length, slice_index, slice_index_or, IfOk};
+//! The time at which the end is to be met, and the latest times by it.
+ghost use Rattle.std.specs.Prelude.{◌≡◌, ◌≤◌, ◌≤ℤ◌, pos, unsigned_abs, IfOk};
 ghost use Rattle.std.specs.List.{All};
 ghost use Rattle.std.specs.Option.{ForSome};
-ghost use Rattle.pc_model.specs.declared.limits.TheConstants.{MAX_DIRECTED, MAX_EVENTS};
+ghost use Rattle.pc_model.specs.declared.limits.TheConstants.{MAX_DIRECTED};
 ghost use Rattle.pc_times.specs.declared.TheConstants.{MAX_TIME};
 ghost use Rattle.pc_times.specs.Late.{AreLate};
-ghost use Rattle.pc_reports.specs.Times.{IsTimes, end_to_meet};
-ghost use Rattle.pc_reports.specs.inside.Times.{AreSmall};
+ghost use Rattle.pc_reports.specs.Times.{end_to_meet};
 
 use pc_project::Project;
-use pc_times::{Longest, late, longest};
+use pc_times::late;
 use std::alloc::{AllocError, Global};
-use std::marker::Model;
-
-/// For each event its earliest and its latest time, and the activities of the critical path.
-///
-/// Times are in sixths of a day from the project's start.
-#[derive(Drop)]
-pub(crate) struct Times {
-    longest: Longest,
-    late: Vec<i64>,
-}
-
-impl Model for Times {
-    ghost use Rattle.pc_reports.specs.Times.{Times};
-
-    ghost Value = { Times };
-
-    ghost use Rattle.pc_reports.specs.inside.TimesInside.{times_from, AreSmallInside};
-
-    ghost view = { times_from };
-
-    ghost invariant = { AreSmallInside };
-}
-
-impl Times {
-    /// Returns the times of the project. Linear in events and activities.
-    ///
-    /// # Errors
-    ///
-    /// Returns `AllocError` if memory runs out.
-    pub(crate) fn build(alloc: Global, project: &Project) -> Result<Times, AllocError>
-        ensures times { IfOk result (IsTimes project.now) }
-        ensures small { IfOk result AreSmall }
-    {
-        let longest = longest(alloc, project.net(), project.expected())?;
-        let late = late_to_meet(alloc, project, longest.length())?;
-        Ok(Times { longest, late })
-    }
-
-    /// Returns the earliest time of an event.
-    pub(crate) fn early(&self, e: u32) -> u64
-        requires { e < length self.now.early }
-        ensures time { result ≡ slice_index self.now.early e }
-        ensures limit { result ≤ MAX_TIME }
-    {
-        self.longest.times()[e as usize]
-    }
-
-    /// Returns the latest time of an event.
-    pub(crate) fn late(&self, e: u32) -> i64
-        requires { e < length self.now.late }
-        ensures time { result ≡ slice_index_or self.now.late e (pos 0) }
-        ensures limit { unsigned_abs result ≤ MAX_TIME }
-    {
-        self.late[e as usize]
-    }
-
-    /// Returns the activities of the critical path, from the start event to the end event.
-    pub(crate) fn path(&self) -> &[u32]
-        ensures path { result.now ≡ self.now.path }
-        ensures short { length result.now ≤ MAX_EVENTS }
-    {
-        self.longest.path()
-    }
-}
 
 /// Returns the latest time of each event at which the end can still be met.
 pub(crate) fn late_to_meet(

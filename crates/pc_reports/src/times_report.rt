@@ -8,35 +8,37 @@ ghost use Rattle.pc_reports.specs.TimesText.{times_text};
 ghost use Rattle.pc_reports.specs.inside.View.{IsShownOf, as_shown};
 
 use crate::lines::put_code;
-use crate::times::Times;
+use crate::report::{Report, write_report};
+use crate::times::late_to_meet;
 use crate::times_rows::{put_activities, put_events, put_path};
 use crate::view::{Reported, TimesView};
-use pc_edges::page::{PAGE_ROOM, Page};
+use pc_edges::page::Page;
 use pc_edges::{Failed, Sink};
 use pc_project::Project;
+use pc_times::{Longest, longest};
 use std::alloc::{AllocError, Global};
 use std::marker::Model;
 
 /// The report of a project's event times: earliest and latest times, slacks and the critical path.
 ///
-/// It takes all its memory when it is built; writing takes none. Contracts see it as the figures that it prints.
+/// Times are in sixths of a day from the project's start. It takes all its memory when it is built; writing takes none.
+/// Contracts see it as the figures that it prints.
 #[derive(Drop)]
 pub struct TimesReport {
-    page: Page,
-    times: Times,
+    longest: Longest,
+    late: Vec<i64>,
 }
 
 impl Model for TimesReport {
-    ghost use Rattle.std.specs.Prelude.{◌≡◌};
-    ghost use Rattle.pc_edges.specs.inside.page.Page.{fresh};
     ghost use Rattle.pc_reports.specs.Times.{Times};
-    ghost use Rattle.pc_reports.specs.inside.Times.{AreSmall};
 
     ghost Value = { Times };
 
-    ghost view = { λ report. report.times };
+    ghost use Rattle.pc_reports.specs.inside.TimesInside.{times_from, AreSmallInside};
 
-    ghost invariant = { λ report. (report.page ≡ fresh) × AreSmall report.times };
+    ghost view = { times_from };
+
+    ghost invariant = { AreSmallInside };
 }
 
 impl TimesReport {
@@ -48,10 +50,9 @@ impl TimesReport {
     pub fn build(alloc: Global, project: &Project) -> Result<TimesReport, AllocError>
         ensures { IfOk result (IsTimes project.now) }
     {
-        Ok(TimesReport {
-            page: Page::with_capacity(alloc, PAGE_ROOM)?,
-            times: Times::build(alloc, project)?,
-        })
+        let longest = longest(alloc, project.net(), project.expected())?;
+        let late = late_to_meet(alloc, project, longest.length())?;
+        Ok(TimesReport { longest, late })
     }
 
     /// Writes the report, a row for each event and for each activity and the critical path with its variance, and
@@ -66,13 +67,24 @@ impl TimesReport {
             (times_text project.now self.old) }
         ensures same { self.new ≡ self.old }
     {
+        write_report(&*self, project, sink)
+    }
+}
+
+impl Report for TimesReport {
+    ghost IsFor = { λ report project. IsTimes project report };
+
+    ghost text = { λ report project. times_text project report };
+
+    fn put_on<O: Sink>(&self, page: &mut Page, sink: &mut O, project: &Project) {
         // How many events and activities there are, and which numbers of them may be.
         let _net = project.net();
         let view = Reported {
             project,
-            times: &self.times,
+            longest: &self.longest,
+            late: &self.late,
         };
-        write_times_on(&mut self.page, sink, project, &view)
+        put_times(page, sink, project, &view);
     }
 }
 

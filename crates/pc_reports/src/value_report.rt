@@ -1,16 +1,19 @@
 //! The report of the value of work.
-ghost use Rattle.std.specs.Prelude.{◌≡◌, IfOk};
+ghost use Rattle.std.specs.Prelude.{◌≡◌, ◌<◌, length, IfOk};
 ghost use Rattle.pc_edges.specs.inside.Writes.{Writes};
-ghost use Rattle.pc_edges.specs.inside.page.Puts.{Puts};
 ghost use Rattle.pc_reports.specs.Earned.{IsEarned};
 ghost use Rattle.pc_reports.specs.ValueText.{value_text};
+ghost use Rattle.pc_rollup.specs.figures.Outline.{row_at};
+ghost use Rattle.pc_rollup.specs.figures.Worth.{IsWorthOf};
 
-use crate::earned::Earned;
+use crate::forecasts::Forecasts;
 use crate::lines::put_dated;
+use crate::report::{Report, write_report};
 use crate::value_rows::{ForecastRows, WorthRows};
-use pc_edges::page::{PAGE_ROOM, Page, put_rows};
+use pc_edges::page::{Page, put_rows};
 use pc_edges::{Failed, Sink};
 use pc_project::Project;
+use pc_rollup::figures::{OutlineRow, Worth, outline_of};
 use std::alloc::{AllocError, Global};
 use std::marker::Model;
 
@@ -19,25 +22,23 @@ const EVENT_HEAD: &[u8] = b"EVENT                FORECAST       FSLACK DATE\n";
 const ITEM_HEAD: &[u8] =
     b"ITEM             LV         BUDGET         ACTUAL          VALUE        OVERRUN       FSLACK TITLE\n";
 
-/// The report of a project's forecast and of the value of its work.
+/// The report of a project's forecast and of the value of its work: the forecast of each event, and for each item the
+/// value of its work and its slack.
 ///
 /// It takes all its memory when it is built; writing takes none. Contracts see it as the figures that it prints.
 #[derive(Drop)]
 pub struct ValueReport {
-    page: Page,
-    earned: Earned,
+    forecasts: Forecasts,
+    outline: Vec<OutlineRow>,
+    worth: Worth,
 }
 
 impl Model for ValueReport {
-    ghost use Rattle.std.specs.Prelude.{◌≡◌};
-    ghost use Rattle.pc_edges.specs.inside.page.Page.{fresh};
     ghost use Rattle.pc_reports.specs.Earned.{Earned};
 
     ghost Value = { Earned };
 
-    ghost view = { λ report. report.earned };
-
-    ghost invariant = { λ report. report.page ≡ fresh };
+    ghost view = { λ r. record { forecasts = r.forecasts; outline = r.outline.items; worth = r.worth } };
 }
 
 impl ValueReport {
@@ -50,8 +51,9 @@ impl ValueReport {
         ensures { IfOk result (IsEarned project.now) }
     {
         Ok(ValueReport {
-            page: Page::with_capacity(alloc, PAGE_ROOM)?,
-            earned: Earned::build(alloc, project)?,
+            outline: outline_of(alloc, project.tree())?,
+            forecasts: Forecasts::build(alloc, project)?,
+            worth: worth_of(alloc, project)?,
         })
     }
 
@@ -66,19 +68,59 @@ impl ValueReport {
             (value_text project.now self.old) }
         ensures same { self.new ≡ self.old }
     {
-        put_value(&mut self.page, sink, project, &self.earned);
-        self.page.finish(sink)
+        write_report(&*self, project, sink)
+    }
+
+    /// Returns the forecasts of events and the slacks of items.
+    pub(crate) fn forecasts(&self) -> &Forecasts
+        ensures { result.now ≡ self.now.forecasts }
+    {
+        &self.forecasts
+    }
+
+    /// Returns the value of the work of each item.
+    pub(crate) fn worth(&self) -> &Worth
+        ensures { result.now ≡ self.now.worth }
+    {
+        &self.worth
+    }
+
+    pub(crate) fn items(&self) -> usize
+        ensures { result ≡ length self.now.outline }
+    {
+        self.outline.len()
+    }
+
+    /// Returns the `k`-th item in preorder, with its level.
+    pub(crate) fn row(&self, k: usize) -> OutlineRow
+        requires { k < length self.now.outline }
+        ensures { result ≡ row_at self.now.outline k }
+    {
+        self.outline[k]
     }
 }
 
-fn put_value<O: Sink>(page: &mut Page, sink: &mut O, project: &Project, earned: &Earned)
-    requires { IsEarned project.now earned.now }
-    ensures { Puts O.taken O.faults page.old sink.old page.new sink.new (value_text project.now earned.now) }
+impl Report for ValueReport {
+    ghost IsFor = { λ report project. IsEarned project report };
+
+    ghost text = { λ report project. value_text project report };
+
+    fn put_on<O: Sink>(&self, page: &mut Page, sink: &mut O, project: &Project) {
+        put_dated(page, sink, b"VALUE ", &project.code(), project.as_of());
+        page.put(sink, EVENT_HEAD);
+        let forecasts = self.forecasts();
+        put_rows(page, sink, &ForecastRows { project, forecasts });
+        page.put(sink, ITEM_HEAD);
+        let report = self;
+        put_rows(page, sink, &WorthRows { project, report });
+    }
+}
+
+fn worth_of(alloc: Global, project: &Project) -> Result<Worth, AllocError>
+    ensures { IfOk result (IsWorthOf project.now.tree project.now.places project.now.states project.now.accounts
+        project.now.entries) }
 {
-    put_dated(page, sink, b"VALUE ", &project.code(), project.as_of());
-    page.put(sink, EVENT_HEAD);
-    let forecasts = earned.forecasts();
-    put_rows(page, sink, &ForecastRows { project, forecasts });
-    page.put(sink, ITEM_HEAD);
-    put_rows(page, sink, &WorthRows { project, earned });
+    let entries = project.book().entries();
+    let (tree, places, states) = (project.tree(), project.places(), project.states());
+    Worth::build(alloc, tree, places, states, project.accounts(), entries)
 }

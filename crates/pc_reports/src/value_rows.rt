@@ -7,8 +7,8 @@ ghost use Rattle.pc_reports.specs.Earned.{AreForecasts, IsEarned};
 ghost use Rattle.pc_reports.specs.ValueText.{forecast_cells, forecast_row, slack_text, worth_cells, worth_row};
 
 use crate::cells::{put_amount_cell, put_level_cell, put_title_cell};
-use crate::earned::Earned;
 use crate::forecasts::Forecasts;
+use crate::value_report::ValueReport;
 use pc_edges::Sink;
 use pc_edges::page::{Page, Rows};
 use pc_project::Project;
@@ -46,25 +46,25 @@ impl<'a> Rows for ForecastRows<'a> {
 #[derive(Clone, Copy)]
 pub(crate) struct WorthRows<'a> {
     pub(crate) project: &'a Project,
-    pub(crate) earned: &'a Earned,
+    pub(crate) report: &'a ValueReport,
 }
 
 impl<'a> Rows for WorthRows<'a> {
-    ghost row_count = { λ t. length t.earned.now.outline };
+    ghost row_count = { λ t. length t.report.now.outline };
 
-    ghost row_text = { λ t. worth_row t.project.now t.earned.now };
+    ghost row_text = { λ t. worth_row t.project.now t.report.now };
 
-    ghost IsReady = { λ t. IsEarned t.project.now t.earned.now };
+    ghost IsReady = { λ t. IsEarned t.project.now t.report.now };
 
     fn count(&self) -> usize {
-        self.earned.items()
+        self.report.items()
     }
 
     fn put<O: Sink>(&self, i: usize, page: &mut Page, sink: &mut O) {
-        let row = self.earned.row(i);
+        let row = self.report.row(i);
         let code = self.project.item_code(row.item);
-        let amounts = self.earned.worth().of_item(row.item);
-        let slack = self.earned.forecasts().slack(row.item);
+        let amounts = self.report.worth().of_item(row.item);
+        let slack = self.report.forecasts().slack(row.item);
         let title = self.project.item_title(row.item);
         put_worth(page, sink, &code, row.level, &amounts, slack, title);
     }

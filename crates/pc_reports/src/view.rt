@@ -2,8 +2,8 @@
 ghost use Rattle.std.specs.Prelude.{◌≡◌, ◌↔◌, ◌<◌, ◌≤◌, IfSome, IsNone, length, pos, slice_index, slice_index_or};
 ghost use Rattle.pc_reports.specs.inside.View.{Shown};
 
-use crate::times::Times;
 use pc_project::Project;
+use pc_times::Longest;
 
 /// The event times of a project, its expected times and variances and its critical path, wherever they are kept.
 ///
@@ -39,18 +39,19 @@ pub trait TimesView {
         ensures past { IsNone result ↔ (length (shown self.now).times.path ≤ k) };
 }
 
-/// The times that a report has, and their project.
+/// The longest paths and the latest times of a project.
 #[derive(Clone, Copy)]
 pub(crate) struct Reported<'a> {
     pub(crate) project: &'a Project,
-    pub(crate) times: &'a Times,
+    pub(crate) longest: &'a Longest,
+    pub(crate) late: &'a [i64],
 }
 
 impl<'a> TimesView for Reported<'a> {
     ghost shown = { λ r. record {
       expected = r.project.now.expected;
       variances = r.project.now.variances;
-      times = r.times.now;
+      times = record { early = r.longest.now.times; late = r.late.now; path = r.longest.now.path };
     } };
 
     fn expected(&self, a: u32) -> u64 {
@@ -62,14 +63,14 @@ impl<'a> TimesView for Reported<'a> {
     }
 
     fn early(&self, e: u32) -> u64 {
-        self.times.early(e)
+        self.longest.times()[e as usize]
     }
 
     fn late(&self, e: u32) -> i64 {
-        self.times.late(e)
+        self.late[e as usize]
     }
 
     fn on_path(&self, k: u32) -> Option<u32> {
-        self.times.path().get(k as usize).copied()
+        self.longest.path().get(k as usize).copied()
     }
 }

@@ -2,7 +2,7 @@
 use crate::cases::expect_none;
 use pc_edges::page::Page;
 use pc_edges::{Failed, MemSink};
-use pc_reports::{Schedule, write_schedule_on};
+use pc_reports::{Schedule, put_schedule};
 use pc_text::Code;
 use std::alloc::Global;
 
@@ -29,7 +29,8 @@ fn written(
     };
     let mut page = Page::with_capacity(alloc, page_room).ok()?;
     let mut sink = MemSink::new(alloc, room, 1000, failing).ok()?;
-    let answer = write_schedule_on(&mut page, &mut sink, &schedule);
+    put_schedule(&mut page, &mut sink, &schedule);
+    let answer = page.finish(&mut sink);
     if !TEXT.starts_with(sink.bytes()) {
         return None;
     }

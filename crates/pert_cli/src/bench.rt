@@ -4,7 +4,7 @@ ghost use Rattle.pert_cli.specs.Handing.{IsReply};
 ghost use Rattle.pert_cli.specs.inside.Handing.{Answers};
 ghost use Rattle.pert_cli.specs.declared.forms.Form.TheVariants.{Bench};
 
-use crate::answer::status_of;
+use crate::deliver::status_of;
 use crate::solving::{SolverTask, solve};
 use pc_crash::Steps;
 use pc_curve::bench::write_bench;

@@ -185,9 +185,9 @@ impl Form {
             Form::Point(limit) => point::answer(alloc, limit, project, out, err),
             Form::Outlook(limit) => outlook::answer(alloc, limit, project, out, err),
             Form::Bench(n) => bench::answer(alloc, n, project, out),
-            Form::Migrate => migrate::answer(project, room, out),
+            Form::Migrate => migrate::answer(alloc, project, room, out),
             Form::Optimum => optimum::answer(alloc, project, out),
-            Form::Arrows => arrows::answer(project, room, out),
+            Form::Arrows => arrows::answer(alloc, project, room, out),
             Form::Load(days) => load::answer(alloc, days, project, out, err),
         }
     }

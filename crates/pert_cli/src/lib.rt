@@ -1,13 +1,13 @@
 //! The top call of `pert`: words and bytes in, bytes and a status out.
 #![tactic(auto)]
 
-mod answer;
 mod arrows;
 mod bench;
 mod certify;
 mod cheapest;
 mod check;
 mod curve;
+mod deliver;
 mod fault_laws;
 mod form_deck;
 mod forms;
@@ -16,7 +16,6 @@ mod migrate;
 mod normal;
 mod optimum;
 mod outlook;
-mod paged;
 mod point;
 mod printed;
 mod solving;

@@ -6,12 +6,13 @@ ghost use Rattle.pert_cli.specs.inside.Handing.{Replies};
 ghost use Rattle.pc_shell.specs.Sides.{side};
 ghost use Rattle.pert_cli.specs.declared.forms.Form.TheVariants.{Load};
 
-use crate::paged::{Paged, hand_paged};
+use crate::deliver::deliver_built;
+use pc_edges::Sink;
 use pc_edges::page::Page;
-use pc_edges::{Failed, Sink};
 use pc_faults::Fault;
-use pc_load::{Loading, NoLoad, write_load_on};
+use pc_load::{Loading, NoLoad, put_loading};
 use pc_project::Project;
+use pc_reports::Report;
 use pc_shell::{Status, refuse};
 use std::alloc::Global;
 
@@ -31,23 +32,24 @@ pub(crate) fn answer<O: Sink, E: Sink>(
         (side E.taken E.faults err.old err.new) result }
 {
     match Loading::build(alloc, project, days) {
-        Ok(loading) => hand_paged(alloc, &loading, project, out),
+        Ok(loading) => deliver_built(alloc, &LoadReport { loading: &loading }, project, out),
         Err(NoLoad::TooMany(have)) => refuse(alloc, &Fault::too_many_periods(have), err),
         Err(NoLoad::OutOfMemory) => Status::OutOfMemory,
     }
 }
 
-impl Paged for Loading {
-    ghost IsFor = { λ loading project. IsReadyFor project loading };
+/// The report of a project's loads.
+#[derive(Clone, Copy)]
+struct LoadReport<'a> {
+    loading: &'a Loading,
+}
 
-    ghost text = { λ loading project. load_text project loading };
+impl<'a> Report for LoadReport<'a> {
+    ghost IsFor = { λ report project. IsReadyFor project report.loading.now };
 
-    fn write_on<O: Sink>(
-        &self,
-        page: &mut Page,
-        project: &Project,
-        out: &mut O,
-    ) -> Result<(), Failed> {
-        write_load_on(page, out, project, self)
+    ghost text = { λ report project. load_text project report.loading.now };
+
+    fn put_on<O: Sink>(&self, page: &mut Page, sink: &mut O, project: &Project) {
+        put_loading(page, sink, project, self.loading);
     }
 }

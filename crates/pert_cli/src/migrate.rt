@@ -6,21 +6,28 @@ ghost use Rattle.pert_cli.specs.Handing.{IsReply};
 ghost use Rattle.pert_cli.specs.inside.Handing.{Answers};
 ghost use Rattle.pert_cli.specs.declared.forms.Form.TheVariants.{Migrate};
 
-use crate::answer::{Answer, deliver};
-use pc_edges::{Failed, Sink};
+use crate::deliver::deliver;
+use pc_edges::Sink;
+use pc_edges::page::Page;
 use pc_project::Project;
 use pc_project::deck_text::deck_text_in;
-use pc_shell::{Status, send};
-use std::alloc::AllocError;
+use pc_reports::Report;
+use pc_shell::Status;
+use std::alloc::{AllocError, Global};
 
 /// The words of the form.
 pub(crate) const WORDS: &[u8] = b"migrate";
 
 /// Answers the form. `room` is memory that the text may use.
-pub(crate) fn answer<O: Sink>(project: &Project, room: Vec<u8>, out: &mut O) -> Status
+pub(crate) fn answer<O: Sink>(
+    alloc: Global,
+    project: &Project,
+    room: Vec<u8>,
+    out: &mut O,
+) -> Status
     ensures { Answers (IsReply Migrate project.now) (side O.taken O.faults out.old out.new) result }
 {
-    deliver(DeckText::build(project, room), project, out)
+    deliver(alloc, DeckText::build(project, room), project, out)
 }
 
 /// The text of a project's deck.
@@ -40,12 +47,12 @@ impl DeckText {
     }
 }
 
-impl Answer for DeckText {
+impl Report for DeckText {
     ghost IsFor = { λ answer project. IsDeckText project answer.text.items };
 
     ghost text = { λ answer project. answer.text.items };
 
-    fn write_to<O: Sink>(&mut self, project: &Project, out: &mut O) -> Result<(), Failed> {
-        send(out, &self.text)
+    fn put_on<O: Sink>(&self, page: &mut Page, sink: &mut O, _project: &Project) {
+        page.put(sink, &self.text);
     }
 }

@@ -8,7 +8,7 @@ ghost use Rattle.pert_cli.specs.inside.Handing.{Answers};
 ghost use Rattle.pert_cli.specs.Normal.{IsNormalSchedule};
 ghost use Rattle.pert_cli.specs.declared.forms.Form.TheVariants.{Normal};
 
-use crate::paged::deliver_paged;
+use crate::deliver::deliver;
 use crate::printed::PrintedSchedule;
 use pc_edges::Sink;
 use pc_model::Term;
@@ -25,7 +25,7 @@ pub(crate) const WORDS: &[u8] = b"normal";
 pub(crate) fn answer<O: Sink>(alloc: Global, project: &Project, out: &mut O) -> Status
     ensures { Answers (IsReply Normal project.now) (side O.taken O.faults out.old out.new) result }
 {
-    deliver_paged(alloc, normal_schedule(alloc, project), project, out)
+    deliver(alloc, normal_schedule(alloc, project), project, out)
 }
 
 /// Returns the schedule at the all-normal length of a project: every activity at its normal duration, every event as

@@ -9,15 +9,15 @@ ghost use Rattle.pert_cli.specs.Optimum.{IsOptimumWith, optimum_text};
 ghost use Rattle.pert_cli.specs.declared.forms.Form.TheVariants.{Optimum};
 
 use crate::cheapest::cheapest_at;
-use crate::paged::{Paged, deliver_paged};
+use crate::deliver::deliver;
 use crate::printed::PrintedSchedule;
 use crate::solving::{SolverTask, solve};
 use pc_crash::Steps;
+use pc_edges::Sink;
 use pc_edges::page::Page;
-use pc_edges::{Failed, Sink};
 use pc_flow::Solver;
 use pc_project::Project;
-use pc_reports::put_plan;
+use pc_reports::{Report, put_plan};
 use pc_shell::Status;
 use pc_total::{Best, TimeTerms, best, put_best};
 use std::alloc::{AllocError, Global};
@@ -30,7 +30,7 @@ pub(crate) const WORDS: &[u8] = b"optimum";
 pub(crate) fn answer<O: Sink>(alloc: Global, project: &Project, out: &mut O) -> Status
     ensures { Answers (IsReply Optimum project.now) (side O.taken O.faults out.old out.new) result }
 {
-    deliver_paged(alloc, optimum_of(alloc, project), project, out)
+    deliver(alloc, optimum_of(alloc, project), project, out)
 }
 
 /// A project's optimum, with a schedule for its length.
@@ -40,21 +40,15 @@ struct OptimumAnswer {
     schedule: PrintedSchedule,
 }
 
-impl Paged for OptimumAnswer {
+impl Report for OptimumAnswer {
     ghost IsFor = { λ answer project. IsOptimumWith (priced_in project) project.time_terms answer.best
         answer.schedule };
 
     ghost text = { λ answer project. optimum_text project answer.best answer.schedule };
 
-    fn write_on<O: Sink>(
-        &self,
-        page: &mut Page,
-        project: &Project,
-        out: &mut O,
-    ) -> Result<(), Failed> {
-        put_best(page, out, &project.code(), &self.best);
-        put_plan(page, out, &self.schedule.with_codes(project));
-        page.finish(out)
+    fn put_on<O: Sink>(&self, page: &mut Page, sink: &mut O, project: &Project) {
+        put_best(page, sink, &project.code(), &self.best);
+        put_plan(page, sink, &self.schedule.with_codes(project));
     }
 }
 

@@ -10,13 +10,14 @@ ghost use Rattle.pert_cli.specs.inside.Point.{HasNoSchedule};
 ghost use Rattle.pc_shell.specs.Sides.{side};
 ghost use Rattle.pert_cli.specs.declared.forms.Form.TheVariants.{Outlook};
 
-use crate::answer::{Answer, hand};
 use crate::cheapest::{NoSchedule, cheapest_priced};
+use crate::deliver::deliver_built;
 use crate::printed::PrintedSchedule;
 use crate::solving::priced_net;
-use pc_edges::{Failed, Sink};
+use pc_edges::Sink;
+use pc_edges::page::Page;
 use pc_project::Project;
-use pc_reports::OutlookReport;
+use pc_reports::{OutlookReport, Report};
 use pc_shell::{Status, refuse};
 use std::alloc::Global;
 
@@ -35,7 +36,7 @@ pub(crate) fn answer<O: Sink, E: Sink>(
         (side E.taken E.faults err.old err.new) result }
 {
     match outlook_for(alloc, project, limit) {
-        Ok(answer) => hand(answer, project, out),
+        Ok(answer) => deliver_built(alloc, &answer, project, out),
         Err(NoSchedule::Outside(fault)) => refuse(alloc, &fault, err),
         Err(NoSchedule::OutOfMemory) => Status::OutOfMemory,
     }
@@ -48,15 +49,15 @@ struct OutlookAnswer {
     report: OutlookReport,
 }
 
-impl Answer for OutlookAnswer {
+impl Report for OutlookAnswer {
     ghost IsFor = { λ answer project. IsCheapest (priced_in project) answer.schedule
         × IsOutlookFor project answer.report };
 
     ghost text = { λ answer project. printed_text project answer.schedule ++ outlook_text project answer.report };
 
-    fn write_to<O: Sink>(&mut self, project: &Project, out: &mut O) -> Result<(), Failed> {
-        let schedule = self.schedule.with_codes(project);
-        self.report.write_after(&schedule, project, out)
+    fn put_on<O: Sink>(&self, page: &mut Page, sink: &mut O, project: &Project) {
+        self.schedule.put_on(page, sink, project);
+        self.report.put_on(page, sink, project);
     }
 }
 

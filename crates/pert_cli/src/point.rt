@@ -4,7 +4,7 @@ ghost use Rattle.pert_cli.specs.inside.Handing.{Replies};
 ghost use Rattle.pert_cli.specs.declared.forms.Form.TheVariants.{Point};
 
 use crate::cheapest::{NoSchedule, cheapest_schedule};
-use crate::paged::hand_paged;
+use crate::deliver::deliver_built;
 use pc_edges::Sink;
 use pc_project::Project;
 use pc_shell::{Status, refuse};
@@ -25,7 +25,7 @@ pub(crate) fn answer<O: Sink, E: Sink>(
         (side E.taken E.faults err.old err.new) result }
 {
     match cheapest_schedule(alloc, project, limit) {
-        Ok(schedule) => hand_paged(alloc, &schedule, project, out),
+        Ok(schedule) => deliver_built(alloc, &schedule, project, out),
         Err(NoSchedule::Outside(fault)) => refuse(alloc, &fault, err),
         Err(NoSchedule::OutOfMemory) => Status::OutOfMemory,
     }

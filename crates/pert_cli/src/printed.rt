@@ -6,11 +6,10 @@ ghost use Rattle.pc_reports.specs.inside.Schedule.{plan_of, text_of, IsWhole};
 ghost use Rattle.pc_shell.specs.Priced.{priced_in};
 ghost use Rattle.pert_cli.specs.Normal.{printed_text};
 
-use crate::paged::Paged;
+use pc_edges::Sink;
 use pc_edges::page::Page;
-use pc_edges::{Failed, Sink};
 use pc_project::Project;
-use pc_reports::{Schedule, write_schedule_on};
+use pc_reports::{Report, Schedule, put_schedule};
 use std::marker::Model;
 
 /// A schedule of a project: its length in units, its cost, a time for each event and a duration for each activity, in
@@ -63,17 +62,12 @@ impl PrintedSchedule {
     }
 }
 
-impl Paged for PrintedSchedule {
+impl Report for PrintedSchedule {
     ghost IsFor = { λ printed project. HasPlaces (priced_in project) printed.times printed.durations };
 
     ghost text = { λ printed project. printed_text project printed };
 
-    fn write_on<O: Sink>(
-        &self,
-        page: &mut Page,
-        project: &Project,
-        out: &mut O,
-    ) -> Result<(), Failed> {
-        write_schedule_on(page, out, &self.with_codes(project))
+    fn put_on<O: Sink>(&self, page: &mut Page, sink: &mut O, project: &Project) {
+        put_schedule(page, sink, &self.with_codes(project));
     }
 }

@@ -1,13 +1,11 @@
 //! `times`: the times of the events, and the critical path.
-ghost use Rattle.pc_reports.specs.Times.{IsTimes};
-ghost use Rattle.pc_reports.specs.TimesText.{times_text};
 ghost use Rattle.pert_cli.specs.Handing.{IsReply};
 ghost use Rattle.pert_cli.specs.inside.Handing.{Answers};
 ghost use Rattle.pc_shell.specs.Sides.{side};
 ghost use Rattle.pert_cli.specs.declared.forms.Form.TheVariants.{Times};
 
-use crate::answer::{Answer, deliver};
-use pc_edges::{Failed, Sink};
+use crate::deliver::deliver;
+use pc_edges::Sink;
 use pc_project::Project;
 use pc_reports::TimesReport;
 use pc_shell::Status;
@@ -20,15 +18,5 @@ pub(crate) const WORDS: &[u8] = b"times";
 pub(crate) fn answer<O: Sink>(alloc: Global, project: &Project, out: &mut O) -> Status
     ensures { Answers (IsReply Times project.now) (side O.taken O.faults out.old out.new) result }
 {
-    deliver(TimesReport::build(alloc, project), project, out)
-}
-
-impl Answer for TimesReport {
-    ghost IsFor = { λ report project. IsTimes project report };
-
-    ghost text = { λ report project. times_text project report };
-
-    fn write_to<O: Sink>(&mut self, project: &Project, out: &mut O) -> Result<(), Failed> {
-        self.write(project, out)
-    }
+    deliver(alloc, TimesReport::build(alloc, project), project, out)
 }

@@ -1,13 +1,11 @@
 //! `value`: the forecast, and what the work is worth.
-ghost use Rattle.pc_reports.specs.Earned.{IsEarned};
-ghost use Rattle.pc_reports.specs.ValueText.{value_text};
 ghost use Rattle.pert_cli.specs.Handing.{IsReply};
 ghost use Rattle.pert_cli.specs.inside.Handing.{Answers};
 ghost use Rattle.pc_shell.specs.Sides.{side};
 ghost use Rattle.pert_cli.specs.declared.forms.Form.TheVariants.{Value};
 
-use crate::answer::{Answer, deliver};
-use pc_edges::{Failed, Sink};
+use crate::deliver::deliver;
+use pc_edges::Sink;
 use pc_project::Project;
 use pc_reports::ValueReport;
 use pc_shell::Status;
@@ -20,15 +18,5 @@ pub(crate) const WORDS: &[u8] = b"value";
 pub(crate) fn answer<O: Sink>(alloc: Global, project: &Project, out: &mut O) -> Status
     ensures { Answers (IsReply Value project.now) (side O.taken O.faults out.old out.new) result }
 {
-    deliver(ValueReport::build(alloc, project), project, out)
-}
-
-impl Answer for ValueReport {
-    ghost IsFor = { λ report project. IsEarned project report };
-
-    ghost text = { λ report project. value_text project report };
-
-    fn write_to<O: Sink>(&mut self, project: &Project, out: &mut O) -> Result<(), Failed> {
-        self.write(project, out)
-    }
+    deliver(alloc, ValueReport::build(alloc, project), project, out)
 }

@@ -1,5 +1,5 @@
--- The times that the parts of `Times` hold.
-use Rattle.pc_reports.specs.declared.times.Times.TheInside.{Inside}
+-- The times that the parts of a report of times hold.
+use Rattle.pc_reports.specs.declared.times_report.TimesReport.TheInside.{Inside}
 use Rattle.pc_reports.specs.Times.{Times}
 use Rattle.pc_reports.specs.inside.Times.{AreSmall}
 

@@ -10,5 +10,5 @@ pub returns : goal.returns
 returns g c =
     let o = g.O.Sink in
     let project = c.args.project.now in
-    Answers-weaker (λ (text : List ℕ). text ≡ check_text project) (IsReply Check project) (side o.taken o.faults c.args.out.now c.hand_paged.new.out) c.hand_paged.result
-    (λ text same. record { right = same; fits = λ fault denied. denied }) c.hand_paged.ensures
+    Answers-weaker (λ (text : List ℕ). text ≡ check_text project) (IsReply Check project) (side o.taken o.faults c.args.out.now c.deliver_built.new.out) c.deliver_built.result
+    (λ text same. record { right = same; fits = λ fault denied. denied }) c.deliver_built.ensures

@@ -14,9 +14,9 @@ returns-in-Ok g c =
     let project = c.args.project.now in
     let loading = c.in-Ok.loading in
     answers
-    (Answers-weaker (λ (text : List ℕ). text ≡ load_text project loading) (IsReply (Load c.args.days) project) (side g.O.Sink.taken g.O.Sink.faults c.args.out.now c.hand_paged.new.out)
-    c.hand_paged.result
-    (λ text same. load_reply project c.args.days loading text c.in-Ok.ensures.loading same) c.hand_paged.ensures)
+    (Answers-weaker (λ (text : List ℕ). text ≡ load_text project loading) (IsReply (Load c.args.days) project) (side g.O.Sink.taken g.O.Sink.faults c.args.out.now c.deliver_built.new.out)
+    c.deliver_built.result
+    (λ text same. load_reply project c.args.days loading text c.in-Ok.ensures.loading same) c.deliver_built.ensures)
     refl
 
 pub returns-in-Err-TooMany : goal.returns-in-Err-TooMany

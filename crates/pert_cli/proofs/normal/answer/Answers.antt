@@ -14,12 +14,12 @@ returns g c =
     let project = c.args.project.now in
     of_built c.normal_schedule.result (IsNormalSchedule project)
     (printed_text project) (IsReply Normal project)
-    (side o.taken o.faults c.args.out.now c.deliver_paged.new.out) c.deliver_paged.result
+    (side o.taken o.faults c.args.out.now c.deliver.new.out) c.deliver.result
     (λ printed is. record { right = record { printed = printed; right = is; is = refl }; fits = λ fault denied. denied })
-    c.normal_schedule.ensures c.deliver_paged.ensures.built c.deliver_paged.ensures.none
+    c.normal_schedule.ensures c.deliver.ensures.built c.deliver.ensures.none
 
-pub deliver_paged-requires : goal.deliver_paged-requires
-deliver_paged-requires g c =
+pub deliver-requires : goal.deliver-requires
+deliver-requires g c =
     let project = c.args.project.now in
     ForOk-of c.normal_schedule.result (IsNormalSchedule project) (λ printed. HasPlaces (priced_in project) printed.times printed.durations)
     (λ printed is. record { events = is.time_each; activities = is.duration_each }) c.normal_schedule.ensures

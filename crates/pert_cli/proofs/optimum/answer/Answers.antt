@@ -12,6 +12,6 @@ returns g c =
     let o = g.O.Sink in
     let project = c.args.project.now in
     of_built c.optimum_of.result (λ answer. IsOptimumWith (priced_in project) project.time_terms answer.best answer.schedule) (λ answer. optimum_text project answer.best answer.schedule)
-    (IsReply Optimum project) (side o.taken o.faults c.args.out.now c.deliver_paged.new.out) c.deliver_paged.result
+    (IsReply Optimum project) (side o.taken o.faults c.args.out.now c.deliver.new.out) c.deliver.result
     (λ answer is. record { right = record { best = answer.best; printed = answer.schedule; right = is; is = refl }; fits = λ fault denied. denied })
-    c.optimum_of.ensures c.deliver_paged.ensures.built c.deliver_paged.ensures.none
+    c.optimum_of.ensures c.deliver.ensures.built c.deliver.ensures.none

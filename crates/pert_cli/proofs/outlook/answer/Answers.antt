@@ -16,8 +16,8 @@ returns-in-Ok g c =
     let has = c.in-Ok.ensures in
     answers
     (Answers-weaker (λ (text : List ℕ). text ≡ printed_text project answer.schedule ++ outlook_text project answer.report)
-    (IsReply (Outlook c.args.limit) project) (side g.O.Sink.taken g.O.Sink.faults c.args.out.now c.hand.new.out) c.hand.result
-    (λ text same. outlook_reply project c.args.limit answer.schedule answer.report text has.cheapest has.outlook has.top same) c.hand.ensures)
+    (IsReply (Outlook c.args.limit) project) (side g.O.Sink.taken g.O.Sink.faults c.args.out.now c.deliver_built.new.out) c.deliver_built.result
+    (λ text same. outlook_reply project c.args.limit answer.schedule answer.report text has.cheapest has.outlook has.top same) c.deliver_built.ensures)
     refl
 
 pub returns-in-Err-Outside : goal.returns-in-Err-Outside

@@ -14,8 +14,8 @@ returns-in-Ok g c =
     let schedule = c.in-Ok.schedule in
     answers
     (Answers-weaker (λ (text : List ℕ). text ≡ printed_text project schedule) (IsReply (Point c.args.limit) project)
-    (side g.O.Sink.taken g.O.Sink.faults c.args.out.now c.hand_paged.new.out) c.hand_paged.result
-    (λ text same. point_reply project c.args.limit schedule text c.in-Ok.ensures.cheapest same) c.hand_paged.ensures)
+    (side g.O.Sink.taken g.O.Sink.faults c.args.out.now c.deliver_built.new.out) c.deliver_built.result
+    (λ text same. point_reply project c.args.limit schedule text c.in-Ok.ensures.cheapest same) c.deliver_built.ensures)
     refl
 
 pub returns-in-Err-Outside : goal.returns-in-Err-Outside
@@ -23,7 +23,7 @@ returns-in-Err-Outside g c =
     let why = rw c.in-Err-Outside.field-0-is at c.in-Err-Outside.ensures.none in
     Replies-denial (Point c.args.limit) c.args.project.now _ _ _ _ _ c.in-Err-Outside.fault-is why.1 c.refuse.ensures refl
 
-pub hand_paged-requires : goal.hand_paged-requires
-hand_paged-requires g c =
+pub deliver_built-requires : goal.deliver_built-requires
+deliver_built-requires g c =
     let cheapest = c.in-Ok.ensures.cheapest.cheapest in
     record { events = cheapest.time_each; activities = cheapest.duration_each }

@@ -1,8 +1,0 @@
-use Rattle.pc_reports.proofs.earned.Earned.build.Goals as goal
-
-pub returns : goal.returns
-returns c = record {
-  forecasts = c.in_ok-build.ensures;
-  outline = rw (← c.tree.ensures.tree) c.in_ok-outline_of.ensures.outline;
-  worth = c.in_ok-worth_of.ensures;
-}

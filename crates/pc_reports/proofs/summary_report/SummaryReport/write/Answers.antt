@@ -1,8 +1,0 @@
-use Rattle.std.proofs.Common.{ap}
-use Rattle.pc_edges.proofs.lemmas.page.PageLaws.{Adds-as}
-use Rattle.pc_reports.specs.SummaryText.{summary_text}
-use Rattle.pc_reports.proofs.summary_report.SummaryReport.write.Goals as goal
-
-pub returns-clause-text : goal.returns-clause-text
-returns-clause-text g c =
-    c.finish.ensures.text _ _ c.self.invariant (Adds-as _ (ap (summary_text c.args.project.now) c.self.view_is) c.put_summary.ensures)
