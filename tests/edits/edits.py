@@ -147,6 +147,7 @@ def crates_below() -> dict[str, list[str]]:
     below: dict[str, set[str]] = {}
 
     def all_below(crate: str) -> set[str]:
+        """All crates below one, found once."""
         if crate not in below:
             found: set[str] = set()
             for used in uses[crate]:

@@ -72,6 +72,7 @@ class Segment:
 
     @property
     def fall(self) -> int:
+        """By how much the segment is shortened."""
         return self.upper - self.lower
 
     def lines(self) -> list[list[str]]:
@@ -141,15 +142,18 @@ class Certificate:
 
 
 def repeat_segment(certificate: Certificate, chance: Random) -> None:
+    """Inserts a segment again, at any place."""
     again = copy.deepcopy(chance.choice(certificate.segments))
     certificate.segments.insert(chance.randint(0, len(certificate.segments)), again)
 
 
 def drop_segment(certificate: Certificate, chance: Random) -> None:
+    """Leaves out a segment."""
     del certificate.segments[chance.randrange(len(certificate.segments))]
 
 
 def swap_segments(certificate: Certificate, chance: Random) -> None:
+    """Exchanges two segments."""
     segments = certificate.segments
     i, k = chance.randrange(len(segments)), chance.randrange(len(segments))
     segments[i], segments[k] = segments[k], segments[i]
@@ -250,6 +254,7 @@ def change_rows(certificate: Certificate, chance: Random) -> None:
 
 
 def change_walk(certificate: Certificate, chance: Random) -> None:
+    """Inserts, drops or replaces a step of a walk, or shuffles all."""
     walk = chance.choice([certificate.normal, certificate.crash])
     codes = [words[0] for words in certificate.segments[0].acts] or ["A"]
     at = chance.randint(0, len(walk))
@@ -265,6 +270,7 @@ def change_walk(certificate: Certificate, chance: Random) -> None:
 
 
 def exchange_walks(certificate: Certificate, _: Random) -> None:
+    """Exchanges the two walks."""
     certificate.normal, certificate.crash = certificate.crash, certificate.normal
 
 
@@ -345,7 +351,8 @@ class Draft:
     pieces: list[tuple[int, int]]
 
 
-def _drafted(chance: Random, ends: tuple[int, int], is_fixed: bool) -> Draft:
+def drafted(chance: Random, ends: tuple[int, int], is_fixed: bool) -> Draft:
+    """Returns an activity with these events, drawn at random; a fixed one has one duration."""
     normal = chance.choice([0, 1, 2, 3, 4, 8])
     crash = normal if is_fixed else chance.randint(0, normal)
     slope = chance.choice([0, 1, 2, 5])
@@ -367,7 +374,7 @@ def random_deck(chance: Random) -> bytes:
         begin = chance.randrange(events - 1)
         ends.append((begin, chance.randint(begin + 1, events - 1)))
     is_fixed = chance.random() < 0.2
-    drafts = [_drafted(chance, pair, is_fixed) for pair in ends]
+    drafts = [drafted(chance, pair, is_fixed) for pair in ends]
     lines = [f"PROJECT,N,E0,E{events - 1},2024-01-01,1,,", "WBS,1,,"]
     lines += [f"EVENT,E{event}," for event in range(events)]
     for a, draft in enumerate(drafts):

@@ -1,14 +1,14 @@
-"""Holds the scripts of examples/, tests/ and tools/ to short functions, each with a doc comment."""
+"""Holds all Python outside the companion to short functions, each with a doc comment."""
 
 import ast
-import re
+import subprocess
 from pathlib import Path
 
 import pytest
 
 TOP = Path(__file__).resolve().parents[2]
 SCRIPTS = (TOP / "tools" / "tests" / "scripts").read_text(encoding="utf-8").split()
-MOST = 46
+MOST = 40
 
 
 @pytest.mark.parametrize("name", SCRIPTS)
@@ -26,30 +26,22 @@ def test_functions_are_short_and_say_what_they_do(name: str) -> None:
 
 
 def test_every_script_in_python_is_held() -> None:
-    """Those of the companion and of packages with tests of their own have checks of their own."""
-    others = (
-        "companion/",
-        "tools/reading",
-        "tools/command",
-        "tools/doc_",
-        "tools/prov",
-        "tools/tests/",
-    )
-    left = {"tests/hostile/second", "tests/hostile/tampered.py", "tools/shed-figure"}
-    left |= {"tests/hostile/sessions", "tests/hostile/slow-decks", "tests/speed/run", "tools/try"}
-    left |= {"tests/edits/check", "tests/edits/run", "tests/edits/edits.py", "tools/deck-page"}
-    found = []
-    for folder in ("examples", "tests", "tools"):
-        for path in sorted((TOP / folder).rglob("*")):
-            name = path.relative_to(TOP).as_posix()
-            if path.is_file() and not name.startswith(others) and name not in left | {*SCRIPTS}:
-                if path.suffix == ".py" or first_line(path).endswith("python3"):
-                    found.append(name)
-    assert [it for it in found if not re.search(r"/(out|__pycache__)/", it)] == []
+    """The companion has checks of its own; so have the packages of tools/, which are folders."""
+    packages = [f"{it.parent.relative_to(TOP)}/" for it in TOP.glob("tools/*/__init__.py")]
+    others = ("companion/", "tools/tests/", *packages)
+    found = [it for it in files() if not it.startswith(others) and is_python(TOP / it)]
+    assert sorted(found) == SCRIPTS
 
 
-def first_line(path: Path) -> str:
-    """Returns the first line of a script, and nothing of another file."""
+def files() -> list[str]:
+    """Returns the files of the repository, also those that git does not track yet."""
+    command = ["git", "ls-files", "--cached", "--others", "--exclude-standard"]
+    listed = subprocess.run(command, cwd=TOP, capture_output=True, text=True, check=True).stdout
+    return [it for it in listed.splitlines() if (TOP / it).is_file()]
+
+
+def is_python(path: Path) -> bool:
+    """Returns whether a file is in Python: by its name, or by its first line."""
     with open(path, "rb") as file:
-        start = file.read(40)
-    return start.split(b"\n")[0].decode("ascii", "replace") if start.startswith(b"#!") else ""
+        first = file.readline(200)
+    return path.suffix == ".py" or (first.startswith(b"#!") and b"python" in first)
