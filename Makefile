@@ -46,6 +46,7 @@ out/built: $(SOURCES)
 	@if [ -e $@ ]; then echo "make: $(firstword $?)$(if $(word 2,$?), and $(words $(wordlist 2,$(words $?),$?)) more files are, is) newer than the programs:" \
 		"proving what changed, and building them again"; else echo "make: the programs are not built yet: proving and building them"; fi
 	@rm -f out/built $(PROGRAMS:%=bin/%)
+	@command -v python3 >/dev/null || { echo "make: there is no 'python3' on the path, in which rt and tools/prove are written" >&2; exit 1; }
 	@tools/prove $(PROGRAMS)
 	@mkdir -p bin
 	@for program in $(PROGRAMS); do cp "crates/$$program/out/$$program" "bin/$$program" || exit 1; done
