@@ -31,7 +31,9 @@ from proving.progress import Line, Progress
 EVERY = float(os.environ.get("PROVE_SECONDS", "10"))
 # The memory of one check
 KILOBYTES = 3_000_000
+# What of the log says why a crate is not proved, and the lines of `rt` that never do
 TOLD = re.compile(r"(^|: )error|not-proved|^rt: |: failed|: not run")
+USUAL = re.compile(r"rt: (chose |waiting for |the quick pass above |rt check --fix-imports )")
 
 
 def text_of(path: Path) -> str:
@@ -169,7 +171,8 @@ def prove_and_build(this: Run) -> int:
     log = this.log.relative_to(this.top)
     if not this.prove():
         say(f"make: not proved, so nothing is built; the end of {log} says why:")
-        told = [it for it in text_of(this.log).split("\n") if TOLD.search(it)]
+        lines = text_of(this.log).split("\n")
+        told = [it for it in lines if TOLD.search(it) and not USUAL.match(it)]
         say("\n".join(told[-20:]))
         return 1
     print(this.outcome(), flush=True)

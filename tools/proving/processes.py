@@ -17,8 +17,12 @@ def parent_and_words(number: int) -> tuple[int, list[str]] | None:
 
 
 def crate_in(words: list[str]) -> str | None:
-    """Returns the crate that the command of a process checks or builds, if it is the prover."""
-    if os.path.basename(words[0]) != "rattle" or "--crate-name" not in words[:-1]:
+    """Returns the crate that the command of a process checks or builds, if it is the prover.
+
+    A pass with `--only` proves nothing: `rt` first reads the sources of the programs in this way.
+    """
+    is_prover = os.path.basename(words[0]) == "rattle" and "--only" not in words
+    if not is_prover or "--crate-name" not in words[:-1]:
         return None
     return words[words.index("--crate-name") + 1]
 

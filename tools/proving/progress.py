@@ -60,6 +60,8 @@ class Progress:
         under_way = {it: now - self.begun.get(it, now) for it in running if it in self.wanted}
         under_way = {it: since for it, since in under_way.items() if it not in self.ended}
         parts = [f"{len(self.ended)} of {len(self.wanted)} crates proved"]
+        if not self.ended and not self.begun:
+            parts.append("reading the sources")
         if under_way:
             parts.append(f"under way: {', '.join(sorted(under_way))}")
         if len(self.ended) < len(self.wanted):

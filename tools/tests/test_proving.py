@@ -11,7 +11,7 @@ from pathlib import Path
 import pytest
 
 from proving.estimate import Estimate, in_words, minutes_of, uses_of, with_those_below
-from proving.main import places
+from proving.main import USUAL, places
 from proving.processes import crate_in, crates_below
 from proving.progress import Line, Progress
 
@@ -136,6 +136,80 @@ def test_only_the_summary_says_that_a_crate_is_proved() -> None:
     assert progress.proved_now == set()
 
 
+# What the kit printed of 20 crates on four busy processors, shortened. Each line begins with the
+# second at which it was printed; `begins CRATE` is when a process that proves it was first seen.
+# Before them is what `rt all check` prints of its quick pass over the sources of a program.
+LOG = [
+    (int(line.split(" ")[0]), line.partition(" ")[2])
+    for line in (Path(__file__).with_name("check.log")).read_text(encoding="utf-8").splitlines()
+]
+
+
+def replayed(until: int) -> tuple[Progress, Estimate, list[str]]:
+    """Returns how far the run of the log is after so many seconds, and what is under way."""
+    uses = uses_of((TOP / "crates.txt").read_text(encoding="utf-8"))
+    wanted = with_those_below(uses, ("pert", "pert_check", "pert_whatif"))
+    minutes = minutes_of((TOP / "docs" / "gate.md").read_text(encoding="utf-8"))
+    progress = Progress(wanted)
+    running: list[str] = []
+    for second, said in LOG:
+        if second > until:
+            break
+        if said.startswith("begins "):
+            running.append(said.split(" ")[1])
+            progress.see(running, second)
+            continue
+        progress.read(said, second)
+        running = [it for it in running if it not in progress.ended]
+    return progress, Estimate({it: uses[it] for it in wanted}, minutes, 4), running
+
+
+@pytest.mark.parametrize(
+    "second, said",
+    [
+        (100, "5 of {} crates proved; under way: pc_faults, pc_laws, pc_net, pc_wbs"),
+        (420, "12 of {} crates proved; under way: pc_accounts, pc_cards, pc_crash"),
+        (1300, "19 of {} crates proved; under way: pc_rollup"),
+    ],
+)
+def test_a_log_of_the_kit_is_read(second: int, said: str) -> None:
+    progress, estimate_of_it, running = replayed(second)
+    line = progress.line(estimate_of_it, running, second)
+    front = re.escape(said.format(len(progress.wanted)))
+    assert re.fullmatch(front + r"; about \d+ minutes left", line), line
+    assert 600 <= estimate_of_it.seconds_left(progress.ended, {}, progress.took) <= 3600
+
+
+def test_what_a_log_of_the_kit_says_was_proved() -> None:
+    progress, _, running = replayed(9999)
+    assert len(progress.ended) == 20 and not running
+    # (this one was kept from another clone)
+    assert progress.ended - progress.proved_now == {"pc_model"}
+    assert {it: progress.took[it] for it in ("pc_days", "pc_cert", "pc_rollup")} == {
+        "pc_days": 71,
+        "pc_cert": 466,
+        "pc_rollup": 524,
+    }
+    assert not progress.is_proved()
+
+
+def test_the_quick_pass_is_no_proof() -> None:
+    progress, estimate_of_it, _ = replayed(-1)
+    for said in (said for second, said in LOG if second == 0 and not said.startswith("begins ")):
+        progress.read(said, 20.0)
+    assert progress.line(estimate_of_it, [], 20.0).startswith(
+        f"0 of {len(progress.wanted)} crates proved; reading the sources; about "
+    )
+    words = ["/kit/rattle", "check", "--crate-name", "pert", "src/main.rt", "--only", "", ""]
+    assert crate_in(words) is None
+
+
+def test_lines_of_the_kit_that_are_no_cause_are_left_out() -> None:
+    told = [said for _, said in LOG if said.startswith("rt: ")]
+    assert len(told) > 10 and all(USUAL.match(it) for it in told)
+    assert not USUAL.match("rt: the check was killed, most likely for memory")
+
+
 def test_the_prover_is_known_by_its_words() -> None:
     assert crate_in(["/kit/rattle", "check", "--crate-name", "pc_low", ""]) == "pc_low"
     assert crate_in(["/kit/rattle", "fmt", "--crate-name"]) is None
@@ -232,13 +306,15 @@ def test_one_run_proves_all_programs_and_builds_each(room: Path) -> None:
     lines = done.stdout.splitlines()
     assert lines[-1] == "proved all 5 crates"
     said = [
-        re.fullmatch(r"(\d) of 5 crates proved(; under way: \w+)?(; .* left)?", it)
+        re.fullmatch(
+            r"(\d) of 5 crates proved(; reading the sources)?(; under way: \w+)?(; .* left)?", it
+        )
         for it in lines[:-1]
     ]
     assert len(said) >= 8 and all(said)
     counts = [int(it[1]) for it in said if it]
     assert counts == sorted(counts) and counts[0] == 0 and counts[-1] >= 3
-    assert {it[2] for it in said if it} >= {"; under way: pc_low", "; under way: pert"}
+    assert {it[3] for it in said if it} >= {"; under way: pc_low", "; under way: pert"}
 
 
 def test_what_is_kept_is_not_proved_again(room: Path) -> None:
