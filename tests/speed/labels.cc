@@ -14,11 +14,12 @@
 //   labels deck FILE      a deck without quotes, of the cards PROJECT, EVENT, ACT and PIECE; prints the points that `pert curve` prints
 //
 // Built with -DLOOKS it prints to standard error how often it looked at an activity. Built with -DWITHOUT=3 it does without idea 3, and so
-// on; the curve is the same.
+// on; built with -DCOLUMNS it has what it keeps of events in columns, as the program does, and not in rows. The curve is the same.
 #include <cstdint>
 #include <cstdlib>
 #include <cstring>
 #include <iostream>
+#include <memory>
 #include <string>
 #include <vector>
 
@@ -66,10 +67,32 @@ struct Link {
 
 // An event's time, with all falls added where the event has no label, and the flow that enters; its place in the queue counted from 1, or 0 if
 // it has no label; and the step that gave the label: its activity, the event before it, and whether it goes against the activity.
+#ifndef COLUMNS
 struct Event {
     u64 time, inflow;
     u32 rank, step, near, against;
 };
+using Events = std::vector<Event>;
+#else
+struct Event {
+    u64 &time, &inflow;
+    u32 &rank, &step, &near, &against;
+};
+
+struct Events {
+    u32 count = 0;
+    std::unique_ptr<u64[]> time, inflow;
+    std::unique_ptr<u32[]> rank, step, near, against;
+
+    u32 size() const { return count; }
+    void resize(u32 to) {
+        count = to;
+        for (auto column : {&time, &inflow}) *column = std::make_unique<u64[]>(to);
+        for (auto column : {&rank, &step, &near, &against}) *column = std::make_unique<u32[]>(to);
+    }
+    Event operator[](u32 e) const { return {time[e], inflow[e], rank[e], step[e], near[e], against[e]}; }
+};
+#endif
 
 // The units of flow on arcs of one length: from `below` up to `above`, without `above`.
 struct Piece {
@@ -80,7 +103,7 @@ struct Labels {
     u32 start = 0, end = 0;
     std::vector<Activity> activities;
     std::vector<Flow> flows;
-    std::vector<Event> events;
+    Events events;
     std::vector<Knee> knees;
     // The activities that leave event e are out[outs[e]] to out[outs[e + 1] - 1], and those that enter it the same.
     std::vector<u32> outs, ins, order;
@@ -176,7 +199,7 @@ struct Labels {
     }
 
     void enter(u32 e, u32 i, u32 near, bool against) {
-        Event &event = events[e];
+        auto &&event = events[e];
         event.time -= fallen;
         queue[count++] = e;
         event.rank = count;
@@ -263,7 +286,7 @@ struct Labels {
         }
         steps = 0;
         for (u32 e = end; events[e].rank > 1; e = events[e].near) {
-            Event &event = events[e];
+            auto &&event = events[e];
             Flow &flow = flows[event.step];
             const bool used_up = capacity[steps++] == by;
             if (event.against) {
@@ -293,7 +316,7 @@ struct Labels {
         u32 kept = first, gone = 0, seen = head;
         for (u32 i = first; i < count; ++i) {
             const u32 e = queue[i];
-            Event &event = events[e];
+            auto &&event = events[e];
             if (event.rank > 0 && events[event.near].rank > 0) {
                 queue[kept++] = e;
                 event.rank = kept;
