@@ -173,7 +173,9 @@ class _Maker:
         self.pieces: dict[str, list[PieceCard]] = {}
         for piece in deck.pieces:
             self.pieces.setdefault(piece.activity, []).append(piece)
-        self.owner = {part: task for task in side.tasks for part in task.parts}
+        self.owner: dict[str, SideTask] = {}
+        for task in side.tasks:
+            self.owner.update(dict.fromkeys(task.parts, task))
         self.notes: list[str] = []
 
     def dates(self, letter: str) -> dict[str, date]:

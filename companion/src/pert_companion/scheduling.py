@@ -143,12 +143,14 @@ def schedule_of(
 
 def with_durations(network: Deck, durations: Mapping[str, int]) -> Deck:
     """Returns the network with these durations as the only estimates, and no directed end."""
-    activities = tuple(
-        replace(card, optimistic=days, likely=days, pessimistic=days)
-        for card, days in ((card, durations[card.code]) for card in network.activities)
-    )
+    activities = tuple(_lasting(card, durations[card.code]) for card in network.activities)
     project = replace(network.project, directed=None, unit_days=1)
     return replace(network, project=project, activities=activities)
+
+
+def _lasting(card: ActivityCard, units: int) -> ActivityCard:
+    """Returns a card with one duration as its three estimates."""
+    return replace(card, optimistic=units, likely=units, pessimistic=units)
 
 
 def span(

@@ -100,7 +100,16 @@ DATES = ("start", "finish", "actstart", "actfinish", "condate", "deadline") + (
     "basefinish",
 )
 
-_FIELD_OF = {heading: name for name, headings in HEADINGS.items() for heading in headings}
+
+def fields_by_word(words_of: Mapping[str, Sequence[str]]) -> dict[str, str]:
+    """Returns the field that each word means, from the words of each field."""
+    fields: dict[str, str] = {}
+    for name, words in words_of.items():
+        fields.update(dict.fromkeys(words, name))
+    return fields
+
+
+_FIELD_OF = fields_by_word(HEADINGS)
 
 
 @dataclass(frozen=True)

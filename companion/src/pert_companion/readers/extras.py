@@ -6,7 +6,7 @@ from decimal import Decimal
 
 from pert_companion.calendar import CalendarException
 from pert_companion.losses import Loss, LossKind
-from pert_companion.readers.columns import heading_of
+from pert_companion.readers.columns import fields_by_word, heading_of
 from pert_companion.readers.grid import GridRow, Rate, clip
 from pert_companion.readers.values import (
     Cell,
@@ -37,7 +37,7 @@ _RATE_HEADINGS = {
     "type": ("type", "art"),
     "unit": ("material label", "material", "materialbezeichnung", "unit", "einheit"),
 }
-_RATE_FIELD_OF = {heading: name for name, words in _RATE_HEADINGS.items() for heading in words}
+_RATE_FIELD_OF = fields_by_word(_RATE_HEADINGS)
 _MATERIALS = frozenset(("material", "materialien"))
 
 

@@ -3,7 +3,7 @@
 from collections.abc import Sequence
 
 from pert_companion.losses import Loss, LossKind
-from pert_companion.readers.columns import Head
+from pert_companion.readers.columns import Head, fields_by_word
 from pert_companion.readers.grid import GridRow, clip
 from pert_companion.readers.outline import Row
 from pert_companion.readers.values import SPACES, Cell, text_of
@@ -17,7 +17,7 @@ LABELS = {
     + ("statusdatum", "datenstand"),
 }
 """What the rows above the headings may be labelled with."""
-_LABEL_OF = {word: name for name, words in LABELS.items() for word in words}
+_LABEL_OF = fields_by_word(LABELS)
 _MOST_LABEL = 300
 
 

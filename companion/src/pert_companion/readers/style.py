@@ -1,7 +1,7 @@
 """Finds how a list writes its values: the decimal mark, the order of dates, shares for percent."""
 
 import re
-from collections.abc import Iterable, Sequence
+from collections.abc import Iterable, Iterator, Sequence
 from dataclasses import dataclass, replace
 from datetime import date
 from decimal import Decimal
@@ -120,10 +120,17 @@ def _fits(year: int, month: int, day: int, weekday: int | None) -> bool:
     return weekday is None or found.weekday() == weekday
 
 
+def _dates_of(rows: Sequence[Row], head: Head) -> Iterator[Cell]:
+    """Yields the cells of the columns of dates, column by column."""
+    for name in DATES:
+        if name in head.columns:
+            for row in rows:
+                yield row.cell(name)
+
+
 def _find_order(rows: Sequence[Row], head: Head, file: str) -> tuple[bool, str | None]:
     """Returns whether dates such as 03/04/2026 have the day first, and a note if it was assumed."""
-    names = [name for name in DATES if name in head.columns]
-    day_first, month_first, open_date = _votes(row.cell(name) for name in names for row in rows)
+    day_first, month_first, open_date = _votes(_dates_of(rows, head))
     if day_first and month_first:
         raise InputError(
             f"{file}: in {day_first} the day is first and in {month_first} the month: "
