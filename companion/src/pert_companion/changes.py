@@ -16,7 +16,7 @@ from pert_companion.deck import Deck
 from pert_companion.matching import Matching
 from pert_companion.opening import OpenPlan
 from pert_companion.predecessors import RealLink, real_links
-from pert_companion.sidefile import SideTask
+from pert_companion.sidefile import SideFile, SideTask
 from pert_companion.writers.csv_file import days_text
 
 
@@ -191,13 +191,8 @@ class _Facts:
         return None if started is None else task.actual_start or started
 
     def end_day(self, task: SideTask) -> date | None:
-        """Returns the last day of work of a finished task, whose deck date is a morning."""
-        finished = self.finished.get(task.parts[-1])
-        if finished is None or task.actual_finish is not None:
-            return task.actual_finish if finished is not None else None
-        calendar = self.side.calendar
-        morning = datetime(finished.year, finished.month, finished.day)
-        return calendar.end_at(calendar.position(morning)).date()
+        """Returns the last day of work of a finished task, or None."""
+        return finish_day(task, self.side, self.finished)
 
     def resource_text(self, task: SideTask) -> str:
         """Returns what it uses of each resource in all."""
@@ -245,6 +240,20 @@ _TEXTS: dict[ChangeKind, Callable[[_Facts, SideTask], str]] = {
 def status_days(deck: Deck, letter: str) -> dict[str, date]:
     """Returns the dates of the STATUS cards with a letter, by activity."""
     return {card.activity: card.day for card in deck.statuses if card.letter == letter}
+
+
+def finish_day(task: SideTask, side: SideFile, finished: Mapping[str, date]) -> date | None:
+    """Returns the last day of work of a task, whose deck date is a morning; None if unfinished.
+
+    `finished` has the dates of the STATUS cards with an F, by activity.
+    """
+    morning = finished.get(task.parts[-1])
+    if morning is None:
+        return None
+    if task.actual_finish is not None:
+        return task.actual_finish
+    moment = datetime(morning.year, morning.month, morning.day)
+    return side.calendar.end_at(side.calendar.position(moment)).date()
 
 
 def _quantities(deck: Deck) -> dict[str, list[tuple[str, int]]]:

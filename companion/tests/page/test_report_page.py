@@ -367,6 +367,44 @@ def test_a_title_forges_no_figure(browser: Browser, place: Path, name: str) -> N
     assert len(tables[0]) > 50
 
 
+def house_before(place: Path) -> Path:
+    """Returns the deck of the house as of a week earlier, when a charge was less."""
+    text = HOUSE.read_bytes().replace(b"ASOF,2024-03-18", b"ASOF,2024-03-11")
+    (place / "before.csv").write_bytes(text.replace(b"WIN,2024-03-06,1000", b"WIN,2024-03-06,900"))
+    return place / "before.csv"
+
+
+TABLE = """
+(() => {
+    const number = (cell) => cell.textContent.replace(/[+,]/g, "").replace("\u2212", "-");
+    const tables = [...document.querySelectorAll("#changes table")];
+    const table = tables.find((it) => it.caption?.textContent.endsWith("END"));
+    const rows = [...table.tBodies[0].rows].map((row) => [...row.cells]);
+    const heads = [...table.tHead.rows[0].cells, ...rows.map((row) => row[0])];
+    const named = heads.every((cell) => cell.tagName === "TH" && cell.scope !== "");
+    return [named, rows.map((row) => number(row[row.length - 1]))];
+})()
+"""
+
+
+@needs_chromium
+def test_the_bridges_add_up_and_the_page_is_verified(browser: Browser, place: Path) -> None:
+    write_page(deck_at(place, "rest"), place / "bridges.html", previous=house_before(place))
+    page = open_checked(browser, place / "bridges.html")
+    assert page.text("#verdict").startswith("consistent (checked here): certified ")
+    has_heads, days = page.run(TABLE.replace("END", "by task"))
+    assert has_heads and days == ["4", "4"]
+    has_heads, amounts = page.run(TABLE.replace("END", "by account"))
+    assert has_heads
+    then, *moves, total, now = map(int, amounts)
+    assert sum(moves) == total == now - then
+    (place / "verify.html").write_text(build_verify_page(), "utf-8")
+    page = browser.open((place / "verify.html").as_uri())
+    page.choose("#files", [place / "bridges.html"])
+    page.wait("/right|wrong/.test(document.getElementById('verdict').className)")
+    assert page.text("#verdict") == "Consistent (checked here)"
+
+
 def pages_of(page: Page, path: Path, **paper: float) -> int:
     answer = page.call("Page.printToPDF", printBackground=True, **paper)
     path.write_bytes(base64.b64decode(answer["data"]))

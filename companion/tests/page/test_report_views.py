@@ -351,12 +351,20 @@ def test_what_changed_since_the_report_before(tmp_path: Path) -> None:
         ("scope and links", date(2024, 4, 12)),
     ]
     view = changed.changes_view(found.states, book())
-    bridge = next(t for t in view.tables if t.caption.endswith("by account"))
-    rows = {text_of(row.name): [text_of(cell) for cell in row.cells] for row in bridge.rows}
-    assert rows["FND Foundation"] == ["0", "0", "+200", "+200"]
-    assert rows["ELE Electric"] == ["+200", "0", "0", "+200"]
-    assert rows["WIN Windows"] == ["0", "+100", "0", "+100"]
-    assert (rows["Last report"][-1], rows["Now"][-1]) == ("13,720", "14,220")
+    assert rows_of(view, "by task") == [
+        ["Dig, pour, cure FOUND", "14 Mar 2024", "18 Mar 2024", "+4"],
+        ["Walls WALLS", "24 Mar 2024", "29 Mar 2024", "+1"],
+        ["All together", "7 Apr 2024", "12 Apr 2024", "+5"],
+    ]
+    assert rows_of(view, "by account") == [
+        ["Last report", "", "", "", "13,720"],
+        ["FND Foundation", "0", "0", "+200", "+200"],
+        ["ELE Electric", "+200", "0", "0", "+200"],
+        ["WIN Windows", "0", "+100", "0", "+100"],
+        ["All accounts", "+200", "+100", "+200", "+500"],
+        ["Now", "", "", "", "14,220"],
+    ]
+    assert view.order == changed.ORDER
     assert view.notes == (
         "Since the last report, 1 figure of the time before it changed. The last report is shown"
         " as it was reported.",
@@ -364,6 +372,81 @@ def test_what_changed_since_the_report_before(tmp_path: Path) -> None:
     screen = first.first_screen(found, book())
     assert "the report before said 7 Apr 2024" in text_of(screen.sentences[0])
     assert text_of(screen.tiles[2].note) == "as of 11 Mar 2024; 5 days later now"
+
+
+def rows_of(view: changed.Changes, end: str) -> list[list[str]]:
+    """Returns the texts of the table whose caption ends so."""
+    table = next(t for t in view.tables if t.caption.endswith(end))
+    return [[text_of(row.name), *map(text_of, row.cells)] for row in table.rows]
+
+
+def chain(days: int, numbers: range) -> bytes:
+    """Returns a plan of tasks one after another, each with a package and an account of its own."""
+    lines = ["PROJECT,P,S,E,2026-03-02,1,,Chain", "WBS,W,,Chain"]
+    lines += [f"WBS,W{number},W,Package {number}" for number in numbers]
+    for number in numbers:
+        lines.append(f"TASK,T{number},W{number},1,2,3,{days},1,{100 * days},1,Task {number}")
+    lines += [f"AFTER,T{number},T{number - 1}" for number in numbers[1:]]
+    lines += [f"ACCT,A{number},W{number},{100 * days},Account {number}" for number in numbers]
+    return "\n".join([*lines, "END", ""]).encode()
+
+
+def test_ten_rows_of_a_bridge_and_the_others_together(tmp_path: Path) -> None:
+    """A plan without any status, of fourteen tasks of which each lasts a day more."""
+    old = deck_at(tmp_path, chain(2, range(14)), "old")
+    found = gathered_of(deck_at(tmp_path, chain(3, range(14)), "new"), previous=old)
+    assert found.states is not None
+    view = changed.changes_view(found.states, book())
+    tasks, accounts = rows_of(view, "by task"), rows_of(view, "by account")
+    assert [row[-1] for row in tasks] == ["+1"] * 10 + ["+4", "+14"]
+    assert tasks[0] == ["Task 0 T0", "3 Mar 2026", "4 Mar 2026", "+1"]
+    assert tasks[-2][0] == "Other tasks together: 4"
+    assert [row[1] for row in accounts] == ["", *["+100"] * 10, "+400", "+1,400", ""]
+    assert accounts[-3][0] == "Other accounts together: 4"
+    assert (accounts[0][-1], accounts[-2][-1], accounts[-1][-1]) == ("2,800", "+1,400", "4,200")
+
+
+def test_tasks_and_accounts_that_come_and_go_are_named(tmp_path: Path) -> None:
+    old = deck_at(tmp_path, chain(2, range(3)), "old")
+    found = gathered_of(deck_at(tmp_path, chain(2, range(1, 4)), "new"), previous=old)
+    assert found.states is not None
+    view = changed.changes_view(found.states, book())
+    assert rows_of(view, "by task") == [
+        ["Task 0 T0 (dropped)", "3 Mar 2026", "\u2013", "\u22122"],
+        ["Task 3 T3 (new)", "\u2013", "7 Mar 2026", "+2"],
+        ["All together", "7 Mar 2026", "7 Mar 2026", "0"],
+    ]
+    assert [row[0] for row in rows_of(view, "by account")] == [
+        "Last report",
+        "A0 Account 0 (dropped)",
+        "A3 Account 3 (new)",
+        "All accounts",
+        "Now",
+    ]
+
+
+def test_a_report_like_the_last_one_has_no_rows_by_task(tmp_path: Path) -> None:
+    deck = deck_at(tmp_path, chain(2, range(3)))
+    found = gathered_of(deck, previous=deck)
+    assert found.states is not None
+    view = changed.changes_view(found.states, book())
+    assert (len(view.tables), view.order) == (3, "")
+    assert rows_of(view, "by account")[1:-1] == [["All accounts", "0", "0", "0", "0"]]
+
+
+def test_links_and_finished_tasks_in_the_bridge_by_task(tmp_path: Path) -> None:
+    """T0 ended a day early, and T2 no longer waits for T1."""
+    old = deck_at(tmp_path, chain(3, range(3)), "old")
+    text = chain(3, range(3)).replace(b"AFTER,T2,T1", b"AFTER,T2,T0")
+    text = text.replace(b"ACCT,A0", b"STATUS,T0,S,2026-03-02\nSTATUS,T0,F,2026-03-04\nACCT,A0")
+    text = text.replace(b"WBS,W,,", b"ASOF,2026-03-04\nWBS,W,,")
+    found = gathered_of(deck_at(tmp_path, text, "new"), previous=old)
+    assert found.states is not None
+    assert rows_of(changed.changes_view(found.states, book()), "by task") == [
+        ["Task 0 T0", "4 Mar 2026", "3 Mar 2026, finished", "\u22121"],
+        ["Links, waits and calendar", "", "", "\u22123"],
+        ["All together", "10 Mar 2026", "6 Mar 2026", "\u22124"],
+    ]
 
 
 def test_a_length_outside_the_curve_is_refused(tmp_path: Path) -> None:

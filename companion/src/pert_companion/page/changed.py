@@ -1,9 +1,9 @@
 """What changed since the report before: states side by side, bridges, milestones, the past.
 
-The bridge of the end goes from the older forecast to the newer one in steps, each of them a deck of
-the work that is left: the older plan with what is now said of the past, with the progress since,
-with today's durations, and today's plan. Another order of steps would divide the same move
-otherwise. The bridge of the estimate is exact for each account.
+The bridge of the end by cause goes from the older forecast to the newer one in steps, each of them
+a deck of the work that is left: the older plan with what is now said of the past, with the progress
+since, with today's durations, and today's plan. Another order of steps would divide the same move
+otherwise.
 """
 
 from collections.abc import Iterator, Mapping
@@ -14,11 +14,20 @@ from typing import TypeVar
 from pert_companion.cards import ActivityCard, StatusCard, TaskCard
 from pert_companion.compare import Comparison, History, ProjectState, compare
 from pert_companion.deck import Deck
-from pert_companion.errors import CompanionError
+from pert_companion.end_moves import EndMoves, EndState, end_moves
+from pert_companion.errors import CompanionError, InputError
 from pert_companion.matching import Matching, match_tasks
 from pert_companion.opening import OpenPlan
+from pert_companion.page.bridges import (
+    EndStep,
+    StateMoney,
+    end_table,
+    estimate_table,
+    task_name,
+    task_table,
+)
 from pert_companion.page.clock import Clock
-from pert_companion.page.view import FigureBook, Line, Row, Table, plain, signed, title
+from pert_companion.page.view import FigureBook, Line, Row, Table, plain, title
 from pert_companion.page.words import day_text, plural, shown
 from pert_companion.programs import Programs
 from pert_companion.remaining import WorkCard, remaining
@@ -28,14 +37,11 @@ from pert_companion.writers.figures import ratio_text, signed_days
 Card = TypeVar("Card", TaskCard, ActivityCard)
 MOST_ROWS = 40
 """Rows of a table of changes."""
-
-
-@dataclass(frozen=True)
-class EndStep:
-    """One step of the bridge of the end date."""
-
-    cause: str
-    end: date
+ORDER = (
+    "By task, today's state of each task takes the place of its last one, along the path that"
+    " drives the end and in the order of the work. Another order would divide the same move"
+    " otherwise."
+)
 
 
 @dataclass(frozen=True)
@@ -44,6 +50,10 @@ class Changes:
 
     since: str
     tables: tuple[Table, ...]
+    details: tuple[Table, ...]
+    """The tables that the reader opens."""
+    order: str
+    """In which order tasks move the end, or an empty text if none did."""
     notes: tuple[str, ...]
 
 
@@ -54,6 +64,8 @@ class States:
     history: History
     steps: tuple[EndStep, ...]
     """From the older end to the newer one; empty if the steps cannot be made."""
+    moves: EndMoves | None
+    """The tasks that moved the end; None if a step is after the year 9999."""
 
 
 def states_of(
@@ -65,7 +77,18 @@ def states_of(
         steps = tuple(end_steps(programs, previous, current))
     except CompanionError:
         steps = ()  # a deck between two states may be none that the programs accept
-    return States(history, steps)
+    return States(history, steps, _end_moves(history.comparisons[-1]))
+
+
+def _end_moves(comparison: Comparison) -> EndMoves | None:
+    old, new = comparison.old, comparison.new
+    try:
+        return end_moves(
+            EndState(old.plan, old.forecast.rest, old.end),
+            EndState(new.plan, new.forecast.rest, new.end),
+        )
+    except InputError:
+        return None
 
 
 def end_steps(programs: Programs, old: OpenPlan, new: OpenPlan) -> Iterator[EndStep]:
@@ -157,12 +180,15 @@ def _lasting(card: Card, now: WorkCard) -> Card:
 def changes_view(states: States, book: FigureBook) -> Changes:
     """Returns the section on what changed."""
     comparison = states.history.comparisons[-1]
-    money = _Money(states.history, book)
+    money = StateMoney(states.history, book)
     tables = [states_table(states.history, money)]
+    order = ""
     if states.steps:
         tables.append(end_table(states.steps, comparison))
+    if states.moves is not None and (states.moves.tasks or states.moves.others):
+        tables.append(task_table(states.moves, comparison))
+        order = ORDER
     tables.append(estimate_table(comparison, money))
-    tables.extend(_more_tables(comparison))
     notes = []
     if not states.steps:
         notes.append("The bridge of the end date cannot be made from these two decks.")
@@ -172,26 +198,16 @@ def changes_view(states: States, book: FigureBook) -> Changes:
             f"Since the last report, {count} of the time before it changed. The last report is"
             " shown as it was reported."
         )
-    return Changes(day_text(comparison.old.data_day), tuple(tables), tuple(notes))
+    return Changes(
+        day_text(comparison.old.data_day),
+        tuple(tables),
+        tuple(_more_tables(comparison)),
+        order,
+        tuple(notes),
+    )
 
 
-@dataclass(frozen=True)
-class _Money:
-    """Writes amounts of a comparison, whose unit of money may be smaller than the page's."""
-
-    history: History
-    book: FigureBook
-
-    def text(self, amount: int) -> Line:
-        words = replace(self.book.words, money_scale=self.history.money_scale)
-        return plain(words.digits(amount))
-
-    def change(self, amount: int) -> Line:
-        words = replace(self.book.words, money_scale=self.history.money_scale)
-        return plain(signed(words.digits(amount)))
-
-
-def states_table(history: History, money: _Money) -> Table:
+def states_table(history: History, money: StateMoney) -> Table:
     """Returns the baseline, the last report and now, side by side."""
     columns = [history.baseline, *history.states]
     if history.baseline is history.states[0]:
@@ -214,7 +230,7 @@ def states_table(history: History, money: _Money) -> Table:
     return Table("States side by side", ("", *names), tuple(rows))
 
 
-def _earned(state: ProjectState, money: _Money) -> Line:
+def _earned(state: ProjectState, money: StateMoney) -> Line:
     return plain("\u2013") if state.earned is None else money.text(state.earned.total.ev)
 
 
@@ -235,81 +251,6 @@ def milestone_rows(columns: list[ProjectState]) -> Iterator[Row]:
             cells.append(plain("\u2013" if found is None else day_text(found.last_day)))
         name = (*title(shown(milestone.name or milestone.code)), *plain(" (milestone)"))
         yield Row(name, tuple(cells))
-
-
-def end_table(steps: tuple[EndStep, ...], comparison: Comparison) -> Table:
-    """Returns the bridge of the end date by cause."""
-    calendar = comparison.new.plan.side.calendar
-    rows = [Row(plain("Last report"), (plain(day_text(steps[0].end)), plain("")))]
-    for before, step in zip(steps, steps[1:]):
-        days = calendar.count_days(before.end, step.end)
-        moved = "0" if not days else signed(str(days).replace("-", "\u2212"))
-        rows.append(Row(plain(step.cause), (plain(day_text(step.end)), plain(moved))))
-    rows.append(Row(plain("Now"), (plain(day_text(comparison.new.end)), plain("")), is_sum=True))
-    heads = ("Bridge of the end date", "End with it", "Working days")
-    return Table("From the last forecast of the end to this one", heads, tuple(rows))
-
-
-def estimate_table(comparison: Comparison, money: _Money) -> Table:
-    """Returns the bridge of the latest estimate by account."""
-    old, new = comparison.old, comparison.new
-    before, after = _accounts(old, money), _accounts(new, money)
-    past = _restated_charges(comparison)
-    titles = {card.code: card.title for card in (*old.plan.deck.accounts, *new.plan.deck.accounts)}
-    rows = [Row(plain("Last report"), (*_blank(3), money.text(old.latest)))]
-    for code in {**before, **after}:
-        (budget, latest), (budget_now, latest_now) = (
-            before.get(code, (0, 0)),
-            after.get(code, (0, 0)),
-        )
-        scope, restated = budget_now - budget, past.get(code, 0)
-        rest = latest_now - latest - scope - restated
-        if scope or restated or rest:
-            cells = (money.change(scope), money.change(restated), money.change(rest))
-            name = (*plain(f"{code} "), *title(shown(titles.get(code, ""))))
-            rows.append(Row(name, (*cells, money.change(latest_now - latest))))
-    rows.append(Row(plain("Now"), (*_blank(3), money.text(new.latest)), is_sum=True))
-    heads = ("Account", "Scope", "Restated past", "Re-estimate", "Latest estimate")
-    return Table("From the last latest estimate to this one, by account", heads, tuple(rows))
-
-
-def _blank(count: int) -> tuple[Line, ...]:
-    return tuple(plain("") for _ in range(count))
-
-
-def _accounts(state: ProjectState, money: _Money) -> dict[str, tuple[int, int]]:
-    """Returns budget and latest estimate of each account, in units of the comparison."""
-    deck = state.plan.deck
-    factor = money.history.money_scale // state.plan.side.money_scale
-    spent: dict[str, int] = {}
-    for charge in deck.charges:
-        if charge.day <= deck.as_of_day:
-            spent[charge.account] = spent.get(charge.account, 0) + charge.amount
-    to_go: dict[str, tuple[date, int]] = {}
-    for card in deck.to_go:
-        if card.day <= deck.as_of_day and card.day >= to_go.get(card.account, (date.min, 0))[0]:
-            to_go[card.account] = card.day, card.amount
-    found = {}
-    for account in deck.accounts:
-        paid = spent.get(account.code, 0)
-        left = to_go.get(account.code, (date.min, max(0, account.budget - paid)))[1]
-        found[account.code] = account.budget * factor, (paid + left) * factor
-    return found
-
-
-def _restated_charges(comparison: Comparison) -> dict[str, int]:
-    """Returns by account how much more was charged before the last report than it said."""
-    found: dict[str, int] = {}
-    for entry in comparison.restated:
-        if entry.what == "charges":
-            more = _charged(entry.new) - _charged(entry.old)
-            found[entry.subject] = found.get(entry.subject, 0) + more
-    return found
-
-
-def _charged(amount: str) -> int:
-    """Returns the amount of a charge, 0 for one that a state does not have."""
-    return 0 if amount in ("", "none") else int(amount)
 
 
 def _more_tables(comparison: Comparison) -> Iterator[Table]:
@@ -338,8 +279,7 @@ def _more_tables(comparison: Comparison) -> Iterator[Table]:
 
 
 def _named(code: str, name: str, *cells: str) -> Row:
-    label = (*title(shown(name or code)), *plain(f" {code}" if name and name != code else ""))
-    return Row(label, tuple(title(shown(cell or "\u2013")) for cell in cells))
+    return Row(task_name(code, name), tuple(title(shown(cell or "\u2013")) for cell in cells))
 
 
 def _table(caption: str, heads: tuple[str, ...], rows: list[Row]) -> Iterator[Table]:
