@@ -405,6 +405,36 @@ def test_the_bridges_add_up_and_the_page_is_verified(browser: Browser, place: Pa
     assert page.text("#verdict") == "Consistent (checked here)"
 
 
+ROWS = """
+[...document.querySelectorAll("main tr")].map((row) =>
+    [...row.children].map((cell) => cell.textContent.trim()))
+"""
+
+
+@needs_chromium
+@pytest.mark.parametrize(
+    ("mark", "escape"), [("\u0085", "\\x85"), ("\u2028", "\\u2028"), ("\u2029", "\\u2029")]
+)
+def test_a_line_end_in_a_title_is_an_escape_and_ends_no_row(
+    browser: Browser, place: Path, mark: str, escape: str
+) -> None:
+    """NEL and its kin in the name of an item: each row of the page is the honest one but for it."""
+    text = (CASES / "nel.csv").read_text("utf-8")
+    assert text.count("Ground\u0085work") == 1
+    (place / "mark.csv").write_text(text.replace("\u0085", mark), "utf-8")
+    rows = {}
+    for deck in (CASES / "honest.csv", place / "mark.csv"):
+        write_page(deck, place / f"{deck.stem}.html")
+        page = open_checked(browser, place / f"{deck.stem}.html")
+        rows[deck.stem] = page.run(ROWS)
+        assert not re.search("[\u0085\u2028\u2029]", page.run("document.body.textContent"))
+    title = f"Ground{escape}work"
+    assert len(rows["mark"]) == len(rows["honest"])
+    for shown, honest in zip(rows["mark"], rows["honest"]):
+        assert shown == [cell.replace("Ground", title) for cell in honest]
+    assert sum(title in row[0] for row in rows["mark"]) >= 2
+
+
 def pages_of(page: Page, path: Path, **paper: float) -> int:
     answer = page.call("Page.printToPDF", printBackground=True, **paper)
     path.write_bytes(base64.b64decode(answer["data"]))
