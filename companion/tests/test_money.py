@@ -2,13 +2,17 @@
 
 from dataclasses import replace
 from datetime import date
+from random import Random
 
 from hypothesis import given, settings
 from hypothesis import strategies as st
 from running import CASES, HOUSE, MONTHS, PROGRAMS, plan_of
+from status_decks import PACKAGES, random_tasks, side_file_of
 
-from pert_companion.money import MoneyPoint, divided, money_over_time
-from pert_companion.opening import open_plan
+from pert_companion.deck import Deck
+from pert_companion.money import MoneyPoint, money_over_time
+from pert_companion.opening import OpenPlan, open_plan
+from pert_companion.parts import divided, with_costs_over_parts
 from pert_companion.writers import money_text
 
 LONG = """PROJECT,P,s,e,2026-03-02,1,,Plan,2
@@ -100,3 +104,65 @@ def test_parts_add_up(amount: int, weights: list[int]) -> None:
     assert sum(parts) == amount
     for part, weight in zip(parts, weights):
         assert abs(part * sum(weights) - amount * weight) < sum(weights)
+
+
+SPLIT = """PROJECT,P,s,e,2026-03-02,1,,Plan,2
+WBS,W,,Work
+WBS,G,W,Ground
+TASK,A,G,2,2,2,2,1,400,10,Dig
+TASK,A.2,G,2,2,2,2,2,0,0,Dig
+TASK,B,G,1,1,1,1,1,0,0,Pour
+AFTER,A.2,A
+AFTER,B,A
+ACCT,G,G,400,
+END
+"""
+
+
+def split_plan(text: str) -> OpenPlan:
+    """Returns a plan whose task A is in two parts, as another one comes after the first."""
+    found = plan_of(text)
+    tasks = [task for task in found.side.tasks if task.code != "A.2"]
+    parts = [replace(t, parts=("A", "A.2")) if t.code == "A" else t for t in tasks]
+    return replace(found, side=replace(found.side, tasks=tuple(parts)))
+
+
+def test_the_money_of_a_split_task_comes_with_each_of_its_parts() -> None:
+    """Four days cost 400, 100 each, though the card of the first part has it all."""
+    money = money_over_time(PROGRAMS, split_plan(SPLIT))
+    assert money.planned == tuple(MoneyPoint(date(2026, 3, 1 + at), 100 * at) for at in range(5))
+
+
+def test_what_a_split_task_still_needs_comes_with_the_part_that_is_left() -> None:
+    """The first part is done for 250; 200 are to go in the two days of the second."""
+    text = SPLIT.replace("WBS,W,", "ASOF,2026-03-04\nWBS,W,", 1).replace(
+        "END", "CHARGE,G,2026-03-03,250\nTOGO,G,2026-03-04,200\nEND"
+    )
+    for code, letter, day in (("A", "S", 2), ("A", "F", 4), ("B", "S", 4), ("B", "F", 4)):
+        text = text.replace("END", f"STATUS,{code},{letter},2026-03-0{day}\nEND")
+    money = money_over_time(PROGRAMS, split_plan(text))
+    amounts = [(point.day.day, point.amount) for point in money.forecast]
+    assert amounts == [(3, 250), (4, 350), (5, 450)]
+
+
+def test_costs_over_parts_keep_those_of_packages_and_of_tasks_in_one_piece() -> None:
+    plan = split_plan(SPLIT)
+    deck = with_costs_over_parts(plan.deck, plan.side)
+    costs = {card.code: card.cost for card in deck.tasks}
+    assert costs == {"A": 200, "A.2": 200, "B": 0}
+    whole = plan_of(SPLIT)
+    assert with_costs_over_parts(whole.deck, whole.side) == whole.deck
+
+
+@settings(max_examples=60)
+@given(seed=st.integers(0, 2**32))
+def test_costs_over_parts_are_those_of_any_package(seed: int) -> None:
+    deck = random_tasks(Random(seed))
+    found = with_costs_over_parts(deck, side_file_of(Random(seed), deck))
+    for package in PACKAGES:
+        assert cost_of(found, package) == cost_of(deck, package)
+
+
+def cost_of(deck: Deck, package: str) -> int:
+    """Returns what the work of a package costs."""
+    return sum(card.cost for card in deck.work if card.item == package)

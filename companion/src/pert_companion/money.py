@@ -1,6 +1,7 @@
 """Money over time: planned, spent and forecast, each as running sums by day.
 
-- Planned: the baseline's costs at normal durations, as `pert load` spreads them.
+- Planned: the baseline's costs at normal durations, as `pert load` spreads them; that of a task in
+  parts over all of its parts.
 - Spent: the charges up to the as-of date, by their dates. Many sources have only totals: `carry`
   dates them on the as-of date. Then nothing is known before that day, and no line is drawn before
   it. Earlier states of the project give further points: what each had spent at its own as-of date.
@@ -17,6 +18,7 @@ from pert_companion.cards import AccountCard, ActivityCard
 from pert_companion.changes import has_only_totals
 from pert_companion.deck import Deck
 from pert_companion.opening import OpenPlan
+from pert_companion.parts import divided, with_costs_over_parts
 from pert_companion.programs import Programs
 from pert_companion.remaining import Left, Said, State, remaining
 from pert_companion.scheduling import in_one_piece, with_durations
@@ -148,7 +150,7 @@ def _forecast(
     programs: Programs, plan: OpenPlan, said: Mapping[str, Said], factor: int
 ) -> tuple[MoneyPoint, ...]:
     """Returns the money from the as-of date on: what is to go, over the work that is left."""
-    rest = remaining(plan.deck, plan.side, said)
+    rest = remaining(with_costs_over_parts(plan.deck, plan.side), plan.side, said)
     summary = programs.summary(programs.network(plan.counted))
     leaves = {account.item for account in plan.deck.accounts}
     to_go = {code: summary[code].to_go for code in leaves}
@@ -193,19 +195,6 @@ def _left_cost(card: ActivityCard, left: Left | None) -> int:
     if left is None:
         return card.cost
     return 0 if left.state is State.FINISHED else card.cost - left.sunk
-
-
-def divided(amount: int, weights: Sequence[int]) -> list[int]:
-    """Returns an amount in whole parts by weights, which add up to it."""
-    total = sum(weights)
-    parts: list[int] = []
-    weight_so_far, given = 0, 0
-    for weight in weights:
-        weight_so_far += weight
-        upto = amount * weight_so_far // total
-        parts.append(upto - given)
-        given = upto
-    return parts
 
 
 def _spread(

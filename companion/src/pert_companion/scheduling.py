@@ -14,6 +14,7 @@ from pert_companion.calendar import EVERY_DAY, Calendar
 from pert_companion.cards import ActivityCard, EventCard, PieceCard, TaskCard
 from pert_companion.deck import Deck
 from pert_companion.errors import InputError, ProgramError
+from pert_companion.parts import with_costs_over_parts
 from pert_companion.predecessors import real_links
 from pert_companion.programs import Programs
 from pert_companion.schedule import Schedule, ScheduledTask
@@ -177,8 +178,10 @@ def in_one_piece(network: Deck, side: SideFile, point: results.Point) -> Deck:
     """Returns a network in which tasks begin when `span` says, so that money and work come then.
 
     `point` is the network at normal durations. A card that could begin earlier gets a wait before
-    it, as long as what it begins too early; the waits cost nothing, and the length stays.
+    it, as long as what it begins too early; the waits cost nothing, and the length stays. The cost
+    of a task is that of all its parts, by their durations.
     """
+    network = with_costs_over_parts(network, side)
     cards = {card.code: card for card in network.activities}
     waits: list[ActivityCard] = []
     for task in side.tasks:
