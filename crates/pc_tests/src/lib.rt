@@ -51,3 +51,5 @@ mod tasks;
 mod times;
 #[cfg(test)]
 mod titles;
+#[cfg(test)]
+mod written;
