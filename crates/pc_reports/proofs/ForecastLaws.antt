@@ -80,7 +80,7 @@ module _ (net : Network) (lengths : List ℕ) (states : List ActState) (as_of : 
       of_last a in_arcs ends is =
           let (i, lower, at) = ordered.part.before k a in_order in_arcs ends in
           let begins : slice_index expected.times (from_of net.arcs a) ≤ as_of + i * MAX_ACTIVITY_LENGTH =
-              subst (λ (e : ℕ). slice_index expected.times e ≤ as_of + i * MAX_ACTIVITY_LENGTH) at (so_far i lower) in
+          subst (λ (e : ℕ). slice_index expected.times e ≤ as_of + i * MAX_ACTIVITY_LENGTH) at (so_far i lower) in
           let later : as_of ≤ as_of + i * MAX_ACTIVITY_LENGTH = omega arith in
           let bound = finish_bound (state_at states a) (slice_index lengths a) as_of (slice_index expected.times (from_of net.arcs a))
           (as_of + i * MAX_ACTIVITY_LENGTH) (state_more (state_at states a) as_of (as_of + i * MAX_ACTIVITY_LENGTH) later (known a in_arcs))
