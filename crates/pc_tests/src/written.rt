@@ -63,19 +63,25 @@ const OUTLOOK: &[u8] = b"ITEM             LV         BUDGET        OUTLOOK      
 1.2               2             20             25              5 Roof\n";
 
 fn writes_times(alloc: Global, project: &Project) -> Option<bool> {
-    let mut report = TimesReport::build(alloc, project).ok()?;
+    let Ok(mut report) = TimesReport::build(alloc, project) else {
+        return None;
+    };
     let mut sink = MemSink::new(alloc, 2000, 2000, &[]).ok()?;
     Some(report.write(project, &mut sink).is_ok() & (sink.bytes() == TIMES))
 }
 
 fn writes_summary(alloc: Global, project: &Project) -> Option<bool> {
-    let mut report = SummaryReport::build(alloc, project).ok()?;
+    let Ok(mut report) = SummaryReport::build(alloc, project) else {
+        return None;
+    };
     let mut sink = MemSink::new(alloc, 2000, 2000, &[]).ok()?;
     Some(report.write(project, &mut sink).is_ok() & (sink.bytes() == SUMMARY))
 }
 
 fn writes_value(alloc: Global, project: &Project) -> Option<bool> {
-    let mut report = ValueReport::build(alloc, project).ok()?;
+    let Ok(mut report) = ValueReport::build(alloc, project) else {
+        return None;
+    };
     let mut sink = MemSink::new(alloc, 2000, 2000, &[]).ok()?;
     Some(report.write(project, &mut sink).is_ok() & (sink.bytes() == VALUE))
 }
@@ -84,7 +90,9 @@ fn writes_outlook(alloc: Global, project: &Project) -> Option<bool> {
     if project.activity_codes().len() != 3 {
         return None;
     }
-    let mut report = OutlookReport::build(alloc, project, &[2, 4, 6]).ok()?;
+    let Ok(mut report) = OutlookReport::build(alloc, project, &[2, 4, 6]) else {
+        return None;
+    };
     let mut sink = MemSink::new(alloc, 2000, 2000, &[]).ok()?;
     Some(report.write(project, &mut sink).is_ok() & (sink.bytes() == OUTLOOK))
 }
