@@ -69,7 +69,7 @@ def test_tasks_have_the_dates_of_the_calendar(plan: Plan) -> None:
 def test_money_and_earned_value_follow_the_dates_of_one_piece() -> None:
     """Nothing of B is planned before day 9: A costs 500 by day 5, then comes 100 a day.
 
-    Money over time has B's cost on its first part, 5 days of 140, since `pert load` spreads cards.
+    Money over time has that too, although B is in two parts.
     """
     cost = {"A": 500, "B": 700, "C": 20}
     tasks = tuple(replace(task, cost=Decimal(cost[task.uid])) for task in FINISHES.tasks())
@@ -80,4 +80,4 @@ def test_money_and_earned_value_follow_the_dates_of_one_piece() -> None:
     assert sums == [500, 700, 1220]
     money = {point.day: point.amount for point in money_over_time(PROGRAMS, plan).planned}
     days = (date(2026, 3, 6), date(2026, 3, 11), date(2026, 3, 13), date(2026, 3, 20))
-    assert [money[day] for day in days] == [500, 500, 780, 1220]
+    assert [money[day] for day in days] == [500, 500, 700, 1220]
