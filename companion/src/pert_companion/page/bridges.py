@@ -148,7 +148,7 @@ def estimate_table(comparison: Comparison, money: StateMoney) -> Table:
     now = (*_blank(3), money.text(comparison.new.latest))
     rows.append(Row(plain("Now"), now, is_sum=True))
     heads = ("Account", "Scope", "Restated past", "Re-estimate", "Latest estimate")
-    return Table("From the last latest estimate to this one, by account", heads, tuple(rows))
+    return Table("From the estimate of the last report to this one, by account", heads, tuple(rows))
 
 
 def _changes(moves: Sequence[AccountMove], money: StateMoney) -> tuple[Line, ...]:
