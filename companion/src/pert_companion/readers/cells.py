@@ -26,7 +26,7 @@ CONSTRAINTS = {
     + ("muss anfangen am",),
     ConstraintKind.MUST_FINISH: ("must finish on", "mfo", "finish on", "mandatory finish")
     + ("muss enden am",),
-    ConstraintKind.AS_LATE_AS_POSSIBLE: ("as late as possible", "alap") + ("so spät wie möglich",),
+    ConstraintKind.AS_LATE_AS_POSSIBLE: ("as late as possible", "alap", "so spät wie möglich"),
 }
 _AS_SOON_AS_POSSIBLE = ("as soon as possible", "asap", "so früh wie möglich")
 _CONSTRAINT_OF: dict[str, ConstraintKind] = {}

@@ -91,7 +91,9 @@ SECOND_CHOICES = {
 }
 """Headings that mean a baseline where another column already has their first field."""
 
-MULTIPLES = frozenset(("k€", "t€", "teur", "keur", "k$", "thousands", "tausend", "tsd", "tsd. €"))
+MULTIPLES = frozenset(
+    ("k€", "t€", "teur", "keur", "k$", "thousands", "tausend", "tsd", "tsd. €"),
+)
 
 DURATIONS = ("duration", "opt", "likely", "pess", "crash", "work", "remaining", "baseduration")
 AMOUNTS = ("cost", "slope", "crashcost", "actcost", "remcost", "basecost")
@@ -146,7 +148,7 @@ class Head:
 
 
 def heading_of(cell: Cell) -> Heading:
-    """Returns a heading without its unit: `Dauer (Std.)`, `Slope [€/day]`, `Duration in weeks`."""
+    """Returns a heading without its unit: `Dauer (Std.)`, `Slope [€/day]`, `Work in weeks`."""
     text = text_of(cell)[:MOST_HEADING].replace("(*)", " ").replace("_", " ")
     text = " ".join(text.split()).strip(" .:*\ufeff").casefold()
     if text.endswith((")", "]")):

@@ -12,8 +12,12 @@ def aligned(headings: Sequence[str], rows: Iterable[Sequence[str]], right: str) 
 
     `right` has a letter for each column: `r` for numbers, which end at the right, and `l`.
     """
-    table = [list(headings), *([shown(cell) for cell in row] for row in rows)]
-    widths = [max(text_width(cell) for cell in column) for column in zip(*table)]
+    table = [list(headings)]
+    for row in rows:
+        table.append([shown(cell) for cell in row])
+    widths = []
+    for column in zip(*table):
+        widths.append(max(map(text_width, column)))
     return [_line(row, widths, right) for row in table]
 
 

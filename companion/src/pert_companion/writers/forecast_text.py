@@ -59,9 +59,15 @@ def to_text(forecast: Forecast, tasks: Sequence[ForecastTask]) -> str:
 
 def _table(rows: Sequence[tuple[str, ...]]) -> list[str]:
     """Returns the table without the columns that have hyphens alone."""
-    kept = [at for at in range(len(HEADINGS)) if any(row[at] != NOTHING for row in rows)]
-    chosen = [[row[at] for at in kept] for row in (HEADINGS, *rows)]
-    return aligned(chosen[0], chosen[1:], "".join(RIGHT[at] for at in kept))
+    kept = []
+    for at in range(len(HEADINGS)):
+        if any(row[at] != NOTHING for row in rows):
+            kept.append(at)
+    headings = [HEADINGS[at] for at in kept]
+    chosen = []
+    for row in rows:
+        chosen.append([row[at] for at in kept])
+    return aligned(headings, chosen, "".join(RIGHT[at] for at in kept))
 
 
 def _ends(forecast: Forecast) -> list[str]:

@@ -36,7 +36,7 @@ def to_csv(money: MoneyOverTime) -> bytes:
 def _rows(money: MoneyOverTime) -> Iterator[tuple[date, list[str]]]:
     """Yields each day with the amounts of the three lines, an empty text where one has no point."""
     lines = [_by_day(line) for line in (money.planned, money.spent, money.forecast)]
-    days = {day for line in lines for day in line}
+    days = set().union(*lines)
     for day in sorted(days):
         yield day, [line.get(day, "") for line in lines]
 

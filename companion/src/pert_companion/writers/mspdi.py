@@ -132,7 +132,9 @@ def _shared(one: tuple[str, ...], other: tuple[str, ...]) -> int:
 
 def _span(tasks: Sequence[ScheduledTask], path: tuple[str, ...]) -> tuple[datetime, datetime]:
     below = [task for task in tasks if task.outline[: len(path)] == path]
-    return min(task.start for task in below), max(task.finish for task in below)
+    start = min(task.start for task in below)
+    finish = max(task.finish for task in below)
+    return start, finish
 
 
 def _add_task(tasks: Element, number: int, row: _Row) -> None:
