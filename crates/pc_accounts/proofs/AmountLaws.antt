@@ -10,7 +10,7 @@ use Rattle.std.proofs.lemmas.List.Sums.{sum_by-set, get_or-le-sum_by}
 use Rattle.pc_model.specs.declared.limits.TheConstants.{MAX_COST, MAX_CHARGES}
 use Rattle.pc_accounts.specs.declared.book.AcctRow.{AcctRow}
 use Rattle.pc_accounts.specs.declared.book.MoneyRow.{MoneyRow}
-use Rattle.pc_accounts.specs.declared.entry.Entry.{Entry}
+use Rattle.pc_accounts.specs.declared.book.Entry.{Entry}
 use Rattle.pc_accounts.specs.Amounts.{money_at, budget_of, actual_of, IsDue, IsToGo, AreEntriesOf, AreMoney}
 use Rattle.pc_accounts.specs.inside.Parts.{AreActuals, LatestBelow, AreLatest, AreMade, option_at, later_row, entry_from}
 use Rattle.pc_accounts.proofs.PartLaws.{part_more}

@@ -1,7 +1,7 @@
 -- Entries: what work is worth, and when two entries are one.
 use Rattle.std.proofs.Common.{◌≡◌, ℕ, ◌*◌, ◌/◌, ◌<◌, refl, ap, arith}
 use Rattle.std.proofs.lemmas.Nat.{div-add-mod'}
-use Rattle.pc_accounts.specs.declared.entry.Entry.{Entry}
+use Rattle.pc_accounts.specs.declared.book.Entry.{Entry}
 use Rattle.pc_accounts.specs.Entries.{latest_of}
 use Rattle.pc_accounts.specs.inside.Entries.{IsShare}
 

@@ -5,7 +5,7 @@ use Rattle.std.proofs.lemmas.Int.{ints}
 use Rattle.std.proofs.lemmas.List.{ext_get_or}
 use Rattle.pc_accounts.specs.declared.book.AcctRow.{AcctRow}
 use Rattle.pc_accounts.specs.declared.book.MoneyRow.{MoneyRow}
-use Rattle.pc_accounts.specs.declared.entry.Entry.{Entry}
+use Rattle.pc_accounts.specs.declared.book.Entry.{Entry}
 use Rattle.pc_accounts.specs.Entries.{entry_at}
 use Rattle.pc_accounts.specs.Amounts.{money_at, AreEntriesOf, IsDue, IsEntryOf, IsToGo}
 use Rattle.pc_accounts.specs.Second.{IsRepeated}

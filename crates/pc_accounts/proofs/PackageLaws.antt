@@ -8,7 +8,7 @@ use Rattle.std.proofs.lemmas.List.{get_or_default}
 use Rattle.pc_model.specs.Greatest.{IsFirst}
 use Rattle.pc_model.specs.declared.limits.TheConstants.{MAX_COST, MAX_ACTIVITIES}
 use Rattle.pc_accounts.specs.declared.book.AcctRow.{AcctRow}
-use Rattle.pc_accounts.specs.declared.book.WorkRow.{WorkRow}
+use Rattle.pc_accounts.specs.declared.packages.WorkRow.{WorkRow}
 use Rattle.pc_accounts.specs.Amounts.{AreBudgets, item_of, budget_of}
 use Rattle.pc_accounts.specs.Packages.{budgets_of, costs_of, work_at, IsUneven}
 use Rattle.pc_accounts.specs.inside.Packages.{AreWork}

@@ -6,7 +6,7 @@ use Rattle.pc_model.specs.Sums.{sum_to}
 use Rattle.pc_model.proofs.Sums.{sum_to-add, sum_to-same, sum_to-zero, sum_to-pick}
 use Rattle.pc_accounts.specs.declared.book.AcctRow.{AcctRow}
 use Rattle.pc_accounts.specs.declared.book.MoneyRow.{MoneyRow}
-use Rattle.pc_accounts.specs.declared.entry.Entry.{Entry}
+use Rattle.pc_accounts.specs.declared.book.Entry.{Entry}
 use Rattle.pc_accounts.specs.Entries.{entry_at}
 use Rattle.pc_accounts.specs.inside.Entries.{entry_of_all}
 use Rattle.pc_accounts.specs.Amounts.{money_at, budget_of, actual_of, all_charged, AreEntriesOf, AreMoney, entry_of_project}

@@ -1,7 +1,7 @@
 -- What an entry of a book adds up to, and what an account's work is worth.
 use Rattle.std.specs.Prelude.{ℕ, ◌+◌, ◌*◌, ◌/◌, ◌<◌, ◌≤◌, ◌==◌, Bool, if◌then◌else◌, List, length, slice_index_or, sum_by}
 use Rattle.pc_model.specs.declared.limits.TheConstants.{MAX_ACCOUNTS, MAX_CHARGES, MAX_COST}
-use Rattle.pc_accounts.specs.declared.entry.Entry.{Entry}
+use Rattle.pc_accounts.specs.declared.book.Entry.{Entry}
 
 -- the entry of account a; past the end of the list one of zeros
 abbrev pub entry_at : List Entry → ℕ → Entry

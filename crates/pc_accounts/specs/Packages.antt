@@ -1,7 +1,7 @@
 -- The budgets and the costs of a package, and which packages are uneven.
 use Rattle.std.specs.Prelude.{◌≡◌, ◌≢◌, ℕ, ◌<◌, ◌==◌, List, length, slice_index_or, filter, sum_by}
 use Rattle.pc_accounts.specs.declared.book.AcctRow.{AcctRow}
-use Rattle.pc_accounts.specs.declared.book.WorkRow.{WorkRow}
+use Rattle.pc_accounts.specs.declared.packages.WorkRow.{WorkRow}
 
 -- the sum of the budgets of the accounts on an item
 abbrev pub budgets_of : List AcctRow → ℕ → ℕ

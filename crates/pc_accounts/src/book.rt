@@ -1,21 +1,133 @@
 //! The book of all accounts: the rows that it is made from, and the amounts to go that count.
 //!
 //! Accounts and items are numbered in card order from 0.
-ghost use Rattle.std.specs.Prelude.{◌≡◌, ℕ, ◌+◌, ◌*◌, ◌<◌, ◌≤◌, length, IsTrue, IsFalse, IfOk, IfErr, IfSome, OnOk};
+ghost use Rattle.std.specs.Prelude.{
+  ◌≡◌,
+  ℕ,
+  ◌+◌,
+  ◌*◌,
+  ◌/◌,
+  ◌<◌,
+  ◌≤◌,
+  length,
+  IsTrue,
+  IsFalse,
+  IfOk,
+  IfErr,
+  IfSome,
+  OnOk,
+};
 ghost use Rattle.pc_model.specs.declared.limits.TheConstants.{MAX_ACCOUNTS, MAX_CHARGES, MAX_TOGOS, MAX_COST};
-ghost use Rattle.pc_accounts.specs.Entries.{entry_at, latest_of, value_of, AreEntriesWithinLimits};
+ghost use Rattle.pc_accounts.specs.Entries.{entry_at, latest_of, value_of, AreEntriesWithinLimits, IsEntryWithinLimits};
 ghost use Rattle.pc_accounts.specs.inside.Entries.{entry_of_all, IsShare};
 ghost use Rattle.pc_accounts.specs.Amounts.{AreBudgets, AreMoney, AreEntriesOf, entry_of_project};
 ghost use Rattle.pc_accounts.specs.inside.Parts.{AreActuals, AreKnown, AreMade, entry_from, AreLatest, later_row};
 ghost use Rattle.pc_accounts.specs.Second.{IsRepeated};
 ghost use Rattle.pc_accounts.specs.inside.Second.{IsRefusal};
 
-use crate::entry::Entry;
-use crate::error::BookError;
 use pc_days::Day;
-use std::alloc::{AllocError, Global};
+use std::alloc::{AllocError, AllocFailed, Global};
 use std::collections::BTreeMap;
 use std::marker::Model;
+
+/// A cost account: its item and its budget.
+#[derive(Clone, Copy)]
+pub struct AcctRow {
+    pub item: u32,
+    pub budget: u64,
+}
+
+/// A dated amount of an account: a charge, or what was to go on that day.
+#[derive(Clone, Copy)]
+pub struct MoneyRow {
+    pub account: u32,
+    pub day: Day,
+    pub amount: u64,
+}
+
+/// An account's budget, the sum of its charges up to the as-of date, and its amount to go.
+#[derive(Clone, Copy)]
+pub struct Entry {
+    pub budget: u64,
+    pub actual: u64,
+    pub to_go: u64,
+}
+
+impl Entry {
+    /// Returns the latest estimate: what was spent plus what is to go.
+    pub fn latest(&self) -> u64
+        requires { IsEntryWithinLimits self.now }
+        ensures latest { result ≡ latest_of self.now }
+        ensures limit { result ≤ (MAX_CHARGES + 1) * MAX_COST }
+    {
+        self.actual + self.to_go
+    }
+
+    /// Returns the earned value; `finished` says whether the account's package is finished.
+    ///
+    /// Finished work is worth its budget. Other work is worth the budget in the ratio of what was spent to the latest
+    /// estimate, rounded down, or 0 if the latest estimate is 0.
+    pub fn value(&self, finished: bool) -> u64
+        requires { IsEntryWithinLimits self.now }
+        ensures value { result ≡ value_of finished self.now }
+        ensures done { IsTrue finished → result ≡ self.now.budget }
+        ensures share { IsFalse finished → 0 < latest_of self.now → IsShare self.now result }
+        ensures nothing { IsFalse finished → latest_of self.now ≡ 0 → result ≡ 0 }
+        ensures limit { result ≤ MAX_COST }
+    {
+        if finished {
+            return self.budget;
+        }
+        let latest = self.latest();
+        if latest == 0 {
+            return 0;
+        }
+        share(self.budget, self.actual, latest)
+    }
+}
+
+/// The budget in the ratio of what was spent to the latest estimate, rounded down.
+fn share(budget: u64, actual: u64, latest: u64) -> u64
+    requires some { 0 < latest }
+    requires part { actual ≤ latest }
+    requires budget { budget ≤ MAX_COST }
+    requires actual { actual ≤ MAX_CHARGES * MAX_COST }
+    ensures share { result ≡ budget * actual / latest }
+    ensures within { result ≤ budget }
+{
+    (u128::from(budget) * u128::from(actual) / u128::from(latest)) as u64
+}
+
+/// Why there is no book.
+#[derive(Clone, Copy, Debug)]
+pub enum BookError {
+    /// The first amount to go that has the account and the day of an earlier one, `second`, and the earliest such one,
+    /// `first`.
+    SecondToGo { first: u32, second: u32 },
+    OutOfMemory,
+}
+
+impl From<AllocError> for BookError {
+    ghost use Rattle.std.specs.Prelude.{◌≡◌};
+    ghost use Rattle.pc_accounts.specs.declared.book.BookError.TheVariants.{OutOfMemory};
+
+    ghost from_gives = { λ _ e. e ≡ OutOfMemory };
+
+    fn from(_error: AllocError) -> BookError {
+        BookError::OutOfMemory
+    }
+}
+
+impl<T: Drop> From<AllocFailed<T>> for BookError {
+    ghost use Rattle.std.specs.Prelude.{◌≡◌};
+    ghost use Rattle.pc_accounts.specs.declared.book.BookError.TheVariants.{OutOfMemory};
+
+    ghost from_gives = { λ _ e. e ≡ OutOfMemory };
+
+    fn from(_error: AllocFailed<T>) -> BookError {
+        BookError::OutOfMemory
+    }
+}
 
 /// What each account has spent up to the as-of date and what is to go, in card order.
 #[derive(Drop)]
@@ -25,7 +137,7 @@ pub struct Book {
 
 impl Model for Book {
     ghost use Rattle.std.specs.Prelude.{List};
-    ghost use Rattle.pc_accounts.specs.declared.entry.Entry.{Entry};
+    ghost use Rattle.pc_accounts.specs.declared.book.Entry.{Entry};
     ghost use Rattle.pc_accounts.specs.Entries.{AreEntriesWithinLimits};
 
     ghost Value = { List Entry };
@@ -154,13 +266,13 @@ fn entries(
     let mut entries = Vec::with_capacity(alloc, accounts.len())?;
     for a in 0..accounts.len() {
         let budget = accounts[a].budget;
-        entries.push(entry(budget, actuals[a], latest[a], togos))?;
+        entries.push(entry_from(budget, actuals[a], latest[a], togos))?;
     }
     Ok(entries)
 }
 
 /// An account's entry, where `latest` is the amount to go that counts, if there is one.
-fn entry(budget: u64, actual: u64, latest: Option<u32>, togos: &[MoneyRow]) -> Entry
+fn entry_from(budget: u64, actual: u64, latest: Option<u32>, togos: &[MoneyRow]) -> Entry
     requires { IfSome latest (λ row. row < length togos.now) }
     ensures { result ≡ entry_from togos.now budget actual latest }
 {
@@ -173,28 +285,6 @@ fn entry(budget: u64, actual: u64, latest: Option<u32>, togos: &[MoneyRow]) -> E
         actual,
         to_go,
     }
-}
-
-/// A cost account: its item and its budget.
-#[derive(Clone, Copy)]
-pub struct AcctRow {
-    pub item: u32,
-    pub budget: u64,
-}
-
-/// A dated amount of an account: a charge, or what was to go on that day.
-#[derive(Clone, Copy)]
-pub struct MoneyRow {
-    pub account: u32,
-    pub day: Day,
-    pub amount: u64,
-}
-
-/// The item of an activity, and its cost at its normal duration.
-#[derive(Clone, Copy)]
-pub struct WorkRow {
-    pub item: u32,
-    pub cost: u64,
 }
 
 /// Refuses two amounts to go of one account and one day. In an ordered map, so that no deck can make a look-up long.

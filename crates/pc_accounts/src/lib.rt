@@ -3,12 +3,8 @@
 #![tactic(auto)]
 
 mod book;
-mod entry;
-mod error;
 mod packages;
 pub mod status;
 
-pub use book::{AcctRow, Book, MoneyRow, WorkRow};
-pub use entry::Entry;
-pub use error::{BookError, Uneven};
-pub use packages::reconcile;
+pub use book::{AcctRow, Book, BookError, Entry, MoneyRow};
+pub use packages::{Uneven, WorkRow, reconcile};

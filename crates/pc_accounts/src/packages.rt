@@ -6,10 +6,36 @@ ghost use Rattle.pc_accounts.specs.Packages.{IsUneven};
 ghost use Rattle.pc_accounts.specs.inside.Packages.{AreWork, IsFirstUneven};
 ghost use Rattle.pc_accounts.specs.inside.Parts.{AreBudgetSums, AreCostSums};
 
-use crate::book::{AcctRow, WorkRow};
-use crate::error::Uneven;
+use crate::book::AcctRow;
 use pc_wbs::Tree;
 use std::alloc::{AllocError, Global};
+
+/// The item of an activity, and its cost at its normal duration.
+#[derive(Clone, Copy)]
+pub struct WorkRow {
+    pub item: u32,
+    pub cost: u64,
+}
+
+/// Why budgets do not match the work.
+#[derive(Clone, Copy, Debug, PartialEq, Eq)]
+pub enum Uneven {
+    /// The first item with work for which the sum of its accounts' budgets differs from the sum of its activities'
+    /// costs.
+    Item { item: u32, budgets: u64, costs: u64 },
+    OutOfMemory,
+}
+
+impl From<AllocError> for Uneven {
+    ghost use Rattle.std.specs.Prelude.{◌≡◌};
+    ghost use Rattle.pc_accounts.specs.declared.packages.Uneven.TheVariants.{OutOfMemory};
+
+    ghost from_gives = { λ _ e. e ≡ OutOfMemory };
+
+    fn from(_error: AllocError) -> Uneven {
+        Uneven::OutOfMemory
+    }
+}
 
 /// Checks that in each package with work the budgets of its accounts add up to the costs of its activities. Linear in
 /// accounts, activities and items.

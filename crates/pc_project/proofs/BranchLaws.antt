@@ -4,7 +4,7 @@ use Rattle.std.specs.List.{Any}
 use Rattle.std.proofs.lemmas.List.{get_or-map, length-map}
 use Rattle.pc_accounts.specs.Amounts.{account_at}
 use Rattle.pc_accounts.specs.declared.book.AcctRow.{AcctRow}
-use Rattle.pc_accounts.specs.declared.book.WorkRow.{WorkRow}
+use Rattle.pc_accounts.specs.declared.packages.WorkRow.{WorkRow}
 use Rattle.pc_deck.specs.Deck.{Deck, item_codes, number_among}
 use Rattle.pc_deck.specs.declared.kinds.acct.AcctCard.{AcctCard}
 use Rattle.pc_deck.specs.declared.kinds.act.ActCard.{ActCard}

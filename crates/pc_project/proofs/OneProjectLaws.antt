@@ -1,7 +1,7 @@
 -- A deck that makes a project makes one: its lists are those of the deck, and the entries of its accounts and the states of
 -- its activities are fixed by them.
 use Rattle.std.proofs.Common.{◌≡◌, List, length, sym, ◌∙◌, ap, subst}
-use Rattle.pc_accounts.specs.declared.entry.Entry.{Entry}
+use Rattle.pc_accounts.specs.declared.book.Entry.{Entry}
 use Rattle.pc_accounts.specs.Amounts.{AreEntriesOf}
 use Rattle.pc_accounts.proofs.OneBookLaws.{one_book}
 use Rattle.pc_times.specs.declared.forecasts.ActState.{ActState}

@@ -13,7 +13,7 @@ use Rattle.pc_model.specs.Pieces.{ArePieces}
 use Rattle.pc_model.specs.Schedule.{AreTerms, term_at}
 use Rattle.pc_crash.specs.Priced.{ArePiecesWithinLimits, piece_at}
 use Rattle.pc_crash.specs.Terms.{AreWithinLimits}
-use Rattle.pc_accounts.specs.declared.entry.Entry.{Entry}
+use Rattle.pc_accounts.specs.declared.book.Entry.{Entry}
 use Rattle.pc_times.specs.Times.{AreLengths}
 use Rattle.pc_times.specs.declared.forecasts.ActState.{ActState}
 use Rattle.pc_deck.specs.declared.kinds.act.ActCard.{ActCard}

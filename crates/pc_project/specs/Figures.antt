@@ -4,7 +4,7 @@ use Rattle.pc_accounts.specs.Amounts.{AreBudgets, AreEntriesOf, AreMoney, item_o
 use Rattle.pc_accounts.specs.Second.{IsRepeated}
 use Rattle.pc_accounts.specs.declared.book.AcctRow.{AcctRow}
 use Rattle.pc_accounts.specs.declared.book.MoneyRow.{MoneyRow}
-use Rattle.pc_accounts.specs.declared.book.WorkRow.{WorkRow}
+use Rattle.pc_accounts.specs.declared.packages.WorkRow.{WorkRow}
 use Rattle.pc_deck.specs.Deck.{Deck}
 use Rattle.pc_model.specs.declared.Term.{Term}
 use Rattle.pc_model.specs.declared.limits.TheConstants.{MAX_ACCOUNTS, MAX_CHARGES, MAX_TOGOS}

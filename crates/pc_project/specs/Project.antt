@@ -1,9 +1,9 @@
 -- The project of a deck: its lists in card order, with numbers for codes.
 use Rattle.std.specs.Prelude.{ℕ, ℤ, List, length, map, Option, Some, None, option_and_then}
-use Rattle.pc_accounts.specs.declared.entry.Entry.{Entry}
+use Rattle.pc_accounts.specs.declared.book.Entry.{Entry}
 use Rattle.pc_accounts.specs.declared.book.AcctRow.{AcctRow}
 use Rattle.pc_accounts.specs.declared.book.MoneyRow.{MoneyRow}
-use Rattle.pc_accounts.specs.declared.book.WorkRow.{WorkRow}
+use Rattle.pc_accounts.specs.declared.packages.WorkRow.{WorkRow}
 use Rattle.pc_model.specs.declared.Arc.{Arc}
 use Rattle.pc_model.specs.declared.PieceRow.{PieceRow}
 use Rattle.pc_model.specs.declared.Term.{Term}

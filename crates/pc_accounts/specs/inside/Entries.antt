@@ -1,7 +1,7 @@
 -- What an entry of a book adds up to, and what an account's work is worth.
 -- Here is what no clause of a top call and no law reaches.
 use Rattle.std.specs.Prelude.{ℕ, ◌+◌, ◌*◌, ◌<◌, ◌≤◌, List, sum_by}
-use Rattle.pc_accounts.specs.declared.entry.Entry.{Entry}
+use Rattle.pc_accounts.specs.declared.book.Entry.{Entry}
 use Rattle.pc_accounts.specs.Entries.{latest_of}
 
 -- what all entries come to: their budgets, what they have spent, and what is to go

@@ -4,9 +4,9 @@ use Rattle.std.specs.Prelude.{◌≡◌, ℕ, ◌<◌, ◌≤◌, List, length}
 use Rattle.pc_model.specs.Greatest.{IsFirst}
 use Rattle.pc_model.specs.declared.limits.TheConstants.{MAX_COST}
 use Rattle.pc_accounts.specs.declared.book.AcctRow.{AcctRow}
-use Rattle.pc_accounts.specs.declared.book.WorkRow.{WorkRow}
-use Rattle.pc_accounts.specs.declared.error.Uneven.{Uneven}
-use Rattle.pc_accounts.specs.declared.error.Uneven.TheVariants.{Item, OutOfMemory}
+use Rattle.pc_accounts.specs.declared.packages.WorkRow.{WorkRow}
+use Rattle.pc_accounts.specs.declared.packages.Uneven.{Uneven}
+use Rattle.pc_accounts.specs.declared.packages.Uneven.TheVariants.{Item, OutOfMemory}
 use Rattle.pc_accounts.specs.Packages.{budgets_of, costs_of, work_at, IsUneven}
 
 -- the first uneven item, with its two sums; memory may run out at any time

@@ -3,8 +3,8 @@ use Rattle.std.specs.Prelude.{◌≡◌, ◌≢◌, ℕ, ◌*◌, ◌-◌, ◌<�
 use Rattle.pc_model.specs.declared.limits.TheConstants.{MAX_COST}
 use Rattle.pc_accounts.specs.declared.book.AcctRow.{AcctRow}
 use Rattle.pc_accounts.specs.declared.book.MoneyRow.{MoneyRow}
-use Rattle.pc_accounts.specs.declared.book.WorkRow.{WorkRow}
-use Rattle.pc_accounts.specs.declared.entry.Entry.{Entry}
+use Rattle.pc_accounts.specs.declared.packages.WorkRow.{WorkRow}
+use Rattle.pc_accounts.specs.declared.book.Entry.{Entry}
 use Rattle.pc_accounts.specs.Entries.{entry_at}
 use Rattle.pc_accounts.specs.Amounts.{money_at, budget_of, actual_of, IsDue}
 use Rattle.pc_accounts.specs.Packages.{work_at, budgets_of, costs_of}

@@ -3,8 +3,8 @@
 use Rattle.std.specs.Prelude.{List}
 use Rattle.pc_model.specs.Greatest.{IsFirst}
 use Rattle.pc_accounts.specs.declared.book.MoneyRow.{MoneyRow}
-use Rattle.pc_accounts.specs.declared.error.BookError.{BookError}
-use Rattle.pc_accounts.specs.declared.error.BookError.TheVariants.{SecondToGo, OutOfMemory}
+use Rattle.pc_accounts.specs.declared.book.BookError.{BookError}
+use Rattle.pc_accounts.specs.declared.book.BookError.TheVariants.{SecondToGo, OutOfMemory}
 use Rattle.pc_accounts.specs.Second.{Repeats, IsRepeated}
 
 -- `second` is the first row that repeats an earlier one, and `first` is the earliest that it repeats; memory may run

@@ -1,7 +1,7 @@
 -- Which packages are finished, and what the work of each account is worth.
 use Rattle.std.specs.Prelude.{◌≡◌, ◌⊎◌, ℕ, ◌<◌, false, ℤ, pos, ◌-ℤ◌, List, length, slice_index}
 use Rattle.pc_accounts.specs.declared.book.AcctRow.{AcctRow}
-use Rattle.pc_accounts.specs.declared.entry.Entry.{Entry}
+use Rattle.pc_accounts.specs.declared.book.Entry.{Entry}
 use Rattle.pc_accounts.specs.Amounts.{item_of}
 use Rattle.pc_accounts.specs.Entries.{entry_at, value_of}
 use Rattle.pc_rollup.specs.Totals.{amount_at}

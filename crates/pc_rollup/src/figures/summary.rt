@@ -3,7 +3,7 @@ ghost use Rattle.std.specs.Prelude.{◌≡◌, ℕ, ◌+◌, ◌<◌, ◌≤◌,
 ghost use Rattle.pc_wbs.specs.declared.tree.ItemRow.{ItemRow};
 ghost use Rattle.pc_accounts.specs.declared.book.AcctRow.{AcctRow};
 ghost use Rattle.pc_accounts.specs.declared.book.MoneyRow.{MoneyRow};
-ghost use Rattle.pc_accounts.specs.declared.entry.Entry.{Entry};
+ghost use Rattle.pc_accounts.specs.declared.book.Entry.{Entry};
 ghost use Rattle.pc_accounts.specs.Amounts.{all_charged};
 ghost use Rattle.pc_accounts.specs.Entries.{AreEntriesWithinLimits, IsEntryWithinLimits};
 ghost use Rattle.pc_accounts.specs.inside.Entries.{entry_of_all};

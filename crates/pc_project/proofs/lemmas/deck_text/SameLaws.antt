@@ -3,7 +3,7 @@ use Rattle.std.proofs.Common.{◌≡◌, ℕ, List, length, map, sym, ap, ◌∙
 use Rattle.std.specs.Prelude.{option_and_then, Some}
 use Rattle.std.proofs.lemmas.List.{length-map}
 use Rattle.std.proofs.lemmas.Simd.{map-map}
-use Rattle.pc_accounts.specs.declared.entry.Entry.{Entry}
+use Rattle.pc_accounts.specs.declared.book.Entry.{Entry}
 use Rattle.pc_times.specs.Estimates.{expected_time, variance_of}
 use Rattle.pc_times.specs.declared.forecasts.ActState.{ActState}
 use Rattle.pc_deck.specs.declared.kinds.act.ActCard.{ActCard}

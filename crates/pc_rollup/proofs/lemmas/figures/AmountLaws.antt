@@ -5,7 +5,7 @@ use Rattle.std.proofs.lemmas.Int.{ints}
 use Rattle.std.proofs.lemmas.List.Sums.{sum_by_more, sum_by-take-le}
 use Rattle.pc_model.specs.Sums.{sum_to}
 use Rattle.pc_model.specs.declared.limits.TheConstants.{MAX_COST}
-use Rattle.pc_accounts.specs.declared.entry.Entry.{Entry}
+use Rattle.pc_accounts.specs.declared.book.Entry.{Entry}
 use Rattle.pc_accounts.specs.Entries.{entry_at, AreEntriesWithinLimits, IsEntryWithinLimits}
 use Rattle.pc_rollup.specs.declared.figures.summary.SummaryAmounts.{SummaryAmounts}
 use Rattle.pc_rollup.specs.inside.Amounts.{IsSum}

@@ -8,7 +8,7 @@ use Rattle.std.proofs.Math.Seq.{take-length}
 use Rattle.pc_wbs.specs.declared.tree.ItemRow.{ItemRow}
 use Rattle.pc_accounts.specs.declared.book.AcctRow.{AcctRow}
 use Rattle.pc_accounts.specs.declared.book.MoneyRow.{MoneyRow}
-use Rattle.pc_accounts.specs.declared.entry.Entry.{Entry}
+use Rattle.pc_accounts.specs.declared.book.Entry.{Entry}
 use Rattle.pc_accounts.specs.Amounts.{all_charged}
 use Rattle.pc_accounts.specs.Entries.{entry_at}
 use Rattle.pc_accounts.specs.inside.Entries.{entry_of_all}

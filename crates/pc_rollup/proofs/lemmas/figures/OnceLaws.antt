@@ -8,7 +8,7 @@ use Rattle.pc_wbs.specs.Climb.{AreInRange, HasLevel, IsBelow, IsTree}
 use Rattle.pc_wbs.proofs.ClimbLaws.{HasLevel-same}
 use Rattle.pc_wbs.proofs.OnePreorderLaws.{one_preorder}
 use Rattle.pc_accounts.specs.declared.book.AcctRow.{AcctRow}
-use Rattle.pc_accounts.specs.declared.entry.Entry.{Entry}
+use Rattle.pc_accounts.specs.declared.book.Entry.{Entry}
 use Rattle.pc_accounts.specs.Amounts.{item_of}
 use Rattle.pc_rollup.specs.Totals.{amount_at}
 use Rattle.pc_rollup.specs.Least.{IsLeastOver, least_at}

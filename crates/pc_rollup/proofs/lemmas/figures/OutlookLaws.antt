@@ -11,7 +11,7 @@ use Rattle.pc_model.proofs.Sums.{sum_to-le, sum_to-most}
 use Rattle.pc_wbs.specs.declared.tree.ItemRow.{ItemRow}
 use Rattle.pc_wbs.specs.Climb.{AreInRange, IsBelow, IsLeaf, IsTree}
 use Rattle.pc_wbs.proofs.OrderLaws.{IsBelow-top}
-use Rattle.pc_accounts.specs.declared.entry.Entry.{Entry}
+use Rattle.pc_accounts.specs.declared.book.Entry.{Entry}
 use Rattle.pc_accounts.specs.declared.book.AcctRow.{AcctRow}
 use Rattle.pc_accounts.specs.Amounts.{item_of}
 use Rattle.pc_accounts.specs.Entries.{entry_at, AreEntriesWithinLimits, IsEntryWithinLimits}

@@ -10,7 +10,7 @@ use Rattle.std.proofs.Math.Nat.{div-le_of_le-mul, mul_comm, mul-le-mul_left}
 use Rattle.pc_model.specs.declared.limits.TheConstants.{MAX_COST}
 use Rattle.pc_wbs.specs.declared.tree.ItemRow.{ItemRow}
 use Rattle.pc_accounts.specs.declared.book.AcctRow.{AcctRow}
-use Rattle.pc_accounts.specs.declared.entry.Entry.{Entry}
+use Rattle.pc_accounts.specs.declared.book.Entry.{Entry}
 use Rattle.pc_accounts.specs.Amounts.{item_of}
 use Rattle.pc_accounts.specs.Entries.{entry_at, latest_of, value_of, AreEntriesWithinLimits, IsEntryWithinLimits}
 use Rattle.pc_rollup.specs.inside.Amounts.{IsSum}

@@ -1,7 +1,7 @@
 -- What an outlook is made from.
 use Rattle.std.specs.Prelude.{◌≡◌, ℕ, ◌<◌, Bool, false, IsTrue, if◌then◌else◌, ◌↔◌, ℤ, pos, ◌-ℤ◌, List, [], ◌∷◌, length, slice_index, slice_index_or}
 use Rattle.pc_wbs.specs.declared.tree.ItemRow.{ItemRow}
-use Rattle.pc_accounts.specs.declared.entry.Entry.{Entry}
+use Rattle.pc_accounts.specs.declared.book.Entry.{Entry}
 use Rattle.pc_accounts.specs.declared.book.AcctRow.{AcctRow}
 use Rattle.pc_rollup.specs.declared.figures.outlook.OutlookAmounts.{OutlookAmounts}
 use Rattle.pc_rollup.specs.figures.Outlook.{AreAmountsOf, amounts_at}

@@ -2,7 +2,7 @@
 -- Here is what no clause of a top call and no law reaches.
 use Rattle.std.specs.Prelude.{◌≡◌, ℕ, ◌<◌, Bool, true, false, pos, ◌-ℤ◌, List, length, slice_index, slice_index_or, Option, Some, None, unwrap_or}
 use Rattle.pc_accounts.specs.declared.book.AcctRow.{AcctRow}
-use Rattle.pc_accounts.specs.declared.entry.Entry.{Entry}
+use Rattle.pc_accounts.specs.declared.book.Entry.{Entry}
 use Rattle.pc_accounts.specs.Amounts.{item_of}
 use Rattle.pc_accounts.specs.Entries.{entry_at, value_of}
 use Rattle.pc_times.specs.declared.forecasts.ActState.{ActState}

@@ -1,5 +1,5 @@
 use Rattle.std.proofs.Common.{length, subst}
-use Rattle.pc_accounts.specs.declared.entry.Entry.{Entry}
+use Rattle.pc_accounts.specs.declared.book.Entry.{Entry}
 use Rattle.pc_accounts.specs.Amounts.{AreEntriesOf, AreMoney}
 use Rattle.pc_accounts.specs.inside.Entries.{entry_of_all}
 use Rattle.pc_accounts.proofs.WholeLaws.{entries_are_project}

@@ -1,6 +1,6 @@
 use Rattle.std.proofs.Common.{ap, ◌∙◌, ◌*◌, ◌/◌, ℕ}
 use Rattle.pc_accounts.proofs.EntryLaws.{IsShare-rounded}
-use Rattle.pc_accounts.proofs.entry.Entry.value.Goals as goal
+use Rattle.pc_accounts.proofs.book.Entry.value.Goals as goal
 
 pub returns-clause-share : goal.returns-clause-share
 returns-clause-share c = λ open_work some.
