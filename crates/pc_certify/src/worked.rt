@@ -24,5 +24,5 @@ pub fn small_decks_are_written()
         ≡ begun_in_pieces }
     ensures complete { IsComplete small_deck_in_pieces along_a_and_b along_a_and_b small_segments }
 {
-    pc_laws::worked_laws::pieces_are_worked();
+    pc_laws::curve_laws::pieces_are_worked();
 }

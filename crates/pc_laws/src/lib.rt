@@ -12,4 +12,3 @@ pub mod segment_laws;
 pub mod stair_laws;
 pub mod state_laws;
 pub mod whole_flow_laws;
-pub mod worked_laws;
