@@ -4,8 +4,8 @@ ghost use Rattle.pc_model.specs.Walk.{to_of};
 ghost use Rattle.pc_net.specs.Cycles.{LiesOnCycle, IsFirstCycle};
 ghost use Rattle.pc_net.specs.inside.Cycles.{IsRound, IsSearch};
 
+use crate::components::labels_of;
 use crate::graph::Graph;
-use crate::labels::labels_of;
 use pc_model::MAX_EVENTS;
 use std::alloc::{AllocError, Global};
 

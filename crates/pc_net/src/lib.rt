@@ -2,11 +2,9 @@
 //! and the activities at each event.
 #![tactic(auto)]
 
+mod components;
 mod cycle;
-mod faults;
-mod finishing;
 mod graph;
-mod labels;
 mod listing;
 mod network;
 mod ordering;

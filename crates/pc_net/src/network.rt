@@ -10,10 +10,9 @@ ghost use Rattle.pc_net.specs.Refusals.{IsNetError};
 ghost use Rattle.pc_net.specs.Degrees.{AreDistinct, degrees};
 
 use crate::cycle::first_cycle;
-use crate::faults::check;
 use crate::graph::Graph;
 use crate::ordering::ordered;
-use crate::refusal::{Indices, NetError};
+use crate::refusal::{Indices, NetError, check};
 use pc_model::{Arc, MAX_ACTIVITIES, MAX_EVENTS};
 use std::alloc::Global;
 use std::marker::Model;

@@ -1,7 +1,7 @@
 -- The turns of the search that finishes the events.
 use Rattle.std.specs.Prelude.{ℕ, ◌<◌, List, All}
-use Rattle.pc_net.specs.declared.finishing.Turn.{Turn}
-use Rattle.pc_net.specs.declared.finishing.Turn.TheVariants.{Enter, Finish}
+use Rattle.pc_net.specs.declared.components.Turn.{Turn}
+use Rattle.pc_net.specs.declared.components.Turn.TheVariants.{Enter, Finish}
 
 -- each is an event
 abbrev pub AreEvents : ℕ → List ℕ → Type 0

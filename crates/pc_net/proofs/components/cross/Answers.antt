@@ -4,8 +4,8 @@ use Rattle.pc_model.specs.inside.Greatest.{IsListed}
 use Rattle.pc_model.specs.Network.{Network}
 use Rattle.pc_model.specs.Walk.{from_of}
 use Rattle.pc_net.proofs.LabelLaws.{IsSpreading-skip, IsSpreading-push, IsSpreading-end}
-use Rattle.pc_net.proofs.labels.cross.Goals as goal
-use Rattle.pc_net.proofs.labels.cross.Goals.{then-index-eq0+in_ok-push, else-index-eq0}
+use Rattle.pc_net.proofs.components.cross.Goals as goal
+use Rattle.pc_net.proofs.components.cross.Goals.{then-index-eq0+in_ok-push, else-index-eq0}
 
 -- the activities listed at the event that was read are those at this place
 leaving : (net : Network) (reached : List ℕ) (at event : ℕ) (xs : List ℕ) → at < length reached → event ≡ slice_index_or reached at event →

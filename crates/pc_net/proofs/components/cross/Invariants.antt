@@ -1,6 +1,6 @@
 use Rattle.std.proofs.Common.{slice_index}
 use Rattle.pc_net.proofs.LabelLaws.{IsSpreading}
-use Rattle.pc_net.proofs.labels.cross.Given as goal
+use Rattle.pc_net.proofs.components.cross.Given as goal
 
 abbrev pub invariant-loop-a : goal.invariant-loop-a
 invariant-loop-a l =

@@ -1,8 +1,8 @@
 use Rattle.std.proofs.Common.{◌<◌, arith}
 use Rattle.std.proofs.lemmas.List.Elements.{All-push}
-use Rattle.pc_net.specs.declared.finishing.Turn.TheVariants.{Enter, Finish}
+use Rattle.pc_net.specs.declared.components.Turn.TheVariants.{Enter, Finish}
 use Rattle.pc_net.specs.inside.Turns.{event_at}
-use Rattle.pc_net.proofs.finishing.enter.Goals as goal
+use Rattle.pc_net.proofs.components.enter.Goals as goal
 
 pub index-requires : goal.index-requires
 index-requires c = omega (arith, c.requires.known, c.requires.sized)

@@ -1,6 +1,6 @@
 use Rattle.std.proofs.Common.{◌≡◌, replicate, ap, ◌∙◌, arith}
 use Rattle.pc_net.proofs.LabelLaws.{IsSpread-fresh}
-use Rattle.pc_net.proofs.labels.labels_of.Goals as goal
+use Rattle.pc_net.proofs.components.labels_of.Goals as goal
 
 pub spread_all-requires-clause-spread : goal.spread_all-requires-clause-spread
 spread_all-requires-clause-spread c =

@@ -1,8 +1,8 @@
 use Rattle.std.proofs.Common.{◌<◌, arith}
 use Rattle.std.proofs.lemmas.List.Elements.{All-push}
-use Rattle.pc_net.specs.declared.finishing.Turn.TheVariants.{Enter}
+use Rattle.pc_net.specs.declared.components.Turn.TheVariants.{Enter}
 use Rattle.pc_net.specs.inside.Turns.{event_at}
-use Rattle.pc_net.proofs.finishing.roots.Goals as goal
+use Rattle.pc_net.proofs.components.roots.Goals as goal
 
 pub loop-root-preserved : goal.loop-root-preserved
 loop-root-preserved c =

@@ -1,6 +1,6 @@
 use Rattle.std.proofs.Common.{arith}
 use Rattle.pc_net.proofs.LabelLaws.{IsSpread-short}
-use Rattle.pc_net.proofs.labels.spread.Goals as goal
+use Rattle.pc_net.proofs.components.spread.Goals as goal
 
 pub loop-at-smaller : goal.loop-at-smaller
 loop-at-smaller c =

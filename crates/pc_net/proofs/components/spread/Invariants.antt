@@ -1,6 +1,6 @@
 use Rattle.std.proofs.Common.{◌-◌}
 use Rattle.pc_net.specs.inside.Labels.{IsSpread}
-use Rattle.pc_net.proofs.labels.spread.Given as goal
+use Rattle.pc_net.proofs.components.spread.Given as goal
 
 abbrev pub invariant-loop-at : goal.invariant-loop-at
 invariant-loop-at l = IsSpread l.graph l.label l.reached.items l.labels.items l.at

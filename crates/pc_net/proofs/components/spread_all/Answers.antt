@@ -1,6 +1,6 @@
 use Rattle.std.proofs.Common.{arith}
 use Rattle.pc_net.proofs.LabelLaws.{IsSpread-lower, NeverFalls-from_spread}
-use Rattle.pc_net.proofs.labels.spread_all.Goals as goal
+use Rattle.pc_net.proofs.components.spread_all.Goals as goal
 
 pub spread_next-requires-clause-spread : goal.spread_next-requires-clause-spread
 spread_next-requires-clause-spread c =

@@ -1,7 +1,7 @@
 use Rattle.std.proofs.Common.{◌+◌, length}
 use Rattle.pc_net.specs.inside.Labels.{IsSpread}
 use Rattle.pc_net.specs.inside.Turns.{AreEvents}
-use Rattle.pc_net.proofs.labels.spread_all.Given as goal
+use Rattle.pc_net.proofs.components.spread_all.Given as goal
 
 abbrev pub invariant-loop-round : goal.invariant-loop-round
 invariant-loop-round l = record {

@@ -1,6 +1,6 @@
 use Rattle.std.proofs.Common.{◌≡◌, vec_len}
 use Rattle.pc_net.specs.inside.Turns.{AreEvents, AreTurns}
-use Rattle.pc_net.proofs.finishing.take_turns.Given as goal
+use Rattle.pc_net.proofs.components.take_turns.Given as goal
 
 abbrev pub invariant-loop : goal.invariant-loop
 invariant-loop l = record {

@@ -1,4 +1,4 @@
-use Rattle.pc_net.proofs.faults.check.Goals as goal
+use Rattle.pc_net.proofs.refusal.check.Goals as goal
 
 pub returns-clause-firm : goal.returns-clause-firm
 returns-clause-firm c = record {

@@ -1,6 +1,6 @@
 use Rattle.std.proofs.Common.{below_more, arith}
 use Rattle.pc_model.specs.Network.{IsDangling}
-use Rattle.pc_net.proofs.faults.dangling.Goals as goal
+use Rattle.pc_net.proofs.refusal.dangling.Goals as goal
 
 pub returns-then-is_dangling : goal.returns-then-is_dangling
 returns-then-is_dangling c = record {
