@@ -1,9 +1,7 @@
 //! Sums by item: what the items of a work breakdown structure add up to, and the lines of a level.
 #![tactic(auto)]
 
-mod amounts;
 pub mod figures;
-mod least;
 mod levels;
 mod totals;
 

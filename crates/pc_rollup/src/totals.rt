@@ -1,5 +1,5 @@
-//! The sum over what lies below each item.
-ghost use Rattle.std.specs.Prelude.{◌≡◌, ℕ, ◌^◌, ◌<◌, length, sum_by, unsigned_abs, IfOk};
+//! The sum over what lies below each item: of one amount an item, or of amounts column by column.
+ghost use Rattle.std.specs.Prelude.{◌≡◌, ℕ, ◌^◌, ◌<◌, length, sum_by, unsigned_abs, IfOk, List, ℤ, ◌∷◌, []};
 ghost use Rattle.pc_rollup.specs.inside.Totals.{
   AreAtLeaves,
   AreRolledUp,
@@ -9,11 +9,37 @@ ghost use Rattle.pc_rollup.specs.inside.Totals.{
   AreOnLeaves,
   place_of,
 };
-ghost use Rattle.pc_rollup.specs.inside.Amounts.{CanBeRolled, AreRolled};
+ghost use Rattle.pc_rollup.specs.inside.Amounts.{CanBeRolled, AreRolled, CanBeAdded, IsSum, CanTake, HaveTaken};
 
-use crate::amounts::{Amounts, add_at};
 use pc_wbs::Tree;
 use std::alloc::{AllocError, Global};
+
+/// What an item of a report has: one amount for each column.
+pub(crate) trait Amounts: Copy {
+    ghost columns: { Self → List ℤ };
+
+    /// Returns the sum of both in each column.
+    fn plus(self, more: Self) -> Self
+        requires { CanBeAdded (columns self) (columns more) }
+        ensures { IsSum (columns self) (columns more) (columns result) };
+}
+
+impl Amounts for i64 {
+    ghost columns = { λ amount. amount ∷ [] };
+
+    fn plus(self, more: i64) -> i64 {
+        self + more
+    }
+}
+
+/// Adds amounts to those of an item.
+pub(crate) fn add_at<A: Amounts>(items: &mut [A], item: u32, more: A)
+    requires { CanTake A.columns items.old item more }
+    ensures { HaveTaken A.columns items.old item more items.new }
+{
+    let i = item as usize;
+    items[i] = items[i].plus(more);
+}
 
 /// Returns for each item the sum over the leaves at or below it, from one amount per item. Linear in the items.
 ///

@@ -14,9 +14,8 @@ ghost use Rattle.pc_rollup.specs.inside.figures.OutlookParts.{
   outlook_columns,
 };
 
-use crate::amounts::{Amounts, add_at};
 use crate::figures::outline::{OutlineRow, outline_of};
-use crate::totals::roll;
+use crate::totals::{Amounts, add_at, roll};
 use pc_accounts::{AcctRow, Entry};
 use pc_wbs::Tree;
 use std::alloc::{AllocError, Global};

@@ -15,10 +15,9 @@ ghost use Rattle.pc_rollup.specs.figures.Outline.{row_at};
 ghost use Rattle.pc_rollup.specs.figures.Summary.{IsSummaryOf, AreBooked, CountsOnce, item_amounts, level_amounts};
 ghost use Rattle.pc_rollup.specs.inside.figures.Columns.{AreSumsByItem, summary_columns};
 
-use crate::amounts::{Amounts, add_at};
 use crate::each_leaf_has_one_line;
 use crate::figures::outline::{OutlineRow, outline_of};
-use crate::totals::roll;
+use crate::totals::{Amounts, add_at, roll};
 use pc_accounts::{AcctRow, Entry};
 use pc_wbs::Tree;
 use std::alloc::{AllocError, Global};

@@ -19,8 +19,7 @@ ghost use Rattle.pc_rollup.specs.figures.Worth.{IsWorthOf, worth_amounts};
 ghost use Rattle.pc_rollup.specs.inside.figures.Columns.{AreSumsByItem, worth_columns};
 ghost use Rattle.pc_rollup.specs.inside.figures.Packages.{AreProgress, worth_at, worth_of};
 
-use crate::amounts::{Amounts, add_at};
-use crate::totals::roll;
+use crate::totals::{Amounts, add_at, roll};
 use pc_accounts::{AcctRow, Entry};
 use pc_times::ActState;
 use pc_wbs::Tree;

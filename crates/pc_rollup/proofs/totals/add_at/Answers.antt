@@ -1,5 +1,5 @@
 use Rattle.pc_rollup.proofs.ColumnLaws.{column_more}
-use Rattle.pc_rollup.proofs.amounts.add_at.Goals as goal
+use Rattle.pc_rollup.proofs.totals.add_at.Goals as goal
 
 pub returns : goal.returns
 returns g c = λ k.

@@ -3,7 +3,7 @@ use Rattle.std.proofs.lemmas.Int.{to_z-of_z}
 use mir.Val.{SFits}
 use Rattle.pc_rollup.specs.inside.Totals.{amount_of}
 use Rattle.pc_rollup.proofs.LeastLaws.{AreLeastOn-more}
-use Rattle.pc_rollup.proofs.least.least_by_item.Goals as goal
+use Rattle.pc_rollup.proofs.figures.slacks.least_by_item.Goals as goal
 
 pub loop-p-preserved : goal.loop-p-preserved
 loop-p-preserved c =

@@ -4,7 +4,7 @@ use Rattle.pc_wbs.specs.declared.tree.ItemRow.{ItemRow}
 use Rattle.pc_wbs.specs.Preorder.{IsPreorder}
 use Rattle.pc_rollup.proofs.BackLaws.{all_came, order_of, place_of_turn}
 use Rattle.pc_rollup.proofs.LeastLaws.{least_none, least_taken, least_top, least_all}
-use Rattle.pc_rollup.proofs.least.least_of.Goals as goal
+use Rattle.pc_rollup.proofs.figures.slacks.least_of.Goals as goal
 
 pub loop-item-init : goal.loop-item-init
 loop-item-init c =
