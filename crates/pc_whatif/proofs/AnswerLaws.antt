@@ -16,7 +16,7 @@ use Rattle.pc_whatif.specs.declared.edits.ask.Edit.{Edit}
 use Rattle.pc_whatif.specs.declared.edits.ask.Trial.{Trial}
 use Rattle.pc_whatif.specs.declared.edits.reason.Reason.{Reason}
 use Rattle.pc_whatif.specs.declared.edits.reason.Reason.TheVariants.{NothingToUndo, OutsideRange}
-use Rattle.pc_whatif.specs.declared.edits.edits.ActTerm.{ActTerm}
+use Rattle.pc_whatif.specs.declared.edits.ActTerm.{ActTerm}
 use Rattle.pc_whatif.specs.edits.Editing.{Editing, activity_named, edited, undone, editing_with, net_trying}
 use Rattle.pc_whatif.specs.edits.Plans.{Plan, term_tried}
 use Rattle.pc_whatif.specs.edits.Refusal.{edit_refusal, undo_refusal, trial_refusal}

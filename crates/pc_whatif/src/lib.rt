@@ -2,12 +2,9 @@
 #![tactic(auto)]
 
 mod edits;
-mod laws;
-mod replies;
 mod session;
 mod top;
 mod trials;
 
-pub use crate::laws::{answers_are_one_text, edits_stand_in_order};
-pub use crate::session::Session;
+pub use crate::session::{Session, answers_are_one_text, edits_stand_in_order};
 pub use crate::top::session_run;

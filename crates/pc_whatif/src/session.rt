@@ -1,5 +1,5 @@
-//! A session, the answers to its lines, and the side of a talk that it is.
-ghost use Rattle.std.specs.Prelude.{◌≡◌, length, IfOk, ℕ, List, None, Some};
+//! A session, the answers to its lines, the side of a talk that it is, and the laws of its answers to any lines.
+ghost use Rattle.std.specs.Prelude.{◌≡◌, length, IfOk, ℕ, List, None, Some, ◌+◌, ◌≤◌, ◌++◌, [], ◌∷◌, decimal};
 ghost use Rattle.pc_whatif.specs.edits.Editing.{begun};
 ghost use Rattle.pc_whatif.specs.inside.trials.Trials.{trial_cells};
 ghost use Rattle.pc_whatif.specs.inside.Planning.{
@@ -14,17 +14,25 @@ ghost use Rattle.pc_whatif.specs.inside.Planning.{
 };
 ghost use Rattle.pc_edges.specs.inside.Writes.{Writes};
 ghost use Rattle.pc_whatif.specs.edits.Reading.{ask_of};
-ghost use Rattle.pc_whatif.specs.declared.edits.ask.Ask.TheVariants as asks;
 ghost use Rattle.pc_crash.specs.inside.Steps.{IsBlankOf};
+ghost use Rattle.pc_whatif.specs.Texts.{ok_text, refused_text, cost_text};
+ghost use Rattle.pc_whatif.specs.edits.Standing.{Stands, empty};
+ghost use Rattle.pc_project.specs.Planned.{IsPlanned};
+ghost use Rattle.pc_project.specs.Project.{Project};
+ghost use Rattle.pc_whatif.specs.Planning.{AnswersLines};
+ghost use Rattle.pc_whatif.specs.Standing.{AnswersByJournal, editing_of, journal_of};
+ghost use Rattle.pc_whatif.specs.declared.edits.ask.Ask.TheVariants as asks;
 
 use crate::edits::{Ask, Edit, Edits, Reason, Trial};
-use crate::replies::{accept, refuse, tell_cost};
 use crate::trials::SessionRegion;
+use arrayvec::ArrayVec;
 use pc_crash::Steps;
 use pc_edges::lines::Answers;
 use pc_edges::page::{PAGE_ROOM, Page};
 use pc_edges::{Failed, Sink};
 use pc_project::Project;
+use pc_shell::send;
+use pc_text::digits;
 use std::alloc::{AllocError, Global};
 use std::marker::{Brand, Model};
 use std::sync::ledger::{Blank, Ledger};
@@ -267,3 +275,65 @@ fn counted<O: Sink, L: Ledger>(
     let mut steps = Steps::<L>::new(blank);
     session.answer(line, out, &mut steps)
 }
+
+/// The capacity of a short answer, in bytes.
+const REPLY_ROOM: usize = 32;
+
+/// Writes that the line was accepted.
+fn accept<O: Sink>(out: &mut O) -> Result<(), Failed>
+    ensures { Writes result (O.taken out.old) (O.taken out.new) (O.faults out.old) (O.faults out.new) ok_text }
+{
+    send(out, b"OK\n")
+}
+
+/// Writes the number of the reason for which the line was refused.
+fn refuse<O: Sink>(reason: Reason, out: &mut O) -> Result<(), Failed>
+    ensures { Writes result (O.taken out.old) (O.taken out.new) (O.faults out.old) (O.faults out.new)
+        (refused_text reason) }
+{
+    send(out, reply(b"NO ", reason.number()).as_slice())
+}
+
+/// Writes the least cost of a trial.
+fn tell_cost<O: Sink>(cost: u64, out: &mut O) -> Result<(), Failed>
+    ensures { Writes result (O.taken out.old) (O.taken out.new) (O.faults out.old) (O.faults out.new) (cost_text cost) }
+{
+    send(out, reply(b"COST ", cost).as_slice())
+}
+
+/// Returns a line with a word and a number.
+fn reply(word: &[u8], number: u64) -> ArrayVec<u8, REPLY_ROOM>
+    requires { length word.now ≤ 8 }
+    ensures { result.items ≡ word.now ++ (decimal number ++ 10 ∷ []) }
+{
+    let mut line = ArrayVec::new();
+    put(&mut line, word);
+    put(&mut line, digits(number).bytes());
+    put(&mut line, b"\n");
+    line
+}
+
+/// Appends a piece to the line.
+fn put(line: &mut ArrayVec<u8, REPLY_ROOM>, piece: &[u8])
+    requires { length line.old.items + length piece.now ≤ REPLY_ROOM }
+    ensures { line.new.items ≡ line.old.items ++ piece.now }
+{
+    line.try_extend_from_slice(piece).unwrap();
+}
+
+/// Shows that after any lines the project is the deck's with the standing edits applied in order.
+///
+/// An edit stands if it was accepted and not taken back. Each line is answered on the project with the edits that stand
+/// at that line.
+pub fn edits_stand_in_order()
+    ensures stands { (project : Project) (lines : List (List ℕ)) →
+        Stands project (journal_of project empty lines) (editing_of (begun project) lines) }
+    ensures answers { (project : Project) (lines : List (List ℕ)) (text : List ℕ) →
+        AnswersLines project lines text → AnswersByJournal project empty lines text }
+{}
+
+/// Shows that the project of a deck and the lines fix the text of the answers.
+pub fn answers_are_one_text()
+    ensures { (project : Project) → IsPlanned project → (lines : List (List ℕ)) (text other : List ℕ)
+        → AnswersLines project lines text → AnswersLines project lines other → text ≡ other }
+{}

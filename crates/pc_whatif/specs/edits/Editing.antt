@@ -8,8 +8,8 @@ use Rattle.pc_project.specs.Project.{Project}
 use Rattle.pc_project.specs.declared.estimates.Estimates.{Estimates}
 use Rattle.pc_shell.specs.Priced.{priced_in}
 use Rattle.pc_whatif.specs.declared.edits.ask.Edit.{Edit}
-use Rattle.pc_whatif.specs.declared.edits.edits.TheConstants.{MAX_KEPT}
-use Rattle.pc_whatif.specs.declared.edits.edits.ActTerm.{ActTerm}
+use Rattle.pc_whatif.specs.declared.edits.TheConstants.{MAX_KEPT}
+use Rattle.pc_whatif.specs.declared.edits.ActTerm.{ActTerm}
 use Rattle.pc_whatif.specs.edits.Plans.{Plan, plan_with, estimates_in}
 
 -- the project as it is now: its priced network, the estimates of its activities, and how many days a unit is; and the plans

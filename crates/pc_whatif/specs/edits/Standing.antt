@@ -5,7 +5,7 @@ use Rattle.pc_crash.specs.Priced.{PricedNetwork}
 use Rattle.pc_project.specs.Project.{Project}
 use Rattle.pc_shell.specs.Priced.{priced_in}
 use Rattle.pc_whatif.specs.declared.edits.ask.Edit.{Edit}
-use Rattle.pc_whatif.specs.declared.edits.edits.TheConstants.{MAX_KEPT}
+use Rattle.pc_whatif.specs.declared.edits.TheConstants.{MAX_KEPT}
 use Rattle.pc_whatif.specs.edits.Plans.{Plan, plan_with}
 use Rattle.pc_whatif.specs.edits.Editing.{Editing, activity_named, begun, editing_with, plan_of}
 

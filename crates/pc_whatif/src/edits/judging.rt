@@ -13,8 +13,8 @@ ghost use Rattle.pc_model.specs.Pieces.{ArePieces, pieces_of};
 ghost use Rattle.pc_crash.specs.Terms.{AreWithinLimits};
 
 use crate::edits::ask::{Change, Edit, Trial};
-use crate::edits::edits::{ActTerm, estimates_with, term_with};
 use crate::edits::reason::Reason;
+use crate::edits::{ActTerm, estimates_with, term_with};
 use pc_crash::CrashNet;
 use pc_model::{MAX_DURATION, MAX_SLOPE, Term};
 use pc_project::Estimates;

@@ -20,9 +20,9 @@ use Rattle.pc_project.proofs.MakesLaws.{no_misfit}
 use Rattle.pc_shell.specs.Priced.{priced_in}
 use Rattle.pc_whatif.specs.edits.Plans.{estimates_at, estimates_in}
 use Rattle.pc_whatif.specs.inside.edits.Plans.{AreEstimates}
-use Rattle.pc_whatif.specs.declared.edits.edits.KeptEdit.{KeptEdit}
-use Rattle.pc_whatif.specs.declared.edits.edits.Edits.TheInside.{Inside}
-use Rattle.pc_whatif.specs.declared.edits.edits.TheConstants.{MAX_KEPT}
+use Rattle.pc_whatif.specs.declared.edits.KeptEdit.{KeptEdit}
+use Rattle.pc_whatif.specs.declared.edits.Edits.TheInside.{Inside}
+use Rattle.pc_whatif.specs.declared.edits.TheConstants.{MAX_KEPT}
 use Rattle.pc_whatif.specs.edits.Editing.{begun}
 use Rattle.pc_whatif.specs.inside.edits.Editing.{IsEditing}
 use Rattle.pc_whatif.specs.inside.edits.Inside.{IsWholeInside, editing_in, plans_back}

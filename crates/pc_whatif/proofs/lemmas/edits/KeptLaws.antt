@@ -1,7 +1,7 @@
 -- The plans to which kept edits go back.
 use Rattle.std.proofs.Common.{◌≡◌, ℕ, zero, suc, ◌-◌, List, [], ◌∷◌, ◌++◌, length, drop, refl, sym, ◌∙◌, ap}
 use Rattle.circular_buffer.specs.Buffer.{keep_last}
-use Rattle.pc_whatif.specs.declared.edits.edits.KeptEdit.{KeptEdit}
+use Rattle.pc_whatif.specs.declared.edits.KeptEdit.{KeptEdit}
 use Rattle.pc_whatif.specs.edits.Plans.{Plan, plan_with}
 use Rattle.pc_whatif.specs.inside.edits.Inside.{plan_back, plans_back}
 

@@ -8,7 +8,7 @@ use Rattle.pc_crash.specs.Priced.{PricedNetwork}
 use Rattle.pc_project.specs.Project.{Project}
 use Rattle.pc_shell.specs.Priced.{priced_in}
 use Rattle.pc_whatif.specs.declared.edits.ask.Edit.{Edit}
-use Rattle.pc_whatif.specs.declared.edits.edits.TheConstants.{MAX_KEPT}
+use Rattle.pc_whatif.specs.declared.edits.TheConstants.{MAX_KEPT}
 use Rattle.pc_whatif.specs.edits.Plans.{Plan, plan_with}
 use Rattle.pc_whatif.specs.edits.Editing.{Editing, activity_named, begun, edited, editing_with, plan_of, undone}
 use Rattle.pc_whatif.specs.edits.Standing.{Journal, Stands, empty, noted, activity_of_edit, plan_after, plans_before, standing_of, taken_back}

@@ -8,7 +8,7 @@ use Rattle.pc_cells.specs.declared.region.Span.{Span}
 use Rattle.pc_cells.specs.Spans.{Cells}
 use Rattle.pc_cells.specs.inside.Spans.{span_at, with_span, free_of, IsSpan}
 use Rattle.pc_cells.proofs.LiveLaws.{live-set}
-use Rattle.pc_whatif.specs.declared.trials.region.Spans.{Spans}
+use Rattle.pc_whatif.specs.declared.trials.Spans.{Spans}
 use Rattle.pc_whatif.specs.inside.trials.Laid.{AreAtMost, IsLaidIn, list_of}
 
 -- another list of its length in a span: all spans are together as long as before

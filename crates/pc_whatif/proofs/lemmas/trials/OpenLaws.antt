@@ -7,7 +7,7 @@ use Rattle.pc_cells.specs.Spans.{Cells}
 use Rattle.pc_cells.specs.inside.Spans.{free_of, with_span}
 use Rattle.pc_model.specs.declared.limits.TheConstants.{MAX_VARIANCE}
 use Rattle.pc_times.specs.declared.TheConstants.{MAX_ACTIVITY_LENGTH}
-use Rattle.pc_whatif.specs.declared.trials.region.Spans.{Spans}
+use Rattle.pc_whatif.specs.declared.trials.Spans.{Spans}
 use Rattle.pc_whatif.specs.inside.trials.SessionRegion.{SessionRegion}
 use Rattle.pc_whatif.specs.inside.trials.Laid.{AreAtMost, AreSpansTaken, IsLaidIn, IsWhole, kept_in, list_of}
 use Rattle.pc_whatif.proofs.lemmas.trials.LaidLaws.{IsPut, put}

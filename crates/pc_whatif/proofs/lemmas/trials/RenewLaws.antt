@@ -7,7 +7,7 @@ use Rattle.pc_times.specs.Picked.{IsPickedWalk}
 use Rattle.pc_times.specs.Times.{AreEarly}
 use Rattle.pc_times.specs.inside.Times.{AreTails}
 use Rattle.pc_times.specs.declared.TheConstants.{MAX_TIME}
-use Rattle.pc_whatif.specs.declared.trials.region.Spans.{Spans}
+use Rattle.pc_whatif.specs.declared.trials.Spans.{Spans}
 use Rattle.pc_whatif.specs.inside.trials.Laid.{AreAtMost, AreRenewed, IsLaidIn, list_of}
 use Rattle.pc_whatif.proofs.lemmas.trials.LaidLaws.{IsPut, put}
 

@@ -7,8 +7,8 @@ use Rattle.pc_model.specs.Pieces.{ArePieces}
 use Rattle.pc_model.specs.Schedule.{AreTerms, term_at}
 use Rattle.pc_crash.specs.Priced.{PricedNetwork}
 use Rattle.pc_crash.specs.Terms.{AreWithinLimits}
-use Rattle.pc_whatif.specs.declared.edits.edits.TheConstants.{MAX_KEPT}
-use Rattle.pc_whatif.specs.declared.edits.edits.ActTerm.{ActTerm}
+use Rattle.pc_whatif.specs.declared.edits.TheConstants.{MAX_KEPT}
+use Rattle.pc_whatif.specs.declared.edits.ActTerm.{ActTerm}
 use Rattle.pc_whatif.specs.edits.Plans.{estimates_at}
 use Rattle.pc_whatif.specs.inside.edits.Plans.{IsFitPlan}
 use Rattle.pc_whatif.specs.edits.Editing.{Editing, plan_of, net_trying}

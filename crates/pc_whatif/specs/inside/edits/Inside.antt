@@ -8,10 +8,10 @@ use Rattle.pc_crash.specs.inside.Priced.{AreNames}
 use Rattle.pc_project.specs.declared.estimates.Estimates.{Estimates}
 use Rattle.pc_whatif.specs.declared.edits.ask.Change.{Change}
 use Rattle.pc_whatif.specs.declared.edits.ask.Change.TheVariants.{Estimate, Normal, Crash, Slope}
-use Rattle.pc_whatif.specs.declared.edits.edits.KeptEdit.{KeptEdit}
-use Rattle.pc_whatif.specs.declared.edits.edits.ActTerm.{ActTerm}
-use Rattle.pc_whatif.specs.declared.edits.edits.Edits.TheInside.{Inside}
-use Rattle.pc_whatif.specs.declared.edits.edits.TheConstants.{MAX_KEPT}
+use Rattle.pc_whatif.specs.declared.edits.KeptEdit.{KeptEdit}
+use Rattle.pc_whatif.specs.declared.edits.ActTerm.{ActTerm}
+use Rattle.pc_whatif.specs.declared.edits.Edits.TheInside.{Inside}
+use Rattle.pc_whatif.specs.declared.edits.TheConstants.{MAX_KEPT}
 use Rattle.pc_whatif.specs.edits.Plans.{Plan, plan_with}
 use Rattle.pc_whatif.specs.edits.Editing.{Editing}
 use Rattle.pc_whatif.specs.inside.edits.Editing.{Edits, IsEditing}

@@ -8,8 +8,8 @@ use Rattle.pc_times.specs.Picked.{IsPickedWalk}
 use Rattle.pc_times.specs.Times.{AreEarly}
 use Rattle.pc_times.specs.inside.Times.{AreTails}
 use Rattle.pc_times.specs.declared.TheConstants.{MAX_ACTIVITY_LENGTH, MAX_TIME}
-use Rattle.pc_whatif.specs.declared.trials.region.SessionRegion.TheInside.{Inside}
-use Rattle.pc_whatif.specs.declared.trials.region.Spans.{Spans}
+use Rattle.pc_whatif.specs.declared.trials.SessionRegion.TheInside.{Inside}
+use Rattle.pc_whatif.specs.declared.trials.Spans.{Spans}
 use Rattle.pc_whatif.specs.inside.trials.SessionRegion.{SessionRegion}
 
 -- the spans are the first five of a region

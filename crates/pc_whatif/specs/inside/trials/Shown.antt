@@ -2,7 +2,7 @@
 use Rattle.std.specs.Prelude.{ℕ, ◌^◌, ◌<◌, ℤ, pos, ◌-ℤ◌, unsigned_abs, List, length, map, slice_index}
 use Rattle.pc_times.specs.declared.TheConstants.{MAX_TIME}
 use Rattle.pc_reports.specs.inside.View.{Shown}
-use Rattle.pc_whatif.specs.declared.trials.view.StandingTimes.TheInside.{Inside}
+use Rattle.pc_whatif.specs.declared.trials.StandingTimes.TheInside.{Inside}
 use Rattle.pc_whatif.specs.inside.trials.Laid.{AreAtMost}
 
 -- the latest times, by the time to be met at the end and the greatest sums to it

@@ -3,8 +3,8 @@ use Rattle.pc_times.specs.Picked.{IsPickedWalk}
 use Rattle.pc_times.specs.Times.{AreLengths, AreEarly}
 use Rattle.pc_times.specs.inside.Times.{AreTails}
 use Rattle.pc_whatif.proofs.lemmas.trials.RenewLaws.{HasEarly, HasTails, has-early, has-tails, renewed}
-use Rattle.pc_whatif.proofs.trials.region.renew_times.Goals.{After-write, After-write-2}
-use Rattle.pc_whatif.proofs.trials.region.renew_times.Goals as goal
+use Rattle.pc_whatif.proofs.trials.renew_times.Goals.{After-write, After-write-2}
+use Rattle.pc_whatif.proofs.trials.renew_times.Goals as goal
 
 early_there : (c : After-write) → HasEarly c.args.spans.now c.args.region.now c.write.new.self
 early_there c =

@@ -2,8 +2,8 @@ use Rattle.std.proofs.Common.{◌≡◌, length, refl, sym, ap, subst, ◌∙◌
 use Rattle.pc_whatif.specs.inside.trials.Laid.{IsLaidIn, IsWhole, kept_in, list_of, region_of}
 use Rattle.pc_whatif.specs.inside.trials.SessionRegion.{SessionRegion, expected_by}
 use Rattle.pc_whatif.proofs.lemmas.trials.KeptLaws.{with_numbers, AreSet, region-found, laid-set, laid-both, kept-both, early-both, whole-both, variance-small}
-use Rattle.pc_whatif.proofs.trials.region.SessionRegion.set_estimates.Goals as goal
-use Rattle.pc_whatif.proofs.trials.region.SessionRegion.set_estimates.Goals.{After-set-2}
+use Rattle.pc_whatif.proofs.trials.SessionRegion.set_estimates.Goals as goal
+use Rattle.pc_whatif.proofs.trials.SessionRegion.set_estimates.Goals.{After-set-2}
 
 -- the region of the fields, in which two numbers were set
 found : (c : After-set-2) → region_of c.self.inside ≡ c.in-Some.region

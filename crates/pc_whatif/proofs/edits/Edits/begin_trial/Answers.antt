@@ -1,7 +1,7 @@
 use Rattle.std.proofs.Common.{ap, ◌<◌, length, arith}
 use Rattle.pc_whatif.specs.inside.edits.Editing.{Edits}
 use Rattle.pc_whatif.proofs.lemmas.edits.InsideLaws.{trial_view, trial_whole}
-use Rattle.pc_whatif.proofs.edits.edits.Edits.begin_trial.Goals as goal
+use Rattle.pc_whatif.proofs.edits.Edits.begin_trial.Goals as goal
 
 -- the activity is one of the network's
 tried_known : (c : goal.After-set_term) → c.args.tried.now.activity < length c.self.inside.net.network.arcs

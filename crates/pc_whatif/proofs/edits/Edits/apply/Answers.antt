@@ -9,7 +9,7 @@ use Rattle.pc_whatif.specs.edits.Standing.{Stands, noted}
 use Rattle.pc_whatif.proofs.lemmas.edits.InsideLaws.{edit_touched, edit_undone, edit_view, edit_whole}
 use Rattle.pc_whatif.proofs.lemmas.edits.PlanLaws.{no_estimates}
 use Rattle.pc_whatif.proofs.lemmas.edits.StandingLaws.{Stands-edited}
-use Rattle.pc_whatif.proofs.edits.edits.Edits.apply.Goals as goal
+use Rattle.pc_whatif.proofs.edits.Edits.apply.Goals as goal
 
 -- what is kept is what was there
 was : (c : goal.After-push_back) → c.replaced-was.result ≡ replaced c.args.edit.now.change (term_at c.self.inside.net.terms c.in_ok-a.a) (estimates_at c.self.inside.estimates.items c.in_ok-a.a)

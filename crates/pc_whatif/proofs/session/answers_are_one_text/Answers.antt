@@ -1,5 +1,5 @@
 use Rattle.pc_whatif.proofs.OneTextLaws.{one_text}
-use Rattle.pc_whatif.proofs.laws.answers_are_one_text.Goals as goal
+use Rattle.pc_whatif.proofs.session.answers_are_one_text.Goals as goal
 
 pub returns : goal.returns
 returns c = one_text

@@ -3,7 +3,7 @@ use Rattle.pc_whatif.specs.inside.edits.Editing.{Edits}
 use Rattle.pc_whatif.specs.edits.Standing.{Stands, taken_back}
 use Rattle.pc_whatif.proofs.lemmas.edits.InsideLaws.{undo_accepted, undo_fits, undo_some, undo_touched, undo_view, undo_whole}
 use Rattle.pc_whatif.proofs.lemmas.edits.StandingLaws.{Stands-undone}
-use Rattle.pc_whatif.proofs.edits.edits.Edits.undo.Goals as goal
+use Rattle.pc_whatif.proofs.edits.Edits.undo.Goals as goal
 
 pub put-requires-clause-fits : goal.put-requires-clause-fits
 put-requires-clause-fits c =

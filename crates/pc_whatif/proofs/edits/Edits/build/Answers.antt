@@ -1,10 +1,10 @@
 use Rattle.std.proofs.Common.{◌≡◌, None, refl, sym, subst}
-use Rattle.pc_whatif.specs.declared.edits.edits.Edits.TheInside.{Inside}
+use Rattle.pc_whatif.specs.declared.edits.Edits.TheInside.{Inside}
 use Rattle.pc_shell.specs.Priced.{priced_in}
 use Rattle.pc_whatif.specs.edits.Standing.{Stands, empty}
 use Rattle.pc_whatif.proofs.lemmas.edits.BegunLaws.{begun_whole, editing_is}
 use Rattle.pc_whatif.proofs.lemmas.edits.StandingLaws.{Stands-begun}
-use Rattle.pc_whatif.proofs.edits.edits.Edits.build.Goals as goal
+use Rattle.pc_whatif.proofs.edits.Edits.build.Goals as goal
 
 -- the priced network is the project's
 net_is : (c : goal.In_ok-priced) → c.in_ok-priced.field-0 ≡ priced_in c.args.project.now

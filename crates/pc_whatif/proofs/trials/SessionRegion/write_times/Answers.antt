@@ -9,7 +9,7 @@ use Rattle.pc_times.specs.declared.TheConstants.{MAX_ACTIVITY_LENGTH, MAX_TIME}
 use Rattle.pc_whatif.specs.inside.trials.Laid.{AreAtMost}
 use Rattle.pc_whatif.specs.inside.trials.SessionRegion.{path_in}
 use Rattle.pc_whatif.proofs.lemmas.trials.TimesLaws.{path-known, shown_by, shown-is, shown-fits, read-back, small-back, times-are, text-same}
-use Rattle.pc_whatif.proofs.trials.region.SessionRegion.write_times.Goals as goal
+use Rattle.pc_whatif.proofs.trials.SessionRegion.write_times.Goals as goal
 
 pub invariant_of-view : goal.invariant_of-view
 invariant_of-view g c =

@@ -6,8 +6,8 @@ use Rattle.pc_whatif.specs.inside.trials.SessionRegion.{IsFor}
 use Rattle.pc_whatif.specs.inside.trials.Laid.{IsLaidIn}
 use Rattle.pc_whatif.proofs.lemmas.trials.OpenLaws.{IsOpened, laid-2, is-opened}
 use Rattle.pc_flow.proofs.OpeningLaws.{some-activities}
-use Rattle.pc_whatif.proofs.trials.region.SessionRegion.build_from.Goals.{After-write, After-write-2}
-use Rattle.pc_whatif.proofs.trials.region.SessionRegion.build_from.Goals as goal
+use Rattle.pc_whatif.proofs.trials.SessionRegion.build_from.Goals.{After-write, After-write-2}
+use Rattle.pc_whatif.proofs.trials.SessionRegion.build_from.Goals as goal
 
 laid_there : (c : After-write) → IsLaidIn c.write.new.self c.take_spans-spans.result
 laid_there c =

@@ -2,7 +2,7 @@ use Rattle.std.proofs.Common.{length, refl, ap, subst, arith}
 use Rattle.std.specs.Vec.{with_items}
 use Rattle.pc_whatif.specs.inside.trials.Laid.{IsWhole, kept_in}
 use Rattle.pc_whatif.proofs.lemmas.trials.KeptLaws.{region-found, renewed-whole}
-use Rattle.pc_whatif.proofs.trials.region.SessionRegion.renew.Goals as goal
+use Rattle.pc_whatif.proofs.trials.SessionRegion.renew.Goals as goal
 
 pub invariant_of-self : goal.invariant_of-self
 invariant_of-self c =
