@@ -6,7 +6,7 @@ use Rattle.pc_model.specs.declared.Knee.{Knee}
 use Rattle.pc_model.specs.declared.PieceRow.{PieceRow}
 use Rattle.pc_model.specs.declared.Term.{Term}
 use Rattle.pc_crash.specs.declared.crash_net.CrashNet.TheInside.{Inside}
-use Rattle.pc_crash.specs.declared.laying.PriceRow.{PriceRow}
+use Rattle.pc_crash.specs.declared.price_table.PriceRow.{PriceRow}
 use Rattle.pc_crash.specs.inside.CrashNets.{priced_network, IsWholeInside}
 use Rattle.pc_crash.specs.inside.KneeLists.{AreKneesOf}
 use Rattle.pc_crash.specs.inside.Laid.{AreLaid, IsRowOf, part_of}

@@ -41,8 +41,8 @@ use Rattle.pc_model.specs.Walk.{from_of, to_of}
 use Rattle.pc_model.specs.inside.Greatest.{IsListed}
 use Rattle.pc_model.proofs.Walks.ListedLaws.{IsListed-places, IsListed-same}
 use Rattle.pc_net.specs.Networks.{events_from, events_to}
-use Rattle.pc_crash.specs.declared.linking.Link.{Link}
-use Rattle.pc_crash.specs.declared.linking.LinkRow.{LinkRow}
+use Rattle.pc_crash.specs.declared.link_table.Link.{Link}
+use Rattle.pc_crash.specs.declared.link_table.LinkRow.{LinkRow}
 use Rattle.pc_crash.specs.inside.Links.{AreLinked, IsLinkRowOf, activities_of, link_at, link_of, link_row_at, links_of}
 
 -- a part of a list is the same after more is put behind it

@@ -15,7 +15,7 @@ use Rattle.pc_model.specs.Pieces.{ArePieces, pieces_of, rise_in, slope_in, units
 use Rattle.pc_model.specs.inside.Pieces.{knee_at}
 use Rattle.pc_model.specs.Schedule.{AreTerms, term_at}
 use Rattle.pc_model.specs.Walk.{arc_at}
-use Rattle.pc_crash.specs.declared.laying.PriceRow.{PriceRow}
+use Rattle.pc_crash.specs.declared.price_table.PriceRow.{PriceRow}
 use Rattle.pc_crash.specs.inside.KneeLists.{AreSmallKnees, knee_list}
 use Rattle.pc_crash.specs.inside.Laid.{AreLaid, IsRowOf, part_of, row_at}
 use Rattle.pc_crash.specs.declared.crash_net.CrashNet.TheInside.{Inside}

@@ -40,10 +40,10 @@ ghost use Rattle.pc_model.specs.inside.Pieces.{knee_at};
 ghost use Rattle.pc_model.specs.Sums.{sum_to};
 ghost use Rattle.pc_crash.specs.inside.Moved.{AreMoved, IsMovable, moved_knee};
 
-use crate::counting::Steps;
 use crate::knee_list::KneeList;
-use crate::laying::{PriceTable, laid_out};
-use crate::linking::{Link, LinkTable, linked};
+use crate::link_table::{Link, LinkTable, linked};
+use crate::price_table::{PriceTable, laid_out};
+use crate::steps::Steps;
 use pc_model::{Knee, PieceRow, Term};
 use pc_names::Names;
 use pc_net::Net;

@@ -2,18 +2,18 @@
 //! price of a unit rises.
 #![tactic(auto)]
 
-mod counting;
 mod crash_net;
 mod knee_list;
-mod laying;
-mod linking;
-mod one_cost;
-mod viewing;
+mod link_table;
+mod pieces;
+mod price_table;
+mod segment_view;
+mod steps;
 
-pub use counting::Steps;
 pub use crash_net::{CrashNet, Look, MAX_ACTIVITY_COST, MAX_PROJECT_COST};
 pub use knee_list::{KneeList, Knees};
-pub use linking::Link;
-pub use one_cost::cost_of_one;
+pub use link_table::Link;
 pub use pc_model::{Knee, PieceRow, Term};
-pub use viewing::SegmentView;
+pub use pieces::cost_of_one;
+pub use segment_view::SegmentView;
+pub use steps::Steps;

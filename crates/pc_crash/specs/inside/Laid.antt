@@ -8,7 +8,7 @@ use Rattle.pc_model.specs.declared.limits.TheConstants.{MAX_PIECES_EACH}
 use Rattle.pc_model.specs.Pieces.{pieces_of}
 use Rattle.pc_model.specs.Schedule.{term_at}
 use Rattle.pc_model.specs.Walk.{arc_at}
-use Rattle.pc_crash.specs.declared.laying.PriceRow.{PriceRow}
+use Rattle.pc_crash.specs.declared.price_table.PriceRow.{PriceRow}
 use Rattle.pc_crash.specs.inside.KneeLists.{knee_list}
 
 -- the row of activity a; past their end one of zeros

@@ -5,8 +5,8 @@ use Rattle.pc_model.specs.declared.limits.TheConstants.{MAX_ACTIVITIES}
 use Rattle.pc_model.specs.Greatest.{places}
 use Rattle.pc_model.specs.Walk.{from_of, to_of}
 use Rattle.pc_net.specs.Networks.{events_from, events_to}
-use Rattle.pc_crash.specs.declared.linking.Link.{Link}
-use Rattle.pc_crash.specs.declared.linking.LinkRow.{LinkRow}
+use Rattle.pc_crash.specs.declared.link_table.Link.{Link}
+use Rattle.pc_crash.specs.declared.link_table.LinkRow.{LinkRow}
 
 -- the k-th link; past their end one of zeros
 abbrev pub link_at : List Link → ℕ → Link

@@ -3,7 +3,7 @@ use Rattle.std.proofs.Common.{◌≡◌, ◌<◌, ℕ, List, length, slice_index
 use Rattle.std.proofs.lemmas.List.{get_or-map, length-map}
 use Rattle.pc_model.specs.Greatest.{StandsBelow}
 use Rattle.pc_model.specs.inside.Greatest.{IsListed}
-use Rattle.pc_crash.specs.declared.linking.Link.{Link}
+use Rattle.pc_crash.specs.declared.link_table.Link.{Link}
 use Rattle.pc_crash.specs.inside.Links.{activities_of, link_at}
 
 pub links_count : (links : List Link) → length (activities_of links) ≡ length links
