@@ -85,10 +85,7 @@ impl<C: Card> Once<C> {
         if let Some(fault) = place.second(before) {
             return Err(DeckError::Fault(fault));
         }
-        let card = match read_card(place, fields) {
-            Ok(card) => card,
-            Err(fault) => return Err(DeckError::Fault(fault)),
-        };
+        let card = read_card(place, fields)?;
         if let Some(fault) = place.fault(before) {
             return Err(DeckError::Fault(fault));
         }
@@ -151,10 +148,7 @@ impl<C: Card> Listed<C> {
             (λ fault. fault_of_listed place.now (length self.old) C.least C.most (C.slots place.now.sort)
             (F.fields fields.now) ≡ Some fault)) }
     {
-        let card = match read_card(place, fields) {
-            Ok(card) => card,
-            Err(fault) => return Err(DeckError::Fault(fault)),
-        };
+        let card = read_card(place, fields)?;
         let before = self.count();
         if let Some(fault) = place.fault(before) {
             return Err(DeckError::Fault(fault));
@@ -243,10 +237,7 @@ impl<C: Coded> Named<C> {
             (λ fault. fault_of_named place.now (map C.own_code self.old) (length self.old) C.least C.most
             (C.slots place.now.sort) (F.fields fields.now) ≡ Some fault)) }
     {
-        let card = match read_card(place, fields) {
-            Ok(card) => card,
-            Err(fault) => return Err(DeckError::Fault(fault)),
-        };
+        let card = read_card(place, fields)?;
         let before = self.count();
         if !self.add(card)? {
             return Err(DeckError::Fault(Fault::repeated_code(place.row, *card.code())));

@@ -45,13 +45,11 @@ impl Cards {
         ensures { IfOk result (λ cards. cards ≡ plan_of project.now plan.now) }
     {
         let mut lists = CardLists::new(alloc, key);
-        match lists.add_plan(plan) {
-            Ok(()) => Ok(Cards::of(DeckCards {
-                project: *project,
-                lists,
-            })),
-            Err(e) => Err(e),
-        }
+        lists.add_plan(plan)?;
+        Ok(Cards::of(DeckCards {
+            project: *project,
+            lists,
+        }))
     }
 
     /// Builds the plan that is generated from a deck of tasks: these items, events and activities, and all other cards

@@ -75,10 +75,8 @@ pub fn read_cards_by(alloc: Global, key: u128, bytes: &[u8]) -> Result<Cards, De
     ensures titles { IfOk result AreTitlesText }
     ensures first { IfErr result (Refuses (IsCardRefusal bytes.now)) }
 {
-    match read_deck(alloc, key, Sort::Plan, bytes) {
-        Ok(deck) => Ok(Cards::of(deck)),
-        Err(e) => Err(e),
-    }
+    let deck = read_deck(alloc, key, Sort::Plan, bytes)?;
+    Ok(Cards::of(deck))
 }
 
 /// Reads the cards of a deck of tasks, as [`read_cards`] does for a plan.
@@ -108,10 +106,8 @@ pub fn read_tasks_by(alloc: Global, key: u128, bytes: &[u8]) -> Result<TaskCards
     ensures titles { IfOk result AreTitlesText }
     ensures first { IfErr result (Refuses (IsRefusalAs sorts.Tasks bytes.now)) }
 {
-    match read_deck(alloc, key, Sort::Tasks, bytes) {
-        Ok(deck) => Ok(TaskCards::of(deck)),
-        Err(e) => Err(e),
-    }
+    let deck = read_deck(alloc, key, Sort::Tasks, bytes)?;
+    Ok(TaskCards::of(deck))
 }
 
 /// Reads the cards of a deck of the sort, or answers its first fault.
@@ -143,14 +139,9 @@ fn cards_of(alloc: Global, key: u128, sort: Sort, bytes: &[u8]) -> Result<DeckCa
     ensures fault { IfErr result (Refuses (λ fault. cards_of sort bytes.now ≡ Err fault)) }
 {
     let mut draft = Draft::new(alloc, key, sort);
-    let end = match take_all(alloc, bytes, &mut draft) {
-        Ok(end) => end,
-        Err(e) => return Err(e),
-    };
-    match draft.close(end) {
-        Ok(cards) => Ok(cards),
-        Err(fault) => Err(DeckError::Fault(fault)),
-    }
+    let end = take_all(alloc, bytes, &mut draft)?;
+    let cards = draft.close(end)?;
+    Ok(cards)
 }
 
 /// Takes the cards of a deck one by one, up to the first fault, and returns the number after that of the last record.
@@ -172,8 +163,6 @@ fn take_all(alloc: Global, bytes: &[u8], draft: &mut Draft) -> Result<u32, DeckE
             NextCard::Card(row) => row,
             NextCard::End(end) => return Ok(end),
         };
-        if let Err(e) = draft.take(row, &fields) {
-            return Err(e);
-        }
+        draft.take(row, &fields)?;
     }
 }

@@ -97,6 +97,17 @@ pub enum DeckError {
     OutOfMemory,
 }
 
+impl From<Fault> for DeckError {
+    ghost use Rattle.std.specs.Prelude.{◌≡◌};
+    ghost use Rattle.pc_faults.specs.declared.fault.DeckError.TheVariants as errors;
+
+    ghost from_gives = { λ fault e. e ≡ errors.Fault fault };
+
+    fn from(fault: Fault) -> DeckError {
+        DeckError::Fault(fault)
+    }
+}
+
 impl From<AllocError> for DeckError {
     ghost use Rattle.std.specs.Prelude.{◌≡◌};
     ghost use Rattle.pc_faults.specs.declared.fault.DeckError.TheVariants.{OutOfMemory};
