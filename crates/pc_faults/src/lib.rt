@@ -5,11 +5,9 @@
 //! faults a deck has.
 #![tactic(auto)]
 
-mod card_faults;
+mod constructors;
 mod fault;
 mod kind;
-mod plan_faults;
-mod project_faults;
 mod tell;
 mod words;
 
