@@ -290,6 +290,22 @@ impl<C: Coded> Named<C> {
         self.cards.as_slice()
     }
 
+    /// Returns the codes of the cards, in card order.
+    pub fn codes(&self) -> &[Code]
+        ensures codes { result.now ≡ map C.own_code self.now }
+        ensures apart { IsNamedOnce result.now }
+    {
+        self.names.as_slice()
+    }
+
+    /// Returns the codes of the cards, in card order, with the index that finds them. A caller that looks up codes
+    /// borrows it, so that nothing is hashed again.
+    pub fn names(&self) -> &Names
+        ensures { result.now ≡ map C.own_code self.now }
+    {
+        &self.names
+    }
+
     /// Returns the index of the card with a code, from 0.
     pub fn place_of(&self, code: &Code) -> Option<usize>
         ensures { result ≡ position (pointwise nat_eq code.now) (map C.own_code self.now) }
