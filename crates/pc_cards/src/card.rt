@@ -1,7 +1,20 @@
 //! What each kind of card has: how its fields are read and written, and what they must be.
-ghost use Rattle.std.specs.Prelude.{◌≡◌, ◌++◌, ◌∷◌, [], ℕ, List, IfOk, OnOk, IfErr, OnErr};
+ghost use Rattle.std.specs.Prelude.{
+  ◌≡◌,
+  ◌++◌,
+  ◌∷◌,
+  [],
+  ℕ,
+  List,
+  map,
+  IfOk,
+  OnOk,
+  IfErr,
+  OnErr,
+  option_to_list,
+};
 ghost use Rattle.pc_model.specs.Codes.{text_at};
-ghost use Rattle.pc_records.specs.Text.{record_text};
+ghost use Rattle.pc_records.specs.Text.{record_text, records_text};
 ghost use Rattle.pc_faults.specs.Kinds.{word_of};
 ghost use Rattle.pc_cards.specs.Forms.{AllFit, Slot};
 ghost use Rattle.pc_cards.specs.inside.Forms.{IsFirstMisfit};
@@ -11,7 +24,7 @@ use crate::field::Misfit;
 use crate::form::Slot;
 use crate::sort::Sort;
 use pc_faults::Kind;
-use pc_records::{Fields, Records};
+use pc_records::{Fields, Records, RowWriter};
 use pc_text::Code;
 use std::alloc::AllocError;
 
@@ -72,4 +85,40 @@ pub trait Coded: Card {
         ensures { result.now ≡ own_code self.now };
 
     ghost second_field: { (row : ℕ) (fields : List (List ℕ)) → own_code (Self.spelled row fields) ≡ text_at fields 1 };
+}
+
+/// Appends the record of a card, if there is one, of a kind that a deck has at most once.
+///
+/// # Errors
+///
+/// `AllocError` if there is not enough memory. The text is then empty.
+pub fn put_card<C: Card>(
+    card: Option<C>,
+    kind: Kind,
+    text: &mut RowWriter,
+) -> Result<(), AllocError>
+    ensures put { OnOk result (text.new
+        ≡ text.old ++ records_text (map (λ card. word_of kind ∷ C.written card) (option_to_list card))) }
+    ensures stopped { OnErr result (text.new ≡ []) }
+{
+    match card {
+        Some(card) => card.put(kind, text),
+        None => Ok(()),
+    }
+}
+
+/// Appends the records of cards of one kind to a text, in card order.
+///
+/// # Errors
+///
+/// `AllocError` if there is not enough memory. The text is then empty.
+pub fn put_cards<C: Card>(cards: &[C], kind: Kind, text: &mut RowWriter) -> Result<(), AllocError>
+    ensures put { OnOk result (text.new
+        ≡ text.old ++ records_text (map (λ card. word_of kind ∷ C.written card) cards.now)) }
+    ensures stopped { OnErr result (text.new ≡ []) }
+{
+    for card in cards {
+        card.put(kind, text)?;
+    }
+    Ok(())
 }

@@ -14,4 +14,3 @@ pub mod place;
 pub mod reading;
 pub mod rows;
 pub mod sort;
-pub mod writing;

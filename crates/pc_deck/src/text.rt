@@ -5,8 +5,7 @@ ghost use Rattle.pc_deck.specs.inside.Text.{lead_text, lists_text};
 
 use crate::cards::Cards;
 use crate::kinds::{AsOfCard, ProjectCard, TermsCard};
-use pc_cards::card::Card;
-use pc_cards::writing::{put_card, put_cards};
+use pc_cards::card::{Card, put_card, put_cards};
 use pc_faults::Kind;
 use pc_records::RowWriter;
 use std::alloc::AllocError;

@@ -1,7 +1,7 @@
 use Rattle.std.proofs.Common.{◌≡◌, ◌++◌, ◌∷◌, map, take}
 use Rattle.pc_records.specs.Text.{records_text}
 use Rattle.pc_faults.specs.Kinds.{word_of}
-use Rattle.pc_cards.proofs.writing.put_cards.Given as goal
+use Rattle.pc_cards.proofs.card.put_cards.Given as goal
 
 -- the records of the cards so far stand behind the text
 abbrev pub invariant-loop-card : goal.invariant-loop-card
