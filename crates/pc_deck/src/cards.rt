@@ -1,5 +1,6 @@
 //! The cards of a deck that was read, of either sort.
 ghost use Rattle.std.specs.Prelude.{◌≡◌, ◌≤◌, length};
+ghost use Rattle.pc_model.specs.Codes.{IsNamedOnce};
 ghost use Rattle.pc_model.specs.declared.limits.TheConstants.{MAX_ACTIVITIES, MAX_EVENTS};
 ghost use Rattle.pc_cards.specs.declared.sort.Sort.{Sort};
 ghost use Rattle.pc_cards.specs.declared.sort.Sort.TheVariants.{Plan, Tasks};
@@ -18,6 +19,7 @@ use crate::kinds::{
     AcctCard, ActCard, AfterCard, AsOfCard, CardLists, ItemCard, LoadCard, MoneyCard, PieceCard,
     ProjectCard, StatusCard, TaskCard, TermsCard, TitledCard,
 };
+use pc_names::Names;
 use pc_text::Code;
 use std::marker::{Model, PhantomData};
 
@@ -169,6 +171,14 @@ impl<S: DeckSort> CardsOf<S> {
         self.deck.lists.loads.as_slice()
     }
 
+    /// Returns the code of each item, in card order.
+    pub fn item_codes(&self) -> &[Code]
+        ensures codes { result.now ≡ item_codes self.now }
+        ensures apart { IsNamedOnce result.now }
+    {
+        self.deck.lists.items.codes()
+    }
+
     /// Returns the number of the item with a code: its index in card order, from 0.
     pub fn item_named(&self, code: &Code) -> Option<u32>
         ensures { result ≡ named_among (item_codes self.now) code.now }
@@ -177,12 +187,28 @@ impl<S: DeckSort> CardsOf<S> {
         Some(number as u32)
     }
 
+    /// Returns the code of each account, in card order.
+    pub fn account_codes(&self) -> &[Code]
+        ensures codes { result.now ≡ account_codes self.now }
+        ensures apart { IsNamedOnce result.now }
+    {
+        self.deck.lists.accounts.codes()
+    }
+
     /// Returns the number of the account with a code: its index in card order, from 0.
     pub fn account_named(&self, code: &Code) -> Option<u32>
         ensures { result ≡ named_among (account_codes self.now) code.now }
     {
         let number = self.deck.lists.accounts.place_of(code)?;
         Some(number as u32)
+    }
+
+    /// Returns the code of each resource, in card order.
+    pub fn resource_codes(&self) -> &[Code]
+        ensures codes { result.now ≡ resource_codes self.now }
+        ensures apart { IsNamedOnce result.now }
+    {
+        self.deck.lists.resources.codes()
     }
 
     /// Returns the number of the resource with a code: its index in card order, from 0.
@@ -214,12 +240,35 @@ impl Cards {
         self.deck.lists.acts.as_slice()
     }
 
+    /// Returns the code of each event, in card order.
+    pub fn event_codes(&self) -> &[Code]
+        ensures codes { result.now ≡ event_codes self.now }
+        ensures apart { IsNamedOnce result.now }
+    {
+        self.deck.lists.events.codes()
+    }
+
     /// Returns the number of the event with a code: its index in card order, from 0.
     pub fn event_named(&self, code: &Code) -> Option<u32>
         ensures { result ≡ named_among (event_codes self.now) code.now }
     {
         let number = self.deck.lists.events.place_of(code)?;
         Some(number as u32)
+    }
+
+    /// Returns the code of each activity, in card order.
+    pub fn act_codes(&self) -> &[Code]
+        ensures codes { result.now ≡ act_codes self.now }
+        ensures apart { IsNamedOnce result.now }
+    {
+        self.deck.lists.acts.codes()
+    }
+
+    /// Returns the code of each activity, in card order, with the index that finds it.
+    pub fn act_names(&self) -> &Names
+        ensures codes { result.now ≡ act_codes self.now }
+    {
+        self.deck.lists.acts.names()
     }
 
     /// Returns the number of the activity with a code: its index in card order, from 0.
@@ -247,6 +296,14 @@ impl TaskCards {
         ensures within { IsWithin Tasks self.now }
     {
         self.deck.lists.afters.as_slice()
+    }
+
+    /// Returns the code of each task, in card order.
+    pub fn task_codes(&self) -> &[Code]
+        ensures codes { result.now ≡ task_codes self.now }
+        ensures apart { IsNamedOnce result.now }
+    {
+        self.deck.lists.tasks.codes()
     }
 
     /// Returns the number of the task with a code: its index in card order, from 0.
