@@ -8,4 +8,5 @@ pub mod Looks
 pub mod OwnPieces
 pub mod CrashNets
 pub mod Links
+pub mod NetCodes
 pub mod Steps

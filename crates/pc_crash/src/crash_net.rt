@@ -42,10 +42,10 @@ ghost use Rattle.pc_crash.specs.inside.Moved.{AreMoved, IsMovable, moved_knee};
 
 use crate::knee_list::KneeList;
 use crate::link_table::{Link, LinkTable, linked};
+use crate::net_codes::NetCodes;
 use crate::price_table::{PriceTable, laid_out};
 use crate::steps::Steps;
 use pc_model::{Knee, PieceRow, Term};
-use pc_names::Names;
 use pc_net::Net;
 use pc_text::Code;
 use std::alloc::{AllocError, Global};
@@ -60,9 +60,7 @@ pub struct CrashNet<'n> {
     pub(crate) layout: PriceTable,
     links: LinkTable,
     pieces: Vec<PieceRow>,
-    project: Code,
-    events: Vec<Code>,
-    activities: Names,
+    codes: NetCodes<'n>,
 }
 
 impl<'n> Drop for CrashNet<'n> {
@@ -73,9 +71,7 @@ impl<'n> Drop for CrashNet<'n> {
             layout: _layout,
             links: _links,
             pieces: _pieces,
-            project: _project,
-            events: _events,
-            activities: _activities,
+            codes: _codes,
         } = self;
     }
 }
@@ -94,7 +90,8 @@ impl<'n> Model for CrashNet<'n> {
 
 impl<'n> CrashNet<'n> {
     /// Builds the network from one term and one code per activity, one code per event, and pieces; the pieces of an
-    /// activity follow one another in order. Linear in events, activities and pieces.
+    /// activity follow one another in order. Copies the codes: [`CrashNet::with_codes`] borrows them. Linear in events,
+    /// activities and pieces.
     ///
     /// # Errors
     ///
@@ -145,14 +142,41 @@ impl<'n> CrashNet<'n> {
         ensures events { IfOk result (λ priced. priced.events ≡ events.now) }
         ensures activities { IfOk result (λ priced. priced.activities ≡ activities.now) }
     {
+        let codes = NetCodes::build(alloc, project, events, activities)?;
+        CrashNet::with_codes(alloc, net, terms, pieces, codes)
+    }
+
+    /// Builds the network as [`CrashNet::build`] does, with codes that may be kept elsewhere.
+    ///
+    /// # Errors
+    ///
+    /// Returns `AllocError` if memory runs out.
+    pub fn with_codes(
+        alloc: Global,
+        net: &'n Net,
+        terms: &[Term],
+        pieces: &[PieceRow],
+        codes: NetCodes<'n>,
+    ) -> Result<CrashNet<'n>, AllocError>
+        requires terms { AreTerms net.now terms.now }
+        requires limits { AreWithinLimits terms.now }
+        requires pieces { ArePieces terms.now pieces.now }
+        requires piece_limits { ArePiecesWithinLimits pieces.now }
+        requires events { AreNames net.now.events codes.events }
+        requires activities { AreNames (length net.now.arcs) codes.activities }
+        ensures network { IfOk result (λ priced. priced.network ≡ net.now) }
+        ensures terms { IfOk result (λ priced. priced.terms ≡ terms.now) }
+        ensures pieces { IfOk result (λ priced. priced.pieces ≡ pieces.now) }
+        ensures project { IfOk result (λ priced. priced.project ≡ codes.entry.project) }
+        ensures events { IfOk result (λ priced. priced.events ≡ codes.entry.events) }
+        ensures activities { IfOk result (λ priced. priced.activities ≡ codes.entry.activities) }
+    {
         Ok(CrashNet {
             net,
             layout: laid_out(alloc, net, terms, pieces)?,
             links: linked(alloc, net)?,
             pieces: Vec::from_slice(alloc, pieces)?,
-            project,
-            events: Vec::from_slice(alloc, events)?,
-            activities: Names::build(alloc, activities)?,
+            codes,
         })
     }
 
@@ -188,7 +212,7 @@ impl<'n> CrashNet<'n> {
     pub fn project(&self) -> Code
         ensures { result ≡ self.now.project }
     {
-        self.project
+        self.codes.project()
     }
 
     /// Returns the code of an event.
@@ -196,7 +220,7 @@ impl<'n> CrashNet<'n> {
         requires { e < self.now.network.events }
         ensures { result ≡ text_at self.now.events e }
     {
-        self.events[e as usize]
+        self.codes.events()[e as usize]
     }
 
     /// Returns the code of an activity.
@@ -204,7 +228,7 @@ impl<'n> CrashNet<'n> {
         requires { a < length self.now.network.arcs }
         ensures { result ≡ text_at self.now.activities a }
     {
-        self.activities.as_slice()[a as usize]
+        self.codes.activities().as_slice()[a as usize]
     }
 
     /// Returns the activity with this code, or `None` if no activity has it. One look-up.
@@ -214,7 +238,7 @@ impl<'n> CrashNet<'n> {
         ensures unknown { IfNone result ((a : ℕ) → a < length self.now.network.arcs →
             text_at self.now.activities a ≢ code.now) }
     {
-        let a = self.activities.place_of(code)?;
+        let a = self.codes.activities().place_of(code)?;
         Some(a as u32)
     }
 

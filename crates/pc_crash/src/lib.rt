@@ -5,6 +5,7 @@
 mod crash_net;
 mod knee_list;
 mod link_table;
+mod net_codes;
 mod pieces;
 mod price_table;
 mod segment_view;
@@ -13,6 +14,7 @@ mod steps;
 pub use crash_net::{CrashNet, Look, MAX_ACTIVITY_COST, MAX_PROJECT_COST};
 pub use knee_list::{KneeList, Knees};
 pub use link_table::Link;
+pub use net_codes::NetCodes;
 pub use pc_model::{Knee, PieceRow, Term};
 pub use pieces::cost_of_one;
 pub use segment_view::SegmentView;

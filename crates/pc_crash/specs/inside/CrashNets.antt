@@ -16,9 +16,9 @@ priced_network net = record {
   network = net.net.now;
   terms = map (λ row. row.term) net.layout.rows.items;
   pieces = net.pieces.items;
-  project = net.project;
-  events = net.events.items;
-  activities = net.activities;
+  project = net.codes.project;
+  events = net.codes.events;
+  activities = net.codes.activities;
 }
 
 -- what holds of every priced network: it is sound, its terms and pieces fit it and keep their limits, and all its events
