@@ -2,39 +2,15 @@
 ghost use Rattle.std.specs.Prelude.{◌≡◌, ◌≤◌, All, map, IfOk};
 ghost use Rattle.pc_model.specs.declared.limits.TheConstants.{MAX_UNIT_DAYS};
 ghost use Rattle.pc_times.specs.Estimates.{expected_time, variance_of};
-ghost use Rattle.pc_deck.specs.Deck.{act_codes, event_codes};
 ghost use Rattle.pc_deck.specs.inside.Act.{IsActWithin};
 ghost use Rattle.pc_project.specs.Misfit.{HasOrderedEstimates};
 ghost use Rattle.pc_project.specs.Project.{term_of};
-ghost use Rattle.pc_project.specs.Records.{codes_among};
 
 use crate::placed::Placement;
-use pc_deck::{ActCard, Cards, ItemCard};
+use pc_deck::ActCard;
 use pc_model::{Arc, Term};
-use pc_text::Code;
 use pc_times::{expected_sixths, variance_36};
 use std::alloc::{AllocError, Global};
-
-/// Returns the code of each event, in card order.
-pub(crate) fn codes_of_events(alloc: Global, cards: &Cards) -> Result<Vec<Code>, AllocError>
-    ensures { IfOk result (λ codes. codes.items ≡ event_codes cards.now) }
-{
-    cards.events().iter().map(|event| event.code).collect(alloc)
-}
-
-/// Returns the code of each activity, in card order.
-pub(crate) fn codes_of_acts(alloc: Global, cards: &Cards) -> Result<Vec<Code>, AllocError>
-    ensures { IfOk result (λ codes. codes.items ≡ act_codes cards.now) }
-{
-    cards.acts().iter().map(|act| act.code).collect(alloc)
-}
-
-/// Returns the code of each item, in card order.
-pub(crate) fn codes_of_items(alloc: Global, items: &[ItemCard]) -> Result<Vec<Code>, AllocError>
-    ensures { IfOk result (λ codes. codes.items ≡ codes_among items.now) }
-{
-    items.iter().map(|item| item.code).collect(alloc)
-}
 
 /// Returns the number of each activity's item, in card order.
 pub(crate) fn places(alloc: Global, placements: &[Placement]) -> Result<Vec<u32>, AllocError>

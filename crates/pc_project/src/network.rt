@@ -9,7 +9,7 @@ ghost use Rattle.pc_project.specs.inside.Numbered.{AreNumbersOf};
 ghost use Rattle.pc_project.specs.Project.{network_of, rows_of};
 ghost use Rattle.pc_project.specs.Refusal.{IsRefusedWith, net_fault};
 
-use crate::lists::{arcs, codes_of_acts};
+use crate::lists::arcs;
 use crate::named::{act_card, codes_at, event_card};
 use crate::numbers::Numbers;
 use pc_deck::Cards;
@@ -67,7 +67,6 @@ fn fault_of_cycle(alloc: Global, cards: &Cards, acts: &[u32]) -> Result<Fault, A
     requires known { All (λ act. act < length cards.now.acts) acts.now }
     ensures { IfOk result (λ fault. net_fault cards.now (net.Cycle acts.now) ≡ DeckError.Fault fault) }
 {
-    let codes = codes_of_acts(alloc, cards)?;
-    let names = codes_at(alloc, &codes, acts)?;
+    let names = codes_at(alloc, cards.act_codes(), acts)?;
     Ok(Fault::cycle(act_card(cards, acts[0]).row, names))
 }

@@ -17,7 +17,7 @@ ghost use Rattle.pc_project.specs.Refusal.{HasNoFault, HasSoundFigures, HasSound
 ghost use Rattle.pc_project.specs.TermsFaults.{HasTermsFault};
 
 use crate::leaves::check_leaves;
-use crate::lists::{codes_of_acts, codes_of_events, expected_times, places, terms, variances};
+use crate::lists::{expected_times, places, terms, variances};
 use crate::network::net_of;
 use crate::numbers::{Numbers, numbers_of};
 use crate::packages::check_packages;
@@ -32,7 +32,6 @@ use pc_deck::Cards;
 use pc_faults::{DeckError, Fault};
 use pc_model::Term;
 use pc_net::Net;
-use pc_text::Code;
 use pc_times::ActState;
 use pc_wbs::Tree;
 use std::alloc::{AllocError, Global};
@@ -76,8 +75,6 @@ pub fn project_of(alloc: Global, cards: Cards) -> Result<Project, DeckError>
         net: frame.net,
         book: frame.book,
         states: frame.states,
-        events: frame.events,
-        activities: frame.activities,
         places: frame.places,
         terms: frame.terms,
         expected: frame.expected,
@@ -98,8 +95,6 @@ pub(crate) struct Frame {
     pub net: Net,
     pub book: Book,
     pub states: Vec<ActState>,
-    pub events: Vec<Code>,
-    pub activities: Vec<Code>,
     pub places: Vec<u32>,
     pub terms: Vec<Term>,
     pub expected: Vec<u64>,
@@ -120,7 +115,7 @@ fn frame_of(alloc: Global, cards: &Cards, numbers: &Numbers) -> Result<Frame, De
     ensures lists { IfOk result (AreProjectLists cards.now) }
     ensures refused { IfErr result (Refuses (IsRefusedWith cards.now)) }
 {
-    let tree = tree_between(alloc, cards.items(), &numbers.rows)?;
+    let tree = tree_between(alloc, cards, &numbers.rows)?;
     let net = net_of(alloc, cards, numbers)?;
     check_items(alloc, cards, numbers, &tree)?;
     let states = states_of(alloc, cards, numbers)?;
@@ -133,8 +128,6 @@ fn frame_of(alloc: Global, cards: &Cards, numbers: &Numbers) -> Result<Frame, De
         net,
         book,
         states,
-        events: Vec::new(alloc),
-        activities: Vec::new(alloc),
         places: Vec::new(alloc),
         terms: Vec::new(alloc),
         expected: Vec::new(alloc),
@@ -145,7 +138,7 @@ fn frame_of(alloc: Global, cards: &Cards, numbers: &Numbers) -> Result<Frame, De
 }
 
 impl Frame {
-    /// Replaces the lists of events and activities by those of the cards.
+    /// Replaces the lists of activities by those of the cards.
     fn fill(
         &mut self,
         alloc: Global,
@@ -162,8 +155,6 @@ impl Frame {
     {
         let acts = cards.acts();
         let unit_days = cards.project().unit_days;
-        self.events = codes_of_events(alloc, cards)?;
-        self.activities = codes_of_acts(alloc, cards)?;
         self.places = places(alloc, placements)?;
         self.terms = terms(alloc, acts)?;
         self.expected = expected_times(alloc, acts, unit_days)?;

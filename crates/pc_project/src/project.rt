@@ -17,7 +17,7 @@ use crate::load::LoadItem;
 use crate::statuses::as_of;
 use pc_accounts::status::StatusRow;
 use pc_accounts::{AcctRow, Book, MoneyRow};
-use pc_crash::{CrashNet, MAX_ACTIVITY_COST, cost_of_one};
+use pc_crash::{CrashNet, MAX_ACTIVITY_COST, NetCodes, cost_of_one};
 use pc_days::{Day, days_between};
 use pc_deck::Cards;
 use pc_model::{PieceRow, Term};
@@ -38,9 +38,6 @@ pub struct Project {
     pub(crate) net: Net,
     pub(crate) book: Book,
     pub(crate) states: Vec<ActState>,
-    // The codes are in lists of their own, beside the cards, for callers that take them as slices.
-    pub(crate) events: Vec<Code>,
-    pub(crate) activities: Vec<Code>,
     /// The number of each activity's item.
     pub(crate) places: Vec<u32>,
     pub(crate) terms: Vec<Term>,
@@ -65,8 +62,6 @@ impl Drop for Project {
             net: _,
             book: _,
             states: _,
-            events: _,
-            activities: _,
             places: _,
             terms: _,
             expected: _,
@@ -183,7 +178,7 @@ impl Project {
         requires { e < self.now.network.events }
         ensures { result ≡ slice_index_or self.now.events e [] }
     {
-        self.events[e as usize]
+        self.cards.event_codes()[e as usize]
     }
 
     /// Returns the title of an event.
@@ -201,7 +196,7 @@ impl Project {
     {
         let term = self.terms[a as usize];
         Activity {
-            code: self.activities[a as usize],
+            code: self.cards.act_codes()[a as usize],
             from: self.net.from(a),
             to: self.net.to(a),
             item: self.places[a as usize],
@@ -240,7 +235,7 @@ impl Project {
         requires { i < length self.now.tree }
         ensures { result ≡ slice_index_or self.now.items i [] }
     {
-        self.cards.items()[i as usize].code
+        self.cards.item_codes()[i as usize]
     }
 
     /// Returns the title of an item.
@@ -257,7 +252,7 @@ impl Project {
         ensures each { length result.now ≡ self.now.network.events }
         ensures planned { IsPlanned self.now }
     {
-        &self.events
+        self.cards.event_codes()
     }
 
     /// Returns the code of each activity, in card order.
@@ -266,7 +261,7 @@ impl Project {
         ensures each { length result.now ≡ length self.now.network.arcs }
         ensures planned { IsPlanned self.now }
     {
-        &self.activities
+        self.cards.act_codes()
     }
 
     /// Returns what each activity may last, in units, and costs, in card order.
@@ -336,15 +331,9 @@ impl Project {
         ensures events { IfOk result (λ priced. priced.events ≡ self.now.events) }
         ensures activities { IfOk result (λ priced. priced.activities ≡ self.now.activities) }
     {
-        CrashNet::build(
-            alloc,
-            &self.net,
-            &self.terms,
-            &self.pieces,
-            self.cards.project().code,
-            &self.events,
-            &self.activities,
-        )
+        let cards = &self.cards;
+        let codes = NetCodes::of(cards.project().code, cards.event_codes(), cards.act_names());
+        CrashNet::with_codes(alloc, &self.net, &self.terms, &self.pieces, codes)
     }
 
     /// Returns the terms of time: the cost of each unit of the project's length, the target in units, the bonus for
@@ -375,7 +364,7 @@ impl Project {
         requires { r < length self.now.resources }
         ensures { result ≡ slice_index_or self.now.resources r [] }
     {
-        self.cards.resources()[r as usize].code
+        self.cards.resource_codes()[r as usize]
     }
 
     /// Returns the title of a resource.
@@ -407,7 +396,7 @@ impl Project {
         requires { a < length self.now.accounts }
         ensures { result ≡ slice_index_or (account_codes self.now.deck) a [] }
     {
-        self.cards.accounts()[a as usize].code
+        self.cards.account_codes()[a as usize]
     }
 
     /// Returns the title of an account.

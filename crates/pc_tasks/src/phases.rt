@@ -24,7 +24,6 @@ use crate::tree::tree_of;
 use pc_deck::TaskCards;
 use pc_faults::{DeckError, Fault};
 use pc_project::codes_at;
-use pc_text::Code;
 use std::alloc::{AllocError, Global};
 
 /// Returns which tasks come after which, by their numbers.
@@ -121,8 +120,7 @@ fn told(alloc: Global, cards: &TaskCards, circle: &[u32]) -> Result<Fault, Alloc
         (codes_at (task_codes cards.now) circle.now)) }
 {
     let row = task_row(cards, circle[0]);
-    let codes = codes_of_tasks(alloc, cards)?;
-    let names = codes_at(alloc, &codes, circle)?;
+    let names = codes_at(alloc, cards.task_codes(), circle)?;
     Ok(Fault::task_cycle(row, names))
 }
 
@@ -132,10 +130,4 @@ fn task_row(cards: &TaskCards, task: u32) -> u32
 {
     let card = &cards.tasks()[task as usize];
     card.row
-}
-
-fn codes_of_tasks(alloc: Global, cards: &TaskCards) -> Result<Vec<Code>, AllocError>
-    ensures { IfOk result (λ codes. codes.items ≡ task_codes cards.now) }
-{
-    cards.tasks().iter().map(|task| task.code).collect(alloc)
 }

@@ -24,7 +24,7 @@ pub(crate) fn tree_of(alloc: Global, cards: &TaskCards) -> Result<Tree, DeckErro
     ensures refused { IfErr result (Refuses (IsTasksRefusedWith cards.now)) }
 {
     let rows = item_rows(alloc, cards)?;
-    match tree_between(alloc, cards.items(), &rows) {
+    match tree_between(alloc, cards, &rows) {
         Ok(tree) => Ok(tree),
         Err(error) => Err(error),
     }

@@ -1,7 +1,7 @@
 -- What the cards of a deck name, by numbers, where no card has a fault.
 use Rattle.std.specs.Prelude.{◌≡◌, ◌≤◌, length, map}
 use Rattle.pc_model.specs.declared.limits.TheConstants.{MAX_ITEMS}
-use Rattle.pc_deck.specs.Deck.{Deck, act_codes, event_codes}
+use Rattle.pc_deck.specs.Deck.{Deck}
 use Rattle.pc_deck.specs.Within.{IsWithinLimits}
 use Rattle.pc_project.specs.declared.numbers.Numbers.{Numbers}
 use Rattle.pc_project.specs.declared.phases.Frame.{Frame}
@@ -30,10 +30,8 @@ pub record AreNumbersOf (deck : Deck) (numbers : Numbers) : Type 0 where
   pub lists : AreListsOf deck numbers
   pub few : length numbers.rows.items ≤ MAX_ITEMS
 
--- the lists of a project's activities and events are those of the deck, in card order
+-- the lists of a project's activities are those of the deck, in card order
 pub record AreProjectLists (deck : Deck) (frame : Frame) : Type 0 where
-  pub events : frame.events.items ≡ event_codes deck
-  pub activities : frame.activities.items ≡ act_codes deck
   pub places : frame.places.items ≡ map (item_of_act deck) deck.acts
   pub terms : frame.terms.items ≡ map term_of deck.acts
   pub expected : frame.expected.items ≡ map (expected_of deck) deck.acts

@@ -1,6 +1,6 @@
 -- The project that the fields of a project hold.
 use Rattle.std.specs.Prelude.{map}
-use Rattle.pc_deck.specs.Deck.{item_codes, resource_codes}
+use Rattle.pc_deck.specs.Deck.{act_codes, event_codes, item_codes, resource_codes}
 use Rattle.pc_project.specs.declared.project.Project.TheInside.{Inside}
 use Rattle.pc_project.specs.Project.{Project, counts_of, heading_of, time_terms_of}
 use Rattle.pc_project.specs.Planned.{IsPlanned}
@@ -11,8 +11,8 @@ project_from a = record {
   heading = heading_of a.cards;
   network = a.net;
   tree = a.tree;
-  events = a.events.items;
-  activities = a.activities.items;
+  events = event_codes a.cards;
+  activities = act_codes a.cards;
   places = a.places.items;
   terms = a.terms.items;
   expected = a.expected.items;

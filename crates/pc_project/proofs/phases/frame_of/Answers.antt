@@ -2,7 +2,7 @@ use Rattle.std.proofs.Common.{length, sym, ◌∙◌, ap, subst}
 use Rattle.std.proofs.lemmas.List.{length-map}
 use Rattle.pc_wbs.specs.Climb.{AreInRange, IsTree}
 use Rattle.pc_faults.specs.inside.First.{Refuses}
-use Rattle.pc_project.specs.Project.{row_of, rows_of}
+use Rattle.pc_project.specs.Project.{row_of}
 use Rattle.pc_project.specs.Refusal.{IsRefusedWith, IsTreeFault}
 use Rattle.pc_project.proofs.FitLaws.{all_fit, rows_of-in_range}
 use Rattle.pc_project.proofs.RefusalLaws.{handed_on, refused_by_statuses, refused_by_togos, refused_by_tree}
@@ -11,7 +11,7 @@ use Rattle.pc_project.proofs.phases.frame_of.Goals as goal
 pub tree_between-requires-clause-each : goal.tree_between-requires-clause-each
 tree_between-requires-clause-each c =
     let deck = c.args.cards.now in
-    ap length (c.deref.ensures.value ∙ c.requires.lists.rows) ∙ (length-map deck.items (row_of deck) ∙ sym (ap length c.items.ensures.cards))
+    ap length (c.deref.ensures.value ∙ c.requires.lists.rows) ∙ length-map deck.items (row_of deck)
 
 pub tree_between-requires-clause-in_range : goal.tree_between-requires-clause-in_range
 tree_between-requires-clause-in_range c =
@@ -23,8 +23,7 @@ returns-in_err-tree-clause-refused c =
     let error = c.in_err-tree.field-0.0 in
     handed_on (Refuses (IsRefusedWith deck)) c.from_residual.result error c.from_residual.ensures.1
     (refused_by_tree deck error c.requires.faultless
-    (subst (λ items. Refuses (IsTreeFault items (rows_of deck)) error) c.items.ensures.cards
-    (subst (λ rows. Refuses (IsTreeFault c.items.result.now rows) error) (c.deref.ensures.value ∙ c.requires.lists.rows) c.in_err-tree.ensures.refused)))
+    (subst (λ rows. Refuses (IsTreeFault deck.items rows) error) (c.deref.ensures.value ∙ c.requires.lists.rows) c.in_err-tree.ensures.refused))
 
 pub net_of-requires-clause-tree : goal.net_of-requires-clause-tree
 net_of-requires-clause-tree c = subst IsTree (c.deref.ensures.value ∙ c.requires.lists.rows) c.in_ok-tree.ensures.tree

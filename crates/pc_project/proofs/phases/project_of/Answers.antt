@@ -32,7 +32,7 @@ invariant_of-result c =
     let frame = c.in_ok-frame.ensures in
     let made = frame.lists in
     subst IsPlanned
-    (sym (project_in-is deck _ refl refl frame.network frame.tree made.events made.activities made.places made.terms made.expected made.variances
+    (sym (project_in-is deck _ refl refl frame.network frame.tree refl refl made.places made.terms made.expected made.variances
     refl refl lists.pieces refl lists.loads lists.accounts lists.charges lists.togos lists.statuses refl refl))
     (project_in-planned deck _ _ frame.makes numbers.within
     (project_in-figures deck numbers.within frame.makes.cards frame.makes.figures _ _ frame.entries frame.small frame.states))
@@ -45,7 +45,7 @@ returns-clause-project c =
     let frame = c.in_ok-frame.ensures in
     let made = frame.lists in
     subst (IsProjectOfDeck deck)
-    (sym (project_in-is deck _ refl refl frame.network frame.tree made.events made.activities made.places made.terms made.expected made.variances
+    (sym (project_in-is deck _ refl refl frame.network frame.tree refl refl made.places made.terms made.expected made.variances
     refl refl lists.pieces refl lists.loads lists.accounts lists.charges lists.togos lists.statuses refl refl))
     (project_in-planned deck _ _ frame.makes numbers.within
     (project_in-figures deck numbers.within frame.makes.cards frame.makes.figures _ _ frame.entries frame.small frame.states)).own.is

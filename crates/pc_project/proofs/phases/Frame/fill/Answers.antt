@@ -39,15 +39,13 @@ returns-clause-lists c =
     let acts = c.acts-acts.ensures.cards in
     let card = c.project.ensures.card in
     record {
-      events = c.in_ok-self.ensures;
-      activities = c.in_ok-self-2.ensures;
-      places = c.in_ok-self-3.ensures ∙ (ap (map (λ placement. placement.item)) c.requires.placements
+      places = c.in_ok-self.ensures ∙ (ap (map (λ placement. placement.item)) c.requires.placements
           ∙ map-map (λ placement. placement.item) (placement_of deck) deck.acts);
-      terms = c.in_ok-self-4.ensures ∙ ap (map term_of) acts;
-      expected = c.in_ok-self-5.ensures
+      terms = c.in_ok-self-2.ensures ∙ ap (map term_of) acts;
+      expected = c.in_ok-self-3.ensures
           ∙ (ap (map (λ act. expected_time act.opt act.likely act.pess c.project.result.now.unit_days)) acts
           ∙ ap (λ (card : ProjectCard). map (λ act. expected_time act.opt act.likely act.pess card.unit_days) deck.acts) card);
-      variances = c.in_ok-self-6.ensures
+      variances = c.in_ok-self-4.ensures
           ∙ (ap (map (λ act. variance_of act.opt act.pess c.project.result.now.unit_days)) acts
           ∙ ap (λ (card : ProjectCard). map (λ act. variance_of act.opt act.pess card.unit_days) deck.acts) card);
     }
