@@ -4,7 +4,7 @@ use Rattle.pc_model.specs.Network.{IsEarly}
 use Rattle.pc_model.specs.Schedule.{base_cost_of}
 use Rattle.pc_model.specs.Walk.{from_of}
 use Rattle.pc_project.specs.Project.{Project}
-use Rattle.pc_project.specs.declared.load.LoadItem.{LoadItem}
+use Rattle.pc_project.specs.declared.placed.LoadItem.{LoadItem}
 use Rattle.pc_rollup.specs.Sums.{IsSumOver}
 use Rattle.pc_times.specs.Times.{AreEarly}
 use Rattle.pc_wbs.specs.Climb.{IsBelow}

@@ -26,7 +26,7 @@ use Rattle.pc_deck.specs.Within.{IsWithinLimits}
 use Rattle.pc_project.specs.Project.{Project, accounts_in, arc_of, charges_in, counts_of, expected_of, heading_of, load_of, network_of, piece_of, pieces_in}
 use Rattle.pc_project.specs.Project.{item_of_act, project_in, row_of, rows_of, statuses_in, term_of, terms_in, time_terms_of, togos_in, variance_in}
 use Rattle.pc_project.specs.Misfit.{HasNoMisfit}
-use Rattle.pc_project.specs.declared.load.LoadItem.{LoadItem}
+use Rattle.pc_project.specs.declared.placed.LoadItem.{LoadItem}
 use Rattle.pc_project.specs.PieceFaults.{HasNoPieceFault}
 use Rattle.pc_project.specs.TermsFaults.{HasTermsFault, bonus_above}
 use Rattle.pc_faults.specs.declared.fault.Fault.{Fault}

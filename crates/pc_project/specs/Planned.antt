@@ -20,7 +20,7 @@ use Rattle.pc_deck.specs.Within.{IsWithinLimits}
 use Rattle.pc_project.specs.Figures.{AreAccounts, AreFigures, AreStatesOf, IsProjectOfDeck, work_rows}
 use Rattle.pc_project.specs.Makes.{MakesProject}
 use Rattle.pc_project.specs.Project.{Project}
-use Rattle.pc_project.specs.declared.load.LoadItem.{LoadItem}
+use Rattle.pc_project.specs.declared.placed.LoadItem.{LoadItem}
 
 -- the load is one of an activity on a resource, and its quantity within the limit of money
 pub record IsLoad (project : Project) (load : LoadItem) : Type 0 where

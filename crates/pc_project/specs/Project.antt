@@ -22,9 +22,9 @@ use Rattle.pc_deck.specs.declared.kinds.status.StatusCard.{StatusCard}
 use Rattle.pc_deck.specs.declared.kinds.terms.TermsCard.{TermsCard}
 use Rattle.pc_deck.specs.declared.kinds.wbs.ItemCard.{ItemCard}
 use Rattle.pc_deck.specs.Deck.{Deck, account_codes, act_codes, event_codes, item_codes, number_among, resource_codes}
-use Rattle.pc_project.specs.declared.heading.Counts.{Counts}
+use Rattle.pc_project.specs.declared.project.Counts.{Counts}
 use Rattle.pc_model.specs.declared.TimeTerms.{TimeTerms}
-use Rattle.pc_project.specs.declared.load.LoadItem.{LoadItem}
+use Rattle.pc_project.specs.declared.placed.LoadItem.{LoadItem}
 
 -- what a project is called, when it starts and the day that its figures are of, how many days a unit is, and the end to be
 -- met, in days from the start, where one is given

@@ -25,3 +25,11 @@ pub struct Activity {
     /// The cost of each unit by which it is shortened, before its pieces begin.
     pub slope: u64,
 }
+
+/// The three estimates of an activity's duration, in units.
+#[derive(Clone, Copy)]
+pub struct Estimates {
+    pub optimistic: u64,
+    pub likely: u64,
+    pub pessimistic: u64,
+}

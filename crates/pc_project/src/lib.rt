@@ -5,12 +5,9 @@
 
 mod activity;
 pub mod deck_text;
-mod estimates;
-mod heading;
 pub mod laws;
 mod leaves;
 mod lists;
-mod load;
 mod named;
 mod network;
 mod numbers;
@@ -24,13 +21,11 @@ mod statuses;
 mod togos;
 mod tree;
 
-pub use crate::activity::Activity;
+pub use crate::activity::{Activity, Estimates};
 pub use crate::deck_text::deck_text_of;
-pub use crate::estimates::Estimates;
-pub use crate::heading::Counts;
-pub use crate::load::LoadItem;
 pub use crate::named::codes_at;
 pub use crate::phases::project_of;
-pub use crate::project::Project;
+pub use crate::placed::LoadItem;
+pub use crate::project::{Counts, Project};
 pub use crate::tree::tree_between;
 pub use pc_model::PieceRow as Piece;

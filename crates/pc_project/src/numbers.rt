@@ -6,8 +6,7 @@ ghost use Rattle.pc_faults.specs.inside.First.{IsFirstIn, Refuses};
 ghost use Rattle.pc_project.specs.Misfit.{HasListedFault, HasMisfit};
 ghost use Rattle.pc_project.specs.inside.Numbered.{AreListsOf, AreNumbersOf};
 
-use crate::load::LoadItem;
-use crate::placed::{Placement, ends_of};
+use crate::placed::{LoadItem, Placement, ends_of};
 use crate::refers::look_up_all;
 use pc_accounts::status::StatusRow;
 use pc_accounts::{AcctRow, MoneyRow};

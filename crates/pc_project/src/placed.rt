@@ -5,7 +5,6 @@ ghost use Rattle.pc_faults.specs.declared.fault.Fault.{Fault};
 ghost use Rattle.pc_project.specs.Project.{network_of};
 ghost use Rattle.pc_project.specs.Misfit.{HasProjectFault, HasOrderedEstimates};
 
-use crate::load::LoadItem;
 use crate::refers::Refers;
 use pc_accounts::status::StatusRow;
 use pc_accounts::{AcctRow, MoneyRow};
@@ -19,6 +18,14 @@ use pc_wbs::ItemRow;
 pub(crate) struct Placement {
     pub arc: Arc,
     pub item: u32,
+}
+
+/// The quantity of a resource that an activity takes, with the numbers of both.
+#[derive(Clone, Copy)]
+pub struct LoadItem {
+    pub activity: u32,
+    pub resource: u32,
+    pub quantity: u64,
 }
 
 /// Looks up the events where the project starts and ends, or returns the PROJECT card's first fault.

@@ -10,10 +10,8 @@ ghost use Rattle.pc_project.specs.inside.Kept.{account_titles, act_titles, estim
 ghost use Rattle.pc_project.specs.Planned.{IsPlanned};
 ghost use Rattle.pc_project.specs.inside.Project.{activity_at};
 
-use crate::activity::Activity;
-use crate::estimates::Estimates;
-use crate::heading::Counts;
-use crate::load::LoadItem;
+use crate::activity::{Activity, Estimates};
+use crate::placed::LoadItem;
 use crate::statuses::as_of;
 use pc_accounts::status::StatusRow;
 use pc_accounts::{AcctRow, Book, MoneyRow};
@@ -463,4 +461,16 @@ impl Project {
         let start = self.cards.project().start_day;
         6 * days_between(start, as_of(&self.cards)) as u64
     }
+}
+
+/// The number of cards of each kind in a deck.
+#[derive(Clone, Copy)]
+pub struct Counts {
+    pub events: u64,
+    pub activities: u64,
+    pub items: u64,
+    pub accounts: u64,
+    pub charges: u64,
+    pub togos: u64,
+    pub statuses: u64,
 }

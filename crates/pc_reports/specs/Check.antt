@@ -1,7 +1,7 @@
 -- The text that tells that a deck is accepted.
 use Rattle.std.specs.Prelude.{ℕ, List, ◌++◌, codes}
 use Rattle.pc_project.specs.Project.{Project}
-use Rattle.pc_project.specs.declared.heading.Counts.{Counts}
+use Rattle.pc_project.specs.declared.project.Counts.{Counts}
 use Rattle.pc_edges.specs.page.Lines.{word_line, number_line}
 
 -- how many cards of each kind there are, a line each

@@ -1,7 +1,7 @@
 -- What the cards of a project say and no number does, in card order.
 use Rattle.std.specs.Prelude.{ℕ, List, map, slice_index}
 use Rattle.pc_deck.specs.Deck.{Deck}
-use Rattle.pc_project.specs.declared.estimates.Estimates.{Estimates}
+use Rattle.pc_project.specs.declared.activity.Estimates.{Estimates}
 
 -- the titles of the events, the activities, the accounts and the resources
 abbrev pub event_titles : Deck → List (List ℕ)

@@ -7,7 +7,7 @@ use Rattle.pc_model.specs.declared.limits.TheConstants.{MAX_DURATION, MAX_SLOPE}
 use Rattle.pc_model.specs.Pieces.{pieces_of}
 use Rattle.pc_model.specs.Schedule.{term_at}
 use Rattle.pc_crash.specs.Priced.{PricedNetwork}
-use Rattle.pc_project.specs.declared.estimates.Estimates.{Estimates}
+use Rattle.pc_project.specs.declared.activity.Estimates.{Estimates}
 use Rattle.pc_whatif.specs.declared.edits.ask.Change.{Change}
 use Rattle.pc_whatif.specs.declared.edits.ask.Change.TheVariants.{Estimate, Normal, Crash, Slope}
 use Rattle.pc_whatif.specs.declared.edits.ask.Edit.{Edit}

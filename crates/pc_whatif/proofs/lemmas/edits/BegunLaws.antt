@@ -11,7 +11,7 @@ use Rattle.pc_deck.specs.Deck.{Deck}
 use Rattle.pc_deck.specs.declared.kinds.act.ActCard.{ActCard}
 use Rattle.pc_deck.proofs.NumberLemmas.{acts-within}
 use Rattle.pc_faults.specs.declared.fault.Fault.{Fault}
-use Rattle.pc_project.specs.declared.estimates.Estimates.{Estimates}
+use Rattle.pc_project.specs.declared.activity.Estimates.{Estimates}
 use Rattle.pc_project.specs.Misfit as has
 use Rattle.pc_project.specs.Misfit.{HasActFault, HasNoMisfit, act, listed}
 use Rattle.pc_project.specs.Planned.{IsPlanned}

@@ -7,7 +7,7 @@ use Rattle.pc_model.specs.declared.Term.{Term}
 use Rattle.pc_model.specs.Pieces.{knee_in, rise_in, slope_in, units_of}
 use Rattle.pc_crash.specs.inside.Laid.{IsRising}
 use Rattle.pc_crash.specs.Priced.{piece_at}
-use Rattle.pc_project.specs.declared.estimates.Estimates.{Estimates}
+use Rattle.pc_project.specs.declared.activity.Estimates.{Estimates}
 use Rattle.pc_whatif.specs.declared.edits.judging.Further.{Further}
 use Rattle.pc_whatif.specs.inside.edits.Further.{further_in, is_flawed, refusal_with}
 use Rattle.pc_whatif.specs.edits.Refusal.{has_flaw, refusal_of}

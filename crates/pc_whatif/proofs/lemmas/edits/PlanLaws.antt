@@ -12,7 +12,7 @@ use Rattle.pc_model.specs.Network.{Network}
 use Rattle.pc_model.specs.Pieces.{ArePieces, pieces_of, slope_in, units_of}
 use Rattle.pc_model.specs.Schedule.{AreTerms, term_at}
 use Rattle.pc_crash.specs.Terms.{AreWithinLimits}
-use Rattle.pc_project.specs.declared.estimates.Estimates.{Estimates}
+use Rattle.pc_project.specs.declared.activity.Estimates.{Estimates}
 use Rattle.pc_whatif.specs.declared.edits.ask.Change.{Change}
 use Rattle.pc_whatif.specs.declared.edits.ask.Change.TheVariants.{Estimate, Normal, Crash, Slope}
 use Rattle.pc_whatif.specs.declared.edits.ask.Trial.{Trial}

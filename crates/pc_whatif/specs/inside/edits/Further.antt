@@ -3,7 +3,7 @@ use Rattle.std.specs.Prelude.{◌+◌, ◌||◌, Bool, false, nat_le, List, [], 
 use Rattle.pc_model.specs.declared.PieceRow.{PieceRow}
 use Rattle.pc_model.specs.declared.Term.{Term}
 use Rattle.pc_model.specs.Pieces.{units_of}
-use Rattle.pc_project.specs.declared.estimates.Estimates.{Estimates}
+use Rattle.pc_project.specs.declared.activity.Estimates.{Estimates}
 use Rattle.pc_whatif.specs.declared.edits.judging.Further.{Further}
 use Rattle.pc_whatif.specs.declared.edits.reason.Reason.{Reason}
 use Rattle.pc_whatif.specs.declared.edits.reason.Reason.TheVariants.{OverLimit, CrashAboveNormal, EstimatesOutOfOrder, PieceFault}

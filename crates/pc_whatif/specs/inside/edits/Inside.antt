@@ -5,7 +5,7 @@ use Rattle.pc_model.specs.declared.Term.{Term}
 use Rattle.pc_model.specs.Schedule.{term_at}
 use Rattle.pc_crash.specs.Priced.{ArePiecesWithinLimits}
 use Rattle.pc_crash.specs.inside.Priced.{AreNames}
-use Rattle.pc_project.specs.declared.estimates.Estimates.{Estimates}
+use Rattle.pc_project.specs.declared.activity.Estimates.{Estimates}
 use Rattle.pc_whatif.specs.declared.edits.ask.Change.{Change}
 use Rattle.pc_whatif.specs.declared.edits.ask.Change.TheVariants.{Estimate, Normal, Crash, Slope}
 use Rattle.pc_whatif.specs.declared.edits.KeptEdit.{KeptEdit}

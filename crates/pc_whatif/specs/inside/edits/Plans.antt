@@ -7,7 +7,7 @@ use Rattle.pc_model.specs.Network.{Network}
 use Rattle.pc_model.specs.Pieces.{ArePieces}
 use Rattle.pc_model.specs.Schedule.{AreTerms}
 use Rattle.pc_crash.specs.Terms.{AreWithinLimits}
-use Rattle.pc_project.specs.declared.estimates.Estimates.{Estimates}
+use Rattle.pc_project.specs.declared.activity.Estimates.{Estimates}
 use Rattle.pc_whatif.specs.edits.Plans.{Plan, estimates_at}
 
 -- the estimates are in order, and none is above its limit

@@ -5,7 +5,7 @@ use Rattle.pc_times.specs.Estimates.{expected_time, variance_of}
 use Rattle.pc_times.specs.Picked.{IsPickedWalk}
 use Rattle.pc_times.specs.Times.{AreEarly}
 use Rattle.pc_times.specs.inside.Times.{AreTails}
-use Rattle.pc_project.specs.declared.estimates.Estimates.{Estimates}
+use Rattle.pc_project.specs.declared.activity.Estimates.{Estimates}
 use Rattle.pc_project.specs.Project.{Project}
 
 -- a list for each span that was taken at the opening: for each activity its expected time, in sixths of a day, and the variance

@@ -3,7 +3,7 @@ use Rattle.std.proofs.lemmas.Result.{IfOk-weaker}
 use Rattle.pc_deck.specs.Text.{deck_text}
 use Rattle.pc_project.specs.deck_text.Written.{IsDeckText}
 use Rattle.pc_project.proofs.lemmas.deck_text.WrittenLaws.{text_of_deck}
-use Rattle.pc_project.proofs.deck_text.text.deck_text_in.Goals as goal
+use Rattle.pc_project.proofs.deck_text.deck_text_in.Goals as goal
 
 pub returns : goal.returns
 returns c =

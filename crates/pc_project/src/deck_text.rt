@@ -1,4 +1,4 @@
-//! The text of a project's deck.
+//! The text of a project's deck in canonical form, for keeping, comparing and reading again.
 ghost use Rattle.std.specs.Prelude.{IfOk};
 ghost use Rattle.pc_project.specs.deck_text.Written.{IsDeckText};
 
