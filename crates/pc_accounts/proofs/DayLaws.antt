@@ -1,14 +1,11 @@
 -- What a comparison of days says.
-use Rattle.std.proofs.Common.{◌≡◌, true, false, ℤ, is_le, is_lt, int_cmp, arith}
+use Rattle.std.proofs.Common.{◌≡◌, true, false, ℤ, is_le, int_cmp, arith}
 use Rattle.std.specs.Prelude.{int_le, int_lt, ◌≤ℤ◌, ◌<ℤ◌}
 use Rattle.std.proofs.lemmas.Int.{ints}
 
 -- the order is the test
 pub is_le-int : (a b : ℤ) → is_le (int_cmp a b) ≡ int_le a b
 is_le-int a b = grind (arith, ints)
-
-pub is_lt-int : (a b : ℤ) → is_lt (int_cmp a b) ≡ int_lt a b
-is_lt-int a b = grind (arith, ints)
 
 -- and the test is the order of numbers
 pub le-from_test : (a b : ℤ) → int_le a b ≡ true → a ≤ℤ b

@@ -28,15 +28,6 @@ first_found activities statuses ended a k firsts o row are known read is row_rea
       read = get_or_default statuses k (record { activity = 0; finished = false; day = pos 0 }) row found.0 ∙ sym row_read;
     }
 
--- no status that could be found
-pub none_found : (activities : ℕ) (statuses : List StatusRow) (ended : Bool) (a : ℕ) (firsts : List (Option ℕ)) (o : Option ℕ) →
-    AreFirsts activities statuses ended (length statuses) firsts → a < activities → o ≡ get_or firsts a o → o ≡ None → (j : ℕ) →
-    IsOf statuses ended a j → ⊥
-none_found activities statuses ended a firsts o are known read is =
-    let at : option_at firsts a ≡ None = get_or_default firsts a None o (omega (arith, are.one_each)) ∙ (sym read ∙ is) in
-    let never : FirstBelow statuses ended a (length statuses) None = subst (FirstBelow statuses ended a (length statuses)) at (are.each a known) in
-    λ j says. never j says.known says
-
 -- a status in order is not dated before the start
 pub found_day : (start as_of : ℤ) (statuses : List StatusRow) (ended : Bool) (a k : ℕ) (row : StatusRow) → AreInOrder start as_of statuses → IsFound statuses ended a k row → start ≤ℤ row.day
 found_day start as_of statuses ended a k row orderly found =
