@@ -1,5 +1,5 @@
 -- Costs stay within their limits.
-use Rattle.std.proofs.Common.{◌≡◌, ℕ, zero, suc, ◌+◌, ◌-◌, ◌*◌, ◌^◌, ◌<◌, ◌≤◌, List, length, ◌==◌, refl, ◌∙◌, ap, inl, inr, arith, add-one}
+use Rattle.std.proofs.Common.{◌≡◌, ℕ, zero, suc, ◌+◌, ◌-◌, ◌*◌, ◌^◌, ◌<◌, ◌≤◌, List, length, ◌==◌, refl, ◌∙◌, ap, inl, inr, arith}
 use Rattle.std.proofs.Math.Nat.{mul-le-mul, mul-le-mul_left, mul_comm}
 use Rattle.std.proofs.Math.ListN.{get_or-eq_default}
 use Rattle.std.proofs.lemmas.Bool.{cases_lt}
@@ -20,10 +20,6 @@ use Rattle.pc_crash.specs.inside.KneeLists.{AreKneesOf, AreSmallKnees}
 use Rattle.pc_crash.specs.inside.CrashNets.{IsWhole}
 use Rattle.pc_crash.specs.Priced.{PricedNetwork, knees_in, ArePiecesWithinLimits}
 use Rattle.pc_crash.specs.Terms.{AreWithinLimits}
-
--- one term more
-pub sum_to-more : (n : ℕ) (f : ℕ → ℕ) → sum_to (n + 1) f ≡ sum_to n f + f n
-sum_to-more n f = ap (λ m. sum_to m f) (add-one n)
 
 -- a knee within its limits and a unit below it
 pub price-most : (at rise duration : ℕ) → at ≤ MAX_DURATION → rise ≤ MAX_SLOPE → rise * (at - duration) ≤ 10000000000000

@@ -1,7 +1,7 @@
 -- Groups of pieces, one activity or one piece further.
-use Rattle.std.proofs.Common.{◌≡◌, ℕ, ◌+◌, ◌<◌, List, [], ◌∷◌, ◌++◌, length, take, drop, set, length-append, Bool, ◌==◌, slice_index_or, sym, ◌∙◌, ap, ⊎_elim, arith, eq-eqb}
+use Rattle.std.proofs.Common.{◌≡◌, ℕ, ◌+◌, ◌<◌, List, [], ◌∷◌, ◌++◌, length, take, drop, length-append, Bool, ◌==◌, sym, ◌∙◌, ap, ⊎_elim, arith, eq-eqb}
 use Rattle.std.proofs.lemmas.Bool.{cases_eq, cond-true}
-use Rattle.std.proofs.lemmas.List.{get_or_append_left, get_or_push, take-append-drop, length_push, length-set, get_or-set_same, get_or-set_other}
+use Rattle.std.proofs.lemmas.List.{get_or_append_left, get_or_push, take-append-drop, length_push}
 use Rattle.std.proofs.lemmas.List.Elements.{filter-append}
 use Rattle.std.proofs.lemmas.List.Filters.{length-filter_more}
 use Rattle.arrayvec.specs.ArrayVec.{ArrayVec}
@@ -11,7 +11,6 @@ use Rattle.pc_model.specs.declared.limits.TheConstants.{MAX_PIECES_EACH}
 use Rattle.pc_model.specs.Pieces.{pieces_of, ArePieces}
 use Rattle.pc_crash.specs.inside.Groups.{AreGroups, group_at}
 use Rattle.pc_crash.specs.Priced.{piece_at}
-use Rattle.pc_crash.proofs.PieceLaws.{pieces_of-here, pieces_of-elsewhere}
 
 -- a group without a piece
 abbrev nothing : ArrayVec PieceRow
@@ -45,21 +44,3 @@ group_room terms pieces i n x groups right all inside is known in_terms =
   where
     of_x : PieceRow → Bool
     of_x piece = piece.activity == x
-
--- one more piece comes to those of its activity
-pub AreGroups-more : (pieces : List PieceRow) (i n x : ℕ) (groups : List (ArrayVec PieceRow)) (group : ArrayVec PieceRow) →
-    AreGroups (take i pieces) n groups → i < length pieces → (piece_at pieces i).activity ≡ x → x < n →
-    group.items ≡ group_at groups x ++ piece_at pieces i ∷ [] → AreGroups (take (i + 1) pieces) n (set groups x group)
-AreGroups-more pieces i n x groups group all inside is known longer = record {
-  one_each = length-set groups x group ∙ all.one_each;
-  each = λ a below. ⊎_elim
-      (λ same. ap (λ (g : ArrayVec PieceRow). g.items)
-      (ap (λ b. get b) same ∙ get_or-set_same groups x group nothing (omega (arith, all.one_each))) ∙ longer
-      ∙ ap (λ (items : List PieceRow). items ++ piece_at pieces i ∷ []) (all.each x known)
-      ∙ sym (ap (pieces_of (take (i + 1) pieces)) same ∙ pieces_of-here pieces i x inside is))
-      (λ other. ap (λ (g : ArrayVec PieceRow). g.items) (get_or-set_other groups x a group nothing other) ∙ all.each a below ∙ sym (pieces_of-elsewhere pieces i a inside (λ e. other (sym e ∙ is))))
-      (cases_eq a x);
-}
-  where
-    get : ℕ → ArrayVec PieceRow
-    get a = slice_index_or (set groups x group) a nothing

@@ -1,5 +1,5 @@
 -- The activities laid out, one further.
-use Rattle.std.proofs.Common.{◌≡◌, ℕ, ◌+◌, ◌-◌, ◌<◌, ◌≤◌, List, [], ◌∷◌, ◌++◌, length, take, drop, slice_range, refl, sym, ◌∙◌, ap, subst, ⊎_elim, arith, length-append, length-drop}
+use Rattle.std.proofs.Common.{◌≡◌, ℕ, ◌+◌, ◌-◌, ◌<◌, ◌≤◌, List, [], ◌∷◌, ◌++◌, length, take, drop, slice_range, sym, ◌∙◌, ap, subst, ⊎_elim, arith, length-append, length-drop}
 use Rattle.std.proofs.lemmas.Bool.{cases_eq}
 use Rattle.std.proofs.lemmas.List.{get_or_append_left, get_or_push, length_push, take_more, take_all, drop_at, drop-append-le, take-append-le, map-append}
 use Rattle.pc_model.specs.declared.Arc.{Arc}
@@ -13,16 +13,6 @@ use Rattle.pc_model.specs.Walk.{arc_at}
 use Rattle.pc_crash.specs.declared.price_table.PriceRow.{PriceRow}
 use Rattle.pc_crash.specs.inside.KneeLists.{knee_list}
 use Rattle.pc_crash.specs.inside.Laid.{AreLaid, IsRowOf, row_at}
-
--- no activity is laid out yet
-pub AreLaid-start : (arcs : List Arc) (terms : List Term) (pieces : List PieceRow) → AreLaid arcs terms pieces 0 [] []
-AreLaid-start arcs terms pieces = record {
-  one_each = refl;
-  same_terms = refl;
-  small = omega arith;
-  each = λ a below. absurd (omega arith);
-  apart = λ a b order below. absurd (omega arith);
-}
 
 -- a part of a list is the same after more is put behind it
 range-append : (items more : List Knee) (first count : ℕ) → first + count ≤ length items → slice_range (items ++ more) first (first + count) ≡ slice_range items first (first + count)
