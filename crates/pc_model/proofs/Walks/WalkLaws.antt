@@ -1,5 +1,5 @@
 -- The basic laws of walks: how they are joined and split, the sums over them, and what bounds both.
-use Rattle.std.proofs.Common.{◌≡◌, ℕ, ◌+◌, ◌*◌, ◌<◌, ◌≤◌, zero, suc, List, [], ◌∷◌, ◌++◌, length, slice_index, take, drop, refl, sym, ◌∙◌, ap, subst, ◌⊎◌, inl, inr, ⊎_elim, arith}
+use Rattle.std.proofs.Common.{◌≡◌, ℕ, ◌+◌, ◌*◌, ◌<◌, ◌≤◌, zero, suc, List, [], ◌∷◌, ◌++◌, length, slice_index, take, drop, refl, sym, ap, subst, ◌⊎◌, inl, inr, ⊎_elim, arith}
 use Rattle.pc_model.specs.declared.Arc.{Arc}
 use Rattle.pc_model.specs.Greatest.{IsGreatest}
 use Rattle.pc_model.specs.Walk.{from_of, to_of, IsWalk, walk_sum}
@@ -49,11 +49,6 @@ last_of_walk arcs e f (a ∷ walk) walked =
     (λ (front, b, is, below, before, ends). inr (a ∷ front, b, ap (λ (w : List ℕ). a ∷ w) is, below, (walked.0, walked.1, before), ends))
     (last_of_walk arcs (to_of arcs a) f walk walked.2)
 
--- a walk ends at one event only
-pub walk_end_unique : (arcs : List Arc) (e f g : ℕ) (walk : List ℕ) → IsWalk arcs e walk f → IsWalk arcs e walk g → f ≡ g
-walk_end_unique arcs e f g [] to_f to_g = sym to_f ∙ to_g
-walk_end_unique arcs e f g (a ∷ walk) to_f to_g = walk_end_unique arcs (to_of arcs a) f g walk to_f.2 to_g.2
-
 -- times that leave each activity its length between its two events rise along a walk by the walk's sum at least
 pub times_bound_walk : (arcs : List Arc) (lengths : List ℕ) (times : ℕ → ℕ) →
     ((a : ℕ) → a < length arcs → times (from_of arcs a) + slice_index lengths a ≤ times (to_of arcs a)) → (e f : ℕ) (walk : List ℕ) →
@@ -61,14 +56,6 @@ pub times_bound_walk : (arcs : List Arc) (lengths : List ℕ) (times : ℕ → �
 times_bound_walk arcs lengths times fits e f [] walked = omega (arith, ap times walked)
 times_bound_walk arcs lengths times fits e f (a ∷ walk) walked =
     omega (arith, fits a walked.0, ap times walked.1, times_bound_walk arcs lengths times fits (to_of arcs a) f walk walked.2)
-
--- tails that leave each activity its length between its two events fall along a walk by the walk's sum at least
-pub tails_bound_walk : (arcs : List Arc) (lengths : List ℕ) (tails : ℕ → ℕ) →
-    ((a : ℕ) → a < length arcs → slice_index lengths a + tails (to_of arcs a) ≤ tails (from_of arcs a)) → (e f : ℕ) (walk : List ℕ) →
-    IsWalk arcs e walk f → walk_sum lengths walk + tails f ≤ tails e
-tails_bound_walk arcs lengths tails fits e f [] walked = omega (arith, ap tails walked)
-tails_bound_walk arcs lengths tails fits e f (a ∷ walk) walked =
-    omega (arith, fits a walked.0, ap tails walked.1, tails_bound_walk arcs lengths tails fits (to_of arcs a) f walk walked.2)
 
 -- there is one greatest number at most
 pub greatest_unique : (P : ℕ → Type 0) (m n : ℕ) → IsGreatest P m → IsGreatest P n → m ≡ n
