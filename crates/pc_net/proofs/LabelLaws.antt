@@ -144,17 +144,6 @@ pub record IsSpreading (net : Network) (label : ℕ) (reached labels : List ℕ)
   pub here : slice_index reached at ≡ event
   pub crossed : (i : ℕ) → i < j → label ≤ slice_index labels (to_of net.arcs (slice_index leaving i))
 
--- none of them is
-pub IsSpreading-start : (net : Network) (label : ℕ) (reached labels : List ℕ) (at event : ℕ) (leaving : List ℕ) →
-    IsSpread net label reached labels at → at < length reached → slice_index reached at ≡ event →
-    IsSpreading net label reached labels at event leaving 0
-IsSpreading-start net label reached labels at event leaving spread queued here = record {
-  spread = spread;
-  queued = queued;
-  here = here;
-  crossed = λ i below. absurd (omega arith);
-}
-
 -- the next of them ends at an event that has a label
 pub IsSpreading-skip : (net : Network) (label : ℕ) (reached labels : List ℕ) (at event : ℕ) (leaving : List ℕ) (j : ℕ) →
     IsSpreading net label reached labels at event leaving j → slice_index labels (to_of net.arcs (slice_index leaving j)) ≢ 0 →

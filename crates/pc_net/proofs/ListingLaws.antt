@@ -12,7 +12,7 @@ use Rattle.pc_net.specs.inside.Chains.{first_or, places_from, AreChains}
 use Rattle.pc_net.specs.declared.listing.Listing.{Listing}
 use Rattle.pc_net.specs.declared.graph.Side.{Side}
 use Rattle.pc_net.specs.inside.Sides.{event_of, events_of}
-use Rattle.pc_net.specs.inside.Listings.{AreListed, IsListing, HasPart, part_of}
+use Rattle.pc_net.specs.inside.Listings.{AreListed, IsListing, part_of}
 use Rattle.pc_net.proofs.SideLaws.{events_of_at, length-events_of}
 use Rattle.pc_net.proofs.ChainLaws.{IsFirstPlace, first_place}
 
@@ -100,14 +100,6 @@ pub IsFollowed-end : (xs : List ℕ) (x at : ℕ) (before items : List ℕ) → 
 IsFollowed-end xs x at before items followed past =
     let place : IsFirstPlace xs x followed.from at = subst (IsFirstPlace xs x followed.from) (sym followed.first) (first_place xs x followed.from) in
     sym (append-nil items) ∙ ap (λ ys. items ++ ys) (sym (place.none past)) ∙ followed.rest
-
--- each event has its part of a listing
-pub HasPart-from_listing : (xs : List ℕ) (events : ℕ) (listing : Listing) (x : ℕ) → IsListing xs events listing → x < events → HasPart listing x
-HasPart-from_listing xs events listing x listed below = record {
-  known = omega (arith, listed.starts_len);
-  rises = listed.rises x below;
-  within = listed.within x below;
-}
 
 -- this part has the activities at the event, each once and in card order
 pub part_is_listed : (side : Side) (arcs : List Arc) (events : ℕ) (listing : Listing) (x : ℕ) →

@@ -187,16 +187,6 @@ pub record IsCrossing (net : Network) (order missing : List ℕ) (at event : ℕ
   pub waits : List ℕ
   pub waiting : IsWaiting net order missing waits (λ a. StandsBelow order at (from_of net.arcs a) ⊎ StandsBelow leaving j a)
 
--- none of them is crossed yet
-pub IsCrossing-start : (net : Network) (order missing : List ℕ) (at : ℕ) (leaving : List ℕ) → IsQueue net order missing at →
-    at < length order → IsCrossing net order missing at (slice_index order at) leaving 0
-IsCrossing-start net order missing at leaving queue queued = record {
-  queued = queued;
-  here = refl;
-  waits = queue.1.0;
-  waiting = IsWaiting-same net order missing queue.1.0 _ _ queue.1.1 (λ a below stands. inl stands) (λ a below. ⊎_elim (λ stands. stands) (λ none. absurd (omega (arith, none.1))));
-}
-
 -- all of them are crossed
 pub IsQueue-next : (net : Network) (order missing : List ℕ) (at event : ℕ) (leaving : List ℕ) (j : ℕ) →
     IsListed (λ a. from_of net.arcs a ≡ event) (length net.arcs) leaving → IsCrossing net order missing at event leaving j →

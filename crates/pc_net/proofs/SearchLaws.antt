@@ -3,46 +3,12 @@ use Rattle.std.proofs.Common.{◌≡◌, ◌≢◌, ℕ, zero, suc, ◌+◌, ◌
 use Rattle.std.proofs.lemmas.Bool.{cases_eq}
 use Rattle.std.proofs.lemmas.List.{get_or-set_same, get_or-set_other, length-set, get_or_append_left, get_or_push, length_push, drop_more, get_or-map, length-map}
 use Rattle.pc_model.specs.declared.Arc.{Arc}
-use Rattle.pc_model.specs.inside.Greatest.{IsListed}
 use Rattle.pc_model.specs.Walk.{from_of, to_of, IsWalk, IsCycle}
 use Rattle.pc_model.specs.Network.{Network}
 use Rattle.pc_model.proofs.Walks.WalkLaws.{IsWalk-append, IsWalk-push, split_walk_at}
 use Rattle.pc_model.proofs.Walks.OrderLaws.{room_below}
 use Rattle.pc_net.specs.Cycles.{LiesOnCycle, MeetsOnce, IsFirstCycle}
 use Rattle.pc_net.specs.inside.Cycles.{IsRound, IsSearch}
-
--- where the activity begins is found at once
-pub IsSearch-start : (net : Network) (a : ℕ) (ranks : List ℕ) → length ranks ≡ net.events → ((v : ℕ) → slice_index ranks v ≡ 0) →
-    a < length net.arcs → from_of net.arcs a < net.events → IsSearch net a (a ∷ []) (set ranks (from_of net.arcs a) 1) 0
-IsSearch-start net a ranks sized cleared known begins = record {
-  ranks_len = length-set ranks e 1 ∙ sized;
-  some = omega arith;
-  begins = refl;
-  known = known_at;
-  named = named_at;
-  ranked = ranked_at;
-  found = λ v some. ⊎_elim
-      (λ same. (0, omega arith, sym same))
-      (λ other. absurd (some (get_or-set_other ranks e v 1 0 other ∙ cleared v)))
-      (cases_eq v e);
-  leads = λ k after below. absurd (omega arith);
-  closed = λ k b below. absurd (omega arith);
-}
-  where
-    e : ℕ
-    e = from_of net.arcs a
-
-    known_at : (k : ℕ) → k < length (a ∷ []) → slice_index (a ∷ []) k < length net.arcs
-    known_at zero below = known
-    known_at (suc k) below = absurd (omega arith)
-
-    named_at : (k : ℕ) → k < length (a ∷ []) → from_of net.arcs (slice_index (a ∷ []) k) < net.events
-    named_at zero below = begins
-    named_at (suc k) below = absurd (omega arith)
-
-    ranked_at : (k : ℕ) → k < length (a ∷ []) → slice_index (set ranks e 1) (from_of net.arcs (slice_index (a ∷ []) k)) ≡ k + 1
-    ranked_at zero below = get_or-set_same ranks e 1 0 (omega (arith, sized)) ∙ omega arith
-    ranked_at (suc k) below = absurd (omega arith)
 
 -- the events that were found are different, and so no more than there are
 pub IsSearch-short : (net : Network) (a : ℕ) (steps ranks : List ℕ) (at : ℕ) → IsSearch net a steps ranks at → length steps ≤ net.events
@@ -70,27 +36,6 @@ pub record IsVisit (net : Network) (a : ℕ) (steps ranks : List ℕ) (at event 
   pub queued : at < length steps
   pub here : from_of net.arcs (slice_index steps at) ≡ event
   pub seen : (i : ℕ) → i < j → slice_index ranks (from_of net.arcs (slice_index entering i)) ≢ 0
-
--- all of them were looked at
-pub IsVisit-end : (net : Network) (a : ℕ) (steps ranks : List ℕ) (at event : ℕ) (entering : List ℕ) (j : ℕ) →
-    IsListed (λ b. to_of net.arcs b ≡ event) (length net.arcs) entering → IsVisit net a steps ranks at event entering j →
-    j ≡ length entering → IsSearch net a steps ranks (at + 1)
-IsVisit-end net a steps ranks at event entering j listed visit done = record {
-  ranks_len = visit.search.ranks_len;
-  some = visit.search.some;
-  begins = visit.search.begins;
-  known = visit.search.known;
-  named = visit.search.named;
-  ranked = visit.search.ranked;
-  found = visit.search.found;
-  leads = visit.search.leads;
-  closed = λ k b below b_in ends. ⊎_elim
-      (λ same.
-      let stands = listed.every b b_in (ends ∙ ap (λ i. from_of net.arcs (slice_index steps i)) same ∙ visit.here) in
-      subst (λ x. slice_index ranks (from_of net.arcs x) ≢ 0) stands.2 (visit.seen stands.0 (omega (arith, stands.1, done))))
-      (λ other. visit.search.closed k b (omega arith) b_in ends)
-      (cases_eq k at);
-}
 
 -- the next of them begins at an event that was found before
 pub IsVisit-skip : (net : Network) (a : ℕ) (steps ranks : List ℕ) (at event : ℕ) (entering : List ℕ) (j : ℕ) →
@@ -178,20 +123,6 @@ module _ (net : Network) (a : ℕ) (steps ranks : List ℕ) (at event : ℕ) (en
         (cases_eq i j);
   }
 
--- nothing is left to look at
-pub IsSearch-all : (net : Network) (a : ℕ) (steps ranks : List ℕ) (at : ℕ) → IsSearch net a steps ranks at → length steps ≤ at → IsSearch net a steps ranks (length steps)
-IsSearch-all net a steps ranks at search past = record {
-  ranks_len = search.ranks_len;
-  some = search.some;
-  begins = search.begins;
-  known = search.known;
-  named = search.named;
-  ranked = search.ranked;
-  found = search.found;
-  leads = search.leads;
-  closed = λ k b below. search.closed k b (omega arith);
-}
-
 -- every event from which a walk leads to where the activity begins is found
 pub found_from_walk : (net : Network) (a : ℕ) (steps ranks : List ℕ) → IsSearch net a steps ranks (length steps) → (e : ℕ) (walk : List ℕ) →
     IsWalk net.arcs e walk (from_of net.arcs a) → slice_index ranks e ≢ 0
@@ -231,22 +162,6 @@ pub record IsWayBack (net : Network) (a : ℕ) (steps ranks cycle : List ℕ) (r
   pub walked : IsWalk net.arcs (from_of net.arcs a) cycle (from_of net.arcs (slice_index steps place))
   pub falls : (i : ℕ) → 0 < i → i < length cycle → rank < slice_index ranks (from_of net.arcs (slice_index cycle i))
   pub once : MeetsOnce net.arcs cycle
-
--- it begins with the activity itself
-pub IsWayBack-start : (net : Network) (a : ℕ) (steps ranks : List ℕ) → IsSearch net a steps ranks (length steps) → a < length net.arcs →
-    slice_index ranks (to_of net.arcs a) ≢ 0 → IsWayBack net a steps ranks (a ∷ []) (slice_index ranks (to_of net.arcs a))
-IsWayBack-start net a steps ranks search a_in some =
-    let (k, k_in, at) = search.found (to_of net.arcs a) some in
-    record {
-      some = omega arith;
-      begins = refl;
-      place = k;
-      rank_is = ap (slice_index ranks) (sym at) ∙ search.ranked k k_in;
-      place_in = k_in;
-      walked = (a_in, refl, sym at);
-      falls = λ i after below. absurd (omega arith);
-      once = λ i j before below. absurd (omega arith);
-    }
 
 -- it goes on by the step that leaves the event
 pub IsWayBack-step : (net : Network) (a : ℕ) (steps ranks cycle : List ℕ) (rank step next : ℕ) → IsSearch net a steps ranks (length steps) →
@@ -316,21 +231,6 @@ IsWayBack-step net a steps ranks cycle rank step next search way more k k_is ste
         way.once i j before front (sym (ap (from_of net.arcs) (in_front i (omega arith))) ∙ same
         ∙ ap (from_of net.arcs) (in_front j front)))
         (cases_eq j (length cycle))
-
--- at rank 1 it is back
-pub IsRound-from_way : (net : Network) (a : ℕ) (steps ranks cycle : List ℕ) (rank : ℕ) → IsSearch net a steps ranks (length steps) →
-    IsWayBack net a steps ranks cycle rank → rank ≤ 1 → IsRound net.arcs a cycle
-IsRound-from_way net a steps ranks cycle rank search way back = record {
-  begins = way.begins;
-  cycle = ((λ none. omega (arith, way.some, ap length none)), (from_of net.arcs a, subst (IsWalk net.arcs (from_of net.arcs a) cycle) home way.walked));
-  once = way.once;
-}
-  where
-    first : way.place ≡ 0
-    first = omega (arith, way.rank_is)
-
-    home : from_of net.arcs (slice_index steps way.place) ≡ from_of net.arcs a
-    home = ap (λ x. from_of net.arcs (slice_index steps x)) first ∙ ap (from_of net.arcs) search.begins
 
 -- a list that is not empty has a first element
 nonempty : (xs : List ℕ) → xs ≢ [] → 0 < length xs
