@@ -24,13 +24,6 @@ pub record IsArrivalOf (net : Network) (lengths times items : List ℕ) (k n : �
   pub above : (j : ℕ) → j < k → slice_index times (from_of net.arcs (slice_index items j)) + slice_index lengths (slice_index items j) ≤ n
   pub attained : ((j : ℕ) × (j < k) × (slice_index times (from_of net.arcs (slice_index items j)) + slice_index lengths (slice_index items j) ≡ n)) ⊎ ((n ≡ 0) × (k ≡ 0))
 
--- before the first of them n is 0
-pub arrival_none : (net : Network) (lengths times items : List ℕ) → IsArrivalOf net lengths times items 0 0
-arrival_none net lengths times items = record {
-  above = λ j lower. absurd (omega arith);
-  attained = inr (refl, refl);
-}
-
 -- one of them more, which brings m: the greater of n and m
 pub arrival_more : (net : Network) (lengths times items : List ℕ) (k n m : ℕ) → IsArrivalOf net lengths times items k n →
     m ≡ slice_index times (from_of net.arcs (slice_index items k)) + slice_index lengths (slice_index items k) →
@@ -102,13 +95,6 @@ pub record IsDeparture (net : Network) (lengths tails : List ℕ) (e n : ℕ) : 
 pub record IsDepartureOf (net : Network) (lengths tails items : List ℕ) (k n : ℕ) : Type 0 where
   pub above : (j : ℕ) → j < k → slice_index lengths (slice_index items j) + slice_index tails (to_of net.arcs (slice_index items j)) ≤ n
   pub attained : ((j : ℕ) × (j < k) × (slice_index lengths (slice_index items j) + slice_index tails (to_of net.arcs (slice_index items j)) ≡ n)) ⊎ ((n ≡ 0) × (k ≡ 0))
-
--- before the first of them n is 0
-pub departure_none : (net : Network) (lengths tails items : List ℕ) → IsDepartureOf net lengths tails items 0 0
-departure_none net lengths tails items = record {
-  above = λ j lower. absurd (omega arith);
-  attained = inr (refl, refl);
-}
 
 -- one of them more, which leads to m: the greater of n and m
 pub departure_more : (net : Network) (lengths tails items : List ℕ) (k n m : ℕ) → IsDepartureOf net lengths tails items k n →
