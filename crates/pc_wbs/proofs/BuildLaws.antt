@@ -1,13 +1,13 @@
 -- The steps of the loops that build a tree.
 use Rattle.std.proofs.Common.{◌≡◌, ◌≢◌, ℕ, ◌+◌, ◌<◌, ◌≤◌, ◌⊎◌, ◌++◌, ◌∷◌, [], below_more, List, length, get_or, Option, Some, None, refl, sym, ap, ◌∙◌, inl, inr, ⊎_elim, arith}
-use Rattle.std.specs.Prelude.{option_and_then, slice_index, min, max, IsTrue, is_none}
+use Rattle.std.specs.Prelude.{option_and_then, slice_index, min, max}
 use Rattle.std.proofs.lemmas.Bool.{cases_lt, cases_eq}
 use Rattle.std.proofs.lemmas.List.{length_push, get_or_push, get_or_append_left, get_or_default}
 use Rattle.pc_wbs.specs.declared.tree.ItemRow.{ItemRow}
 use Rattle.pc_model.specs.declared.limits.TheConstants.{MAX_LEVEL}
-use Rattle.pc_wbs.specs.Climb.{parent_of, AreInRange, climb, HasLevel, IsLeaf, IsDepth, IsOnlyTop, IsTree}
+use Rattle.pc_wbs.specs.Climb.{parent_of, AreInRange, climb, HasLevel, IsDepth, IsOnlyTop, IsTree}
 use Rattle.pc_wbs.specs.Refusal.{IsLooped, IsTooDeep}
-use Rattle.pc_wbs.specs.inside.Links.{link_at, IsFirstChild}
+use Rattle.pc_wbs.specs.inside.Links.{link_at}
 use Rattle.pc_model.specs.Greatest.{IsFirst, StandsBelow}
 use Rattle.pc_wbs.specs.inside.Ends.{AreEnds, AreDoubled, StayInside, IsLeastBelow, IsFirstLooped, AreLevels, AreGreatest, lesser}
 use Rattle.pc_wbs.proofs.ClimbLaws.{climb-add, climb-lower, climb-more, climb-range, HasLevel-same}
@@ -176,11 +176,6 @@ IsDepth-greatest rows levels depth some h g = record {
     at (j, lt, e) =
         let inside : j < length rows = omega (arith, h.one_each) in
         (j, (inside, rw (← e) (h.level j inside)))
-
--- a row with a first child is no leaf, and one without is
-pub IsLeaf-first : (rows : List ItemRow) (x : ℕ) (o : Option ℕ) → IsFirstChild rows x 0 o → (IsTrue (is_none o) → IsLeaf rows x) × (IsLeaf rows x → IsTrue (is_none o))
-IsLeaf-first rows x None h = (λ _. λ y lt. h y (omega arith) lt, λ _. refl)
-IsLeaf-first rows x (Some c) h = (λ t. absurd cc, λ leaf. absurd (leaf c h.1 h.2))
 
 -- no depth is beyond the most levels
 pub IsDepth-within : (rows : List ItemRow) (levels : List ℕ) (depth : ℕ) → AreLevels rows (length rows) levels → IsDepth rows depth → depth ≤ MAX_LEVEL

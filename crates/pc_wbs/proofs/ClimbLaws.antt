@@ -96,6 +96,3 @@ HasLevel-parent rows x p level e (suc k, (top, (h, t, l))) =
     let is = s.1.0 in
     let same : s.0 ≡ p = cc in
     ((k, (top, (rw (← same) s.1.1, t, omega arith))), omega arith)
-
-pub HasLevel-positive : (rows : List ItemRow) (x level : ℕ) → HasLevel rows x level → 1 ≤ level
-HasLevel-positive rows x level (k, (top, (h, t, l))) = omega arith

@@ -1,8 +1,7 @@
 -- How levels tell rows above one another apart.
 use Rattle.std.proofs.Common.{◌≡◌, ℕ, ◌+◌, ◌≤◌, List, Some, refl, ap, ◌∙◌, arith}
-use Rattle.std.specs.Prelude.{min}
 use Rattle.pc_wbs.specs.declared.tree.ItemRow.{ItemRow}
-use Rattle.pc_wbs.specs.Climb.{climb, IsBelow, HasLevel, IsAtLevel}
+use Rattle.pc_wbs.specs.Climb.{climb, IsBelow, HasLevel}
 use Rattle.pc_wbs.proofs.ClimbLaws.{climb-add, HasLevel-same}
 
 -- a row is as many levels below another as there are steps between them
@@ -24,8 +23,3 @@ IsBelow-same_level rows x y z own level has (k, h) (j, g) at_y at_z =
     let steps : k ≡ j = omega arith in
     let same = ap (λ n. climb rows n x) steps in
     cc
-
--- so a row is below one row at each level
-pub IsAtLevel-only : (rows : List ItemRow) (x level own y z : ℕ) → HasLevel rows x own → IsAtLevel rows x level y → IsBelow rows x z → HasLevel rows z (min level own) → z ≡ y
-IsAtLevel-only rows x level own y z has h below at =
-    IsBelow-same_level rows x z y own (min level own) has below h.below at (h.at_level own has)

@@ -45,13 +45,6 @@ first_still rows p x (Some c) other (from, inside, child, least) = (
       (cases_eq y x),
 )
 
--- a row without a parent is nobody's first child
-pub firsts_skip : (rows : List ItemRow) (x : ℕ) (firsts : List (Option ℕ)) → parent_of rows x ≡ None → AreFirstChildren rows (x + 1) firsts → AreFirstChildren rows x firsts
-firsts_skip rows x firsts top are = record {
-  one_each = are.one_each;
-  first = λ p below. first_still rows p x (link_at firsts p) (λ child. cc) (are.first p below);
-}
-
 -- any other is the first child of its parent so far
 pub firsts_more : (rows : List ItemRow) (x p : ℕ) (firsts : List (Option ℕ)) → parent_of rows x ≡ Some p → x < length rows →
     AreFirstChildren rows (x + 1) firsts → AreFirstChildren rows x (set firsts p (Some x))
@@ -63,18 +56,6 @@ firsts_more rows x p firsts child inside are = record {
       (λ apart. subst (IsFirstChild rows q x) (sym (get_or-set_other firsts p q (Some x) None apart))
       (first_still rows q x (link_at firsts q) (λ other. apart (cc)) (are.first q below)))
       (cases_eq q p);
-}
-
--- a row without a parent has no next sibling
-pub nexts_skip : (rows : List ItemRow) (x : ℕ) (nexts : List (Option ℕ)) → parent_of rows x ≡ None → AreNextSiblings rows (x + 1) nexts → AreNextSiblings rows x nexts
-nexts_skip rows x nexts top are = record {
-  one_each = are.one_each;
-  next = λ y p from inside child. ⊎_elim
-      (λ same. let here : parent_of rows x ≡ Some p = subst (λ (z : ℕ). parent_of rows z ≡ Some p) same child in absurd (cc))
-      (λ apart. are.next y p (omega arith) inside child)
-      (cases_eq y x);
-  alone = are.alone;
-  later = λ y before inside. are.later y (omega arith) inside;
 }
 
 -- the next sibling of any other is the first child so far of its parent

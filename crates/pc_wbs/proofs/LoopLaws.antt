@@ -97,15 +97,6 @@ pub record IsOnTheWay (rows : List ItemRow) (start steps : ℕ) (found : List �
   pub passed : (k : ℕ) → k < steps → climb rows k start ≡ Some (slice_index found k)
   pub away : (k : ℕ) → k < steps → climb rows (k + 1) start ≢ Some start
 
-pub IsOnTheWay-none : (rows : List ItemRow) (start : ℕ) → start < length rows → IsOnTheWay rows start 0 [] start
-IsOnTheWay-none rows start lt = record {
-  so_many = refl;
-  now = refl;
-  inside = lt;
-  passed = λ k h. absurd (omega arith);
-  away = λ k h. absurd (omega arith);
-}
-
 pub IsOnTheWay-more : (rows : List ItemRow) (start steps : ℕ) (found : List ℕ) (here parent : ℕ) → AreInRange rows →
     IsOnTheWay rows start steps found here → parent_of rows here ≡ Some parent → (parent ≡ start → ⊥) →
     IsOnTheWay rows start (steps + 1) (found ++ here ∷ []) parent
