@@ -3,6 +3,8 @@
 //! the contracts of the public functions, and the lemmas in `proofs/`.
 #![tactic(auto)]
 
+ghost use Rattle.std.specs.Prelude.{◌≡◌};
+
 mod limits;
 pub mod schedule_laws;
 
@@ -11,6 +13,7 @@ pub use limits::{
     MAX_ITEMS, MAX_LEVEL, MAX_LOADS, MAX_PIECES, MAX_PIECES_EACH, MAX_RESOURCES, MAX_SLOPE,
     MAX_STATUSES, MAX_TERMS, MAX_TOGOS, MAX_UNIT_DAYS, MAX_VARIANCE,
 };
+use std::marker::Model;
 
 /// The place of an activity in the network: the events where it begins and ends, numbered from 0 in card order.
 #[derive(Clone, Copy)]
@@ -64,4 +67,34 @@ pub struct TimeTerms {
     pub bonus: u64,
     /// What each unit after the target costs.
     pub penalty: u64,
+}
+
+/// A list of activities or of items, each given by its number.
+#[derive(Debug, Drop)]
+pub struct Indices {
+    items: Vec<u32>,
+}
+
+impl Model for Indices {
+    ghost use Rattle.std.specs.Prelude.{ℕ, List};
+
+    ghost Value = { List ℕ };
+
+    ghost view = { λ indices. indices.items.items };
+}
+
+impl Indices {
+    /// Returns the list of these numbers.
+    pub fn new(items: Vec<u32>) -> Indices
+        ensures { result ≡ items.items }
+    {
+        Indices { items }
+    }
+
+    /// Returns the numbers, in order.
+    pub fn as_slice(&self) -> &[u32]
+        ensures { result.now ≡ self.now }
+    {
+        &self.items
+    }
 }

@@ -11,5 +11,5 @@ mod ordering;
 mod refusal;
 
 pub use network::{Net, each_activity_stands_once};
-pub use pc_model::{Arc, MAX_ACTIVITIES, MAX_EVENTS};
-pub use refusal::{Indices, NetError};
+pub use pc_model::{Arc, Indices};
+pub use refusal::NetError;

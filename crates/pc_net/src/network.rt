@@ -12,8 +12,8 @@ ghost use Rattle.pc_net.specs.Degrees.{AreDistinct, degrees};
 use crate::cycle::first_cycle;
 use crate::graph::Graph;
 use crate::ordering::ordered;
-use crate::refusal::{Indices, NetError, check};
-use pc_model::{Arc, MAX_ACTIVITIES, MAX_EVENTS};
+use crate::refusal::{NetError, check};
+use pc_model::{Arc, Indices, MAX_ACTIVITIES, MAX_EVENTS};
 use std::alloc::Global;
 use std::marker::Model;
 

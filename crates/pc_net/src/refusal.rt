@@ -1,43 +1,14 @@
 //! Why there is no network, and the search for all causes besides cycles: the start entered, the end left, an event
 //! that dangles.
-ghost use Rattle.std.specs.Prelude.{◌≡◌, ◌<◌, IfErr, IsErrOf, MatchBool, OnOk};
+ghost use Rattle.std.specs.Prelude.{◌<◌, IfErr, IsErrOf, MatchBool, OnOk};
 ghost use Rattle.pc_model.specs.Network.{IsDangling};
 ghost use Rattle.pc_net.specs.Firmness.{EntersStart, LeavesEnd, Dangles, IsUnentered, IsFirm};
 ghost use Rattle.pc_net.specs.inside.Firmness.{IsFirstIn, IsUnleft};
 ghost use Rattle.pc_net.specs.Refusals.{IsNetError};
 
 use crate::graph::Graph;
+use pc_model::Indices;
 use std::alloc::AllocError;
-use std::marker::Model;
-
-/// A list of activities, given by their numbers in card order.
-#[derive(Debug, Drop)]
-pub struct Indices {
-    items: Vec<u32>,
-}
-
-impl Model for Indices {
-    ghost use Rattle.std.specs.Prelude.{ℕ, List};
-
-    ghost Value = { List ℕ };
-
-    ghost view = { λ indices. indices.items.items };
-}
-
-impl Indices {
-    pub(crate) fn new(items: Vec<u32>) -> Indices
-        ensures { result ≡ items.items }
-    {
-        Indices { items }
-    }
-
-    /// Returns the activities, in order.
-    pub fn as_slice(&self) -> &[u32]
-        ensures { result.now ≡ self.now }
-    {
-        &self.items
-    }
-}
 
 /// Why there is no network. A cause is named only if none of those before it applies. Memory may run out at any time.
 #[derive(Debug, Drop)]

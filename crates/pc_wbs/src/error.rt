@@ -1,37 +1,7 @@
 //! Why rows are no tree.
-ghost use Rattle.std.specs.Prelude.{◌≡◌};
 
+use pc_model::Indices;
 use std::alloc::{AllocError, AllocFailed};
-use std::marker::Model;
-
-/// A list of row numbers.
-#[derive(Debug, Drop)]
-pub struct Indices {
-    rows: Vec<u32>,
-}
-
-impl Model for Indices {
-    ghost use Rattle.std.specs.Prelude.{ℕ, List};
-
-    ghost Value = { List ℕ };
-
-    ghost view = { λ indices. indices.rows.items };
-}
-
-impl Indices {
-    pub(crate) fn new(rows: Vec<u32>) -> Self
-        ensures { result ≡ rows.items }
-    {
-        Indices { rows }
-    }
-
-    /// Returns the row numbers.
-    pub fn as_slice(&self) -> &[u32]
-        ensures { result.now ≡ self.now }
-    {
-        self.rows.as_slice()
-    }
-}
 
 /// Why rows are no tree. The causes are tried in this order.
 #[derive(Debug, Drop)]

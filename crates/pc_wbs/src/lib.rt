@@ -7,5 +7,6 @@ mod loops;
 mod order;
 mod tree;
 
-pub use error::{Indices, TreeError};
+pub use error::TreeError;
+pub use pc_model::Indices;
 pub use tree::{ItemRow, Tree};

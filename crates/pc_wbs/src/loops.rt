@@ -5,8 +5,9 @@ ghost use Rattle.pc_wbs.specs.Climb.{AreInRange, IsOnlyTop};
 ghost use Rattle.pc_wbs.specs.Refusal.{IsTreeError, IsLooped, IsLoopFrom};
 ghost use Rattle.pc_wbs.specs.inside.Ends.{AreEnds, AreDoubled, StayInside, IsLeastBelow, IsFirstLooped, lesser};
 
-use crate::error::{Indices, TreeError};
+use crate::error::TreeError;
 use crate::tree::{ItemRow, parent_of};
+use pc_model::Indices;
 use std::alloc::{AllocError, Global};
 
 /// How often a climb is doubled, so that it has at least as many steps as there can be rows.
