@@ -70,7 +70,8 @@ impl<S: DeckSort> CardsOf<S> {
     /// The cards of a deck that is within the limits of its sort.
     pub(crate) fn of(deck: DeckCards) -> Self
         requires { IsWithin S.sort deck }
-        ensures { result ≡ deck }
+        ensures deck { result ≡ deck }
+        ensures within { IsWithin S.sort result }
     {
         CardsOf {
             deck,

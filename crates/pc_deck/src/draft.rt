@@ -25,8 +25,17 @@ pub struct Draft {
 }
 
 impl Draft {
-    ghost use Rattle.pc_deck.specs.inside.Judged.{judge, place_of};
-    ghost use Rattle.pc_deck.specs.inside.Reading.{IsKept, no_cards, closed, count_in, seen_in, version_of};
+    ghost use Rattle.pc_deck.specs.inside.Judged.{fault_at, judge, place_of};
+    ghost use Rattle.pc_deck.specs.inside.Reading.{
+      IsKept,
+      codes_in,
+      no_cards,
+      closed,
+      count_in,
+      seen_in,
+      version_of,
+      with_card,
+    };
     ghost use Rattle.pc_deck.specs.Within.{IsWithin};
     ghost use Rattle.pc_deck.specs.inside.Within.{IsDraftWithin};
 
@@ -85,8 +94,38 @@ impl Draft {
         self.keep(&place, fields)
     }
 
-    /// Takes the END card, or answers its fault.
-    pub(crate) fn end(&mut self, place: &CardPlace, fields: &Row) -> Result<(), DeckError>
+    /// Takes the next card, of a kind that is known, or returns its fault.
+    fn keep(&mut self, place: &CardPlace, fields: &Row) -> Result<(), DeckError>
+        ensures kept { OnOk result (self.new ≡ with_card self.old place.now.kind place.now.row fields.now) }
+        ensures sound { OnOk result (fault_at place.now (count_in self.old place.now.kind)
+            (codes_in self.old place.now.kind) fields.now ≡ None) }
+        ensures fault { IfErr result (Refuses
+            (λ fault. fault_at place.now (count_in self.old place.now.kind)
+            (codes_in self.old place.now.kind) fields.now ≡ Some fault)) }
+    {
+        // By `return`, so that each answer is made where the caller wants it, and none is copied there.
+        match place.kind {
+            Kind::Project => return self.project.take(place, fields),
+            Kind::AsOf => return self.lists.as_of.take(place, fields),
+            Kind::Terms => return self.lists.terms.take(place, fields),
+            Kind::Wbs => return self.lists.items.take(place, fields),
+            Kind::Event => return self.lists.events.take(place, fields),
+            Kind::Act => return self.lists.acts.take(place, fields),
+            Kind::Task => return self.lists.tasks.take(place, fields),
+            Kind::After => return self.lists.afters.take(place, fields),
+            Kind::Piece => return self.lists.pieces.take(place, fields),
+            Kind::Acct => return self.lists.accounts.take(place, fields),
+            Kind::Charge => return self.lists.charges.take(place, fields),
+            Kind::ToGo => return self.lists.togos.take(place, fields),
+            Kind::Status => return self.lists.statuses.take(place, fields),
+            Kind::Res => return self.lists.resources.take(place, fields),
+            Kind::Load => return self.lists.loads.take(place, fields),
+            Kind::End => return self.end(place, fields),
+        }
+    }
+
+    /// Takes the END card, or returns its fault.
+    fn end(&mut self, place: &CardPlace, fields: &Row) -> Result<(), DeckError>
         requires { place.now.kind ≡ kind.End }
         ensures kept { OnOk result (self.new ≡ record self.old { has_ended = true }) }
         ensures sound { OnOk result (fault_of_listed place.now (count_in self.old kind.End) 1 1 [] fields.now ≡ None) }

@@ -1,23 +1,19 @@
 //! The kinds of cards, a file for each or for two whose cards have the same fields, and the table of them: the word of
 //! each kind, its list, and its limit in decks of each sort.
-ghost use Rattle.std.specs.Prelude.{◌≡◌, None, Some, OnOk, IfErr};
-ghost use Rattle.pc_faults.specs.inside.First.{Refuses};
+ghost use Rattle.std.specs.Prelude.{◌≡◌};
 ghost use Rattle.pc_deck.specs.Kinds.{kind_of, kind_among, first_kinds, work_kinds, further_kinds, limit_of};
 
-use crate::draft::Draft;
 use crate::limits::{
     MAX_AFTERS, MAX_TASK_ITEMS, MAX_TASKS, SMALL_ACTIVITIES, SMALL_CHARGES, SMALL_EVENTS,
     SMALL_PIECES, SMALL_STATUSES,
 };
 use pc_cards::lists::{Listed, Named, Once};
-use pc_cards::place::CardPlace;
 use pc_cards::sort::{Sort, by_sort, by_version};
-use pc_faults::{DeckError, Kind};
+use pc_faults::Kind;
 use pc_model::{
     MAX_ACCOUNTS, MAX_ACTIVITIES, MAX_CHARGES, MAX_EVENTS, MAX_ITEMS, MAX_LOADS, MAX_PIECES,
     MAX_RESOURCES, MAX_STATUSES, MAX_TOGOS,
 };
-use pc_records::Row;
 use std::alloc::Global;
 
 mod acct;
@@ -110,41 +106,6 @@ impl CardLists {
             statuses: Listed::new(alloc),
             resources: Named::new(alloc, key),
             loads: Listed::new(alloc),
-        }
-    }
-}
-
-impl Draft {
-    ghost use Rattle.pc_deck.specs.inside.Judged.{fault_at};
-    ghost use Rattle.pc_deck.specs.inside.Reading.{with_card, count_in, codes_in};
-
-    /// Takes the next card, of a kind that is known, or answers its fault.
-    pub(crate) fn keep(&mut self, place: &CardPlace, fields: &Row) -> Result<(), DeckError>
-        ensures kept { OnOk result (self.new ≡ with_card self.old place.now.kind place.now.row fields.now) }
-        ensures sound { OnOk result (fault_at place.now (count_in self.old place.now.kind)
-            (codes_in self.old place.now.kind) fields.now ≡ None) }
-        ensures fault { IfErr result (Refuses
-            (λ fault. fault_at place.now (count_in self.old place.now.kind)
-            (codes_in self.old place.now.kind) fields.now ≡ Some fault)) }
-    {
-        // By `return`, so that each answer is made where the caller wants it, and none is copied there.
-        match place.kind {
-            Kind::Project => return self.project.take(place, fields),
-            Kind::AsOf => return self.lists.as_of.take(place, fields),
-            Kind::Terms => return self.lists.terms.take(place, fields),
-            Kind::Wbs => return self.lists.items.take(place, fields),
-            Kind::Event => return self.lists.events.take(place, fields),
-            Kind::Act => return self.lists.acts.take(place, fields),
-            Kind::Task => return self.lists.tasks.take(place, fields),
-            Kind::After => return self.lists.afters.take(place, fields),
-            Kind::Piece => return self.lists.pieces.take(place, fields),
-            Kind::Acct => return self.lists.accounts.take(place, fields),
-            Kind::Charge => return self.lists.charges.take(place, fields),
-            Kind::ToGo => return self.lists.togos.take(place, fields),
-            Kind::Status => return self.lists.statuses.take(place, fields),
-            Kind::Res => return self.lists.resources.take(place, fields),
-            Kind::Load => return self.lists.loads.take(place, fields),
-            Kind::End => return self.end(place, fields),
         }
     }
 }

@@ -15,9 +15,9 @@ cards-preserved c =
     let text = next-text c.in_ok-row.field-0 c.in-Card.row c.next.new.fields c.cards.rows c.next.new.self c.in-Card.is c.in_ok-row.ensures c.cards.invariant.text in
     record {
       says =
-          read_from-kept c.cards.draft c.take.new.self c.in_ok-row.field-0 c.in-Card.row c.next.new.fields c.cards.rows c.next.new.self c.in-Card.is c.in_ok-row.ensures c.in_default.ensures.kept
+          read_from-kept c.cards.draft c.take.new.self c.in_ok-row.field-0 c.in-Card.row c.next.new.fields c.cards.rows c.next.new.self c.in-Card.is c.in_ok-row.ensures c.in_ok-take.ensures.kept
           ∙ c.cards.invariant.says;
-      within = within-kept c.cards.draft c.take.new.self c.in-Card.row c.next.new.fields c.in_default.ensures.kept text.0 c.cards.invariant.within;
+      within = within-kept c.cards.draft c.take.new.self c.in-Card.row c.next.new.fields c.in_ok-take.ensures.kept text.0 c.cards.invariant.within;
       text = text.1;
-      sort = sort-kept c.cards.draft c.take.new.self c.in-Card.row c.next.new.fields c.in_default.ensures.kept ∙ c.cards.invariant.sort;
+      sort = sort-kept c.cards.draft c.take.new.self c.in-Card.row c.next.new.fields c.in_ok-take.ensures.kept ∙ c.cards.invariant.sort;
     }
