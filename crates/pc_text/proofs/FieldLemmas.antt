@@ -1,12 +1,16 @@
 -- Words of a line, and what stands behind them.
-use Rattle.std.proofs.Common.{◌≡◌, ℕ, suc, Bool, true, false, ◌&&◌, cond, List, [], ◌∷◌, ◌++◌, length, take, drop, Option, Some, None, refl, ap, subst, ◌∙◌}
+use Rattle.std.proofs.Common.{◌≡◌, ℕ, ◌^◌, ◌<◌, suc, Bool, true, false, ◌&&◌, cond, List, [], ◌∷◌, ◌++◌, length, take, drop, Option, Some, None, refl, ap, subst, ◌∙◌}
 use Rattle.std.proofs.lemmas.Bool.{eqb-true, eq-eqb, ne_eqb}
 use Rattle.std.proofs.lemmas.Option.{cond_some}
 use Rattle.std.proofs.lemmas.List.{take-append-drop, append-nil, nil_from_length}
 use Rattle.std.proofs.Math.Seq.{take-append_seam, drop-append_seam}
 use Rattle.std.specs.List.{list_all}
 use Rattle.pc_text.specs.Code.{is_code, is_code_byte, code_of}
-use Rattle.pc_text.specs.Fields.{◌>>=◌, spaced, Lacks, IsCode, run_len, field, field_by, code_field, alone}
+use Rattle.std.specs.Char.{is_ascii_digit}
+use Rattle.std.specs.Fmt.{decimal}
+use Rattle.pc_text.specs.Number.{numeral_of}
+use Rattle.pc_text.specs.Fields.{◌>>=◌, spaced, Lacks, IsCode, run_len, field, field_by, code_field, number_field, alone}
+use Rattle.pc_text.proofs.NumberLemmas.{IsLimit, decimal_parts, number_takes, number_again}
 
 -- the value that something came of
 pub bind_some : {A B : Type 0} (o : Option A) (f : A → Option B) (y : B) → (o >>= f) ≡ Some y → (x : A) × (o ≡ Some x) × (f x ≡ Some y)
@@ -112,3 +116,24 @@ code_field_takes bytes x e =
 pub code_field_again : (code rest : List ℕ) → IsCode code → IsBehind rest → code_field (spaced code rest) ≡ Some (code, rest)
 code_field_again code rest h behind =
     field_by_again code_of code rest code (code_lacks 32 refl code h) behind (ap (λ is. cond is (Some code) None) h)
+
+-- a number has only the bytes of digits
+pub decimal_lacks : {most : ℕ} → IsLimit most → (stop : ℕ) → is_ascii_digit stop ≡ false → (n : ℕ) → n < 10 ^ most → Lacks stop (decimal n)
+decimal_lacks {most} limit stop fails n h = lacks is_ascii_digit stop fails (decimal n) (decimal_parts most n limit h).digits
+
+-- a number that is read is spelled behind a space
+pub record TakesNumber (most : ℕ) (bytes : List ℕ) (n : ℕ) (rest : List ℕ) : Type 0 where
+  pub text : bytes ≡ spaced (decimal n) rest
+  pub small : n < 10 ^ most
+
+pub number_field_takes : {most : ℕ} → IsLimit most → (bytes : List ℕ) (x : ℕ × List ℕ) → number_field most bytes ≡ Some x → TakesNumber most bytes (x.0) (x.1)
+unfolding number_field
+number_field_takes {most} limit bytes x e =
+    let taken = field_by_takes (numeral_of most) bytes x e in
+    let spells = number_takes most taken.word (x.0) limit taken.reads in
+    record { text = taken.text ∙ ap (λ word. spaced word (x.1)) (spells.1); small = spells.0 }
+
+pub number_field_again : {most : ℕ} → IsLimit most → (n : ℕ) (rest : List ℕ) → n < 10 ^ most → IsBehind rest → number_field most (spaced (decimal n) rest) ≡ Some (n, rest)
+unfolding number_field
+number_field_again {most} limit n rest h behind =
+    field_by_again (numeral_of most) (decimal n) rest n (decimal_lacks limit 32 refl n h) behind (number_again most (decimal n) n limit (h, refl))

@@ -1,6 +1,7 @@
 -- The fields of a line: each is a space and the word behind it.
 use Rattle.std.specs.Prelude.{◌≡◌, ◌≢◌, ℕ, zero, suc, true, ◌==◌, List, [], ◌∷◌, ◌++◌, length, take, drop, Option, Some, None, if◌then◌else◌}
 use Rattle.pc_text.specs.Code.{is_code, code_of}
+use Rattle.pc_text.specs.Number.{numeral_of}
 
 infixl 10 ◌>>=◌
 -- what comes of a value, where there is one
@@ -41,6 +42,10 @@ field_by read bytes = do
 -- the code behind the space at the front, and the bytes behind it
 abbrev pub code_field : List ℕ → Option (List ℕ × List ℕ)
 code_field bytes = field_by code_of bytes
+
+-- the number of at most so many digits behind the space at the front, and the bytes behind it
+unfoldable pub number_field : ℕ → List ℕ → Option (ℕ × List ℕ)
+number_field most bytes = field_by (numeral_of most) bytes
 
 -- the value, where nothing is left behind it
 abbrev pub alone : {A : Type 0} → List ℕ → A → Option A

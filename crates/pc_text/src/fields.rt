@@ -1,7 +1,9 @@
 //! The fields of a line: each is a space and the word after it.
 ghost use Rattle.std.specs.Prelude.{◌≡◌, ◌≤◌, length};
 ghost use Rattle.std.specs.Option.{option_map};
-ghost use Rattle.pc_text.specs.Fields.{run_len, field};
+ghost use Rattle.pc_text.specs.Fields.{run_len, field, number_field, alone};
+
+use crate::number::read_numeral;
 
 /// Returns how many bytes are before the first `stop`: all of them if there is none.
 #[inline]
@@ -30,4 +32,25 @@ pub fn field(bytes: &[u8]) -> Option<(&[u8], &[u8])>
     }
     let end = run_len(rest, b' ');
     Some((&rest[..end], &rest[end..]))
+}
+
+/// Splits off the first field, a number of at most `most` digits. Returns the number and the bytes after it, or `None`
+/// if the bytes do not begin with such a field.
+#[inline]
+#[tactic(auto, unfolding(crate::specs::Fields::number_field, crate::specs::Fields::field_by))]
+pub fn number_field(bytes: &[u8], most: usize) -> Option<(u64, &[u8])>
+    requires { most ≤ 19 }
+    ensures { option_map (λ parts. (parts.0, parts.1.now)) result ≡ number_field most bytes.now }
+{
+    let (word, rest) = field(bytes)?;
+    let number = read_numeral(word, most)?;
+    Some((number, rest))
+}
+
+/// Returns the value if nothing is left after it.
+#[inline]
+pub fn alone<T: Copy>(rest: &[u8], value: T) -> Option<T>
+    ensures { result ≡ alone rest.now value }
+{
+    if rest.is_empty() { Some(value) } else { None }
 }

@@ -9,7 +9,9 @@ mod number;
 mod title;
 
 pub use code::{Code, Codes, is_code};
-pub use fields::{field, run_len};
+pub use fields::{alone, field, number_field, run_len};
 pub use line::Line;
-pub use number::{Decimal, Digits, Signed, Wide, digits, read_number, signed, wide};
+pub use number::{
+    DECK_DIGITS, Decimal, Digits, Signed, Wide, digits, is_unpadded, read_number, signed, wide,
+};
 pub use title::{Title, is_title_shape};

@@ -1,13 +1,13 @@
-//! Numbers: reading those of a deck, and formatting any number in decimal.
+//! Numbers: reading those of decks and of other lines, and formatting any number in decimal.
 ghost use Rattle.std.specs.Prelude.{◌≡◌, ◌≤◌, ℕ, IfSome, Some, decimal, length, ◌+◌, ◌<◌, ◌/◌, ◌%◌};
 ghost use Rattle.std.specs.Fmt.{signed_decimal};
-ghost use Rattle.pc_text.specs.Number.{number_of};
-ghost use Rattle.pc_text.specs.inside.Number.{is_plain, value_of, IsDecimal};
+ghost use Rattle.pc_text.specs.Number.{numeral_of, number_of};
+ghost use Rattle.pc_text.specs.inside.Number.{is_unpadded, value_of, IsDecimal};
 
 use std::marker::Model;
 
-/// The most digits that a number has.
-const LIMIT: usize = 13;
+/// The most digits of a number in a deck.
+pub const DECK_DIGITS: usize = 13;
 
 /// Reads the number in a field of a deck. Returns `None` unless the field is the decimal form of a number: 1 to 13
 /// digits, without a sign and without a leading zero.
@@ -20,27 +20,37 @@ pub fn read_number(field: &[u8]) -> Option<u64>
     ensures spelled { IfSome result (IsDecimal field.now) }
     ensures read { (n : ℕ) → IsDecimal field.now n → result ≡ Some n }
 {
-    if is_plain(field) {
-        value_of(field)
+    read_numeral(field, DECK_DIGITS)
+}
+
+/// Reads a number of 1 to `most` digits, without a sign and without a leading zero. Returns `None` if the word is none.
+#[inline(always)]
+pub(crate) fn read_numeral(word: &[u8], most: usize) -> Option<u64>
+    requires { most ≤ 19 }
+    ensures { result ≡ numeral_of most word.now }
+{
+    if is_unpadded(word, most) {
+        value_of(word)
     } else {
         None
     }
 }
 
-/// Returns whether the field has 1 to 13 bytes, and no leading zero.
-fn is_plain(field: &[u8]) -> bool
-    ensures { result ≡ is_plain field.now }
+/// Returns whether the word has 1 to `most` bytes, and no leading zero.
+#[inline]
+pub fn is_unpadded(word: &[u8], most: usize) -> bool
+    ensures { result ≡ is_unpadded most word.now }
 {
-    1 <= field.len() && field.len() <= LIMIT && (field[0] != b'0' || field.len() == 1)
+    1 <= word.len() && word.len() <= most && (word[0] != b'0' || word.len() == 1)
 }
 
-/// Returns the value of at most 13 digits, or `None` if one of the bytes is not a digit.
-fn value_of(field: &[u8]) -> Option<u64>
-    requires short { length field.now ≤ 13 }
-    ensures { result ≡ value_of field.now }
+/// Returns the value of at most 19 digits, or `None` if one of the bytes is not a digit.
+fn value_of(word: &[u8]) -> Option<u64>
+    requires short { length word.now ≤ 19 }
+    ensures { result ≡ value_of word.now }
 {
     let mut number = 0;
-    for byte in field {
+    for byte in word {
         // One subtraction tests for a digit and gives its value: any other byte comes out above 9.
         let digit = u64::from(*byte).wrapping_sub(u64::from(b'0'));
         if digit > 9 {

@@ -1,4 +1,4 @@
--- What a number is: `0`, or digits without a leading zero, at most 13 digits.
+-- What a number is: `0`, or digits without a leading zero. Those of a deck have at most 13 digits.
 -- Here is what no clause of a top call and no law reaches.
 use Rattle.std.specs.Prelude.{◌≡◌, ℕ, ◌^◌, ◌<◌, Bool, not, ◌&&◌, ◌||◌, ◌==◌, nat_le, List, length, slice_index, Option, Some, None, if◌then◌else◌}
 use Rattle.std.specs.List.{list_all}
@@ -6,14 +6,18 @@ use Rattle.std.specs.Char.{is_ascii_digit}
 use Rattle.std.specs.Fmt.{decimal}
 use Rattle.pc_text.specs.Number.{value_after}
 
--- 1 to 13 bytes, and no zero in front of others
-abbrev pub is_plain : List ℕ → Bool
-is_plain field = nat_le 1 (length field) && (nat_le (length field) 13 && (not (slice_index field 0 == 48) || length field == 1))
+-- 1 to so many bytes, and no zero in front of others
+abbrev pub is_unpadded : ℕ → List ℕ → Bool
+is_unpadded most word = nat_le 1 (length word) && (nat_le (length word) most && (not (slice_index word 0 == 48) || length word == 1))
 
--- the value of a field, where each byte is a digit
+-- the value of a word, where each byte is a digit
 abbrev pub value_of : List ℕ → Option ℕ
-value_of field = if list_all is_ascii_digit field then Some (value_after 0 field) else None
+value_of word = if list_all is_ascii_digit word then Some (value_after 0 word) else None
+
+-- the word is the decimal form of n, and has at most so many digits
+abbrev pub Spells : ℕ → List ℕ → ℕ → Type 0
+Spells most word n = (n < 10 ^ most) × (word ≡ decimal n)
 
 -- the field is the decimal form of n, and has at most 13 digits
 abbrev pub IsDecimal : List ℕ → ℕ → Type 0
-IsDecimal field n = (n < 10 ^ 13) × (field ≡ decimal n)
+IsDecimal field n = Spells 13 field n

@@ -1,4 +1,3 @@
-pub mod FieldLemmas
 pub mod AskLaws
 pub mod NamedLaws
 pub mod FlawLaws

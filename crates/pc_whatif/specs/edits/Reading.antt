@@ -1,7 +1,7 @@
 -- The ask that a line spells, read word by word.
 use Rattle.std.specs.Prelude.{ℕ, nat_lt, List, length, take, drop, Option, Some, None, bytes_eq, codes, if◌then◌else◌}
-use Rattle.pc_text.specs.Fields.{◌>>=◌, run_len, code_field, alone}
-use Rattle.pc_whatif.specs.edits.Fields.{number_field}
+use Rattle.pc_text.specs.Fields.{◌>>=◌, run_len, code_field, number_field, alone}
+use Rattle.pc_text.specs.declared.number.TheConstants.{DECK_DIGITS}
 use Rattle.pc_whatif.specs.declared.edits.ask.Ask.{Ask}
 use Rattle.pc_whatif.specs.declared.edits.ask.Ask.TheVariants as ask
 use Rattle.pc_whatif.specs.declared.edits.ask.Change.{Change}
@@ -15,16 +15,16 @@ edit_of act change = ask.Edit (record { act = act; change = change })
 unfoldable pub estimate_ask : List ℕ → Option Ask
 estimate_ask fields = do
   act ← code_field fields
-  optimistic ← number_field act.1
-  likely ← number_field optimistic.1
-  pessimistic ← number_field likely.1
+  optimistic ← number_field DECK_DIGITS act.1
+  likely ← number_field DECK_DIGITS optimistic.1
+  pessimistic ← number_field DECK_DIGITS likely.1
   alone pessimistic.1 (edit_of act.0 (Estimate (record { optimistic = optimistic.0; likely = likely.0; pessimistic = pessimistic.0 })))
 
 -- the activity and the one number that the fields are
 unfoldable pub amount_of : List ℕ → Option (List ℕ × ℕ)
 amount_of fields = do
   act ← code_field fields
-  n ← number_field act.1
+  n ← number_field DECK_DIGITS act.1
   alone n.1 (act.0, n.0)
 
 unfoldable pub normal_ask : List ℕ → Option Ask
@@ -45,10 +45,10 @@ slope_ask fields = do
 unfoldable pub try_ask : List ℕ → Option Ask
 try_ask fields = do
   act ← code_field fields
-  normal ← number_field act.1
-  crash ← number_field normal.1
-  slope ← number_field crash.1
-  length ← number_field slope.1
+  normal ← number_field DECK_DIGITS act.1
+  crash ← number_field DECK_DIGITS normal.1
+  slope ← number_field DECK_DIGITS crash.1
+  length ← number_field DECK_DIGITS slope.1
   alone length.1 (ask.Try (record { act = act.0; normal = normal.0; crash = crash.0; slope = slope.0; length = length.0 }))
 
 -- the ask with this first word and these fields

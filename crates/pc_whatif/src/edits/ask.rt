@@ -14,12 +14,9 @@ ghost use Rattle.pc_whatif.specs.edits.Reading.{
   try_ask,
 };
 ghost use Rattle.pc_whatif.specs.declared.edits.ask.Ask.{Ask};
-ghost use Rattle.pc_text.specs.Fields.{alone};
-ghost use Rattle.std.specs.Option.{option_map};
-ghost use Rattle.pc_whatif.specs.edits.Fields.{number_field};
 
 use pc_project::Estimates;
-use pc_text::{Code, field, read_number, run_len};
+use pc_text::{Code, DECK_DIGITS, alone, field, number_field, run_len};
 
 /// The most bytes of a line, without its LF.
 pub(crate) const MAX_LINE: usize = 96;
@@ -117,13 +114,6 @@ fn ask_with(word: &[u8], fields: &[u8]) -> Option<Ask>
     }
 }
 
-/// Returns the request if nothing is left after it.
-fn alone(rest: &[u8], ask: Ask) -> Option<Ask>
-    ensures { result ≡ alone rest.now ask }
-{
-    if rest.is_empty() { Some(ask) } else { None }
-}
-
 /// Returns an edit as a request.
 fn edit_of(act: Code, change: Change) -> Ask
     ensures { result ≡ edit_of act change }
@@ -137,9 +127,9 @@ fn estimate_of(fields: &[u8]) -> Option<Ask>
 {
     let (word, rest) = field(fields)?;
     let act = Code::read(word)?;
-    let (optimistic, rest) = number_field(rest)?;
-    let (likely, rest) = number_field(rest)?;
-    let (pessimistic, rest) = number_field(rest)?;
+    let (optimistic, rest) = number_field(rest, DECK_DIGITS)?;
+    let (likely, rest) = number_field(rest, DECK_DIGITS)?;
+    let (pessimistic, rest) = number_field(rest, DECK_DIGITS)?;
     let estimates = Estimates {
         optimistic,
         likely,
@@ -155,12 +145,8 @@ fn amount_of(fields: &[u8]) -> Option<(Code, u64)>
 {
     let (word, rest) = field(fields)?;
     let act = Code::read(word)?;
-    let (n, rest) = number_field(rest)?;
-    if rest.is_empty() {
-        Some((act, n))
-    } else {
-        None
-    }
+    let (n, rest) = number_field(rest, DECK_DIGITS)?;
+    alone(rest, (act, n))
 }
 
 #[tactic(auto, unfolding(crate::specs::edits::Reading::normal_ask))]
@@ -193,10 +179,10 @@ fn try_of(fields: &[u8]) -> Option<Ask>
 {
     let (word, rest) = field(fields)?;
     let act = Code::read(word)?;
-    let (normal, rest) = number_field(rest)?;
-    let (crash, rest) = number_field(rest)?;
-    let (slope, rest) = number_field(rest)?;
-    let (length, rest) = number_field(rest)?;
+    let (normal, rest) = number_field(rest, DECK_DIGITS)?;
+    let (crash, rest) = number_field(rest, DECK_DIGITS)?;
+    let (slope, rest) = number_field(rest, DECK_DIGITS)?;
+    let (length, rest) = number_field(rest, DECK_DIGITS)?;
     let trial = Trial {
         act,
         normal,
@@ -205,14 +191,4 @@ fn try_of(fields: &[u8]) -> Option<Ask>
         length,
     };
     alone(rest, Ask::Try(trial))
-}
-
-/// Reads a space and a number, and returns the number and the bytes after it.
-#[tactic(auto, unfolding(crate::specs::edits::Fields::number_field, pc_text::specs::Fields::field_by))]
-pub(in crate::edits) fn number_field(bytes: &[u8]) -> Option<(u64, &[u8])>
-    ensures { option_map (λ parts. (parts.0, parts.1.now)) result ≡ number_field bytes.now }
-{
-    let (word, rest) = field(bytes)?;
-    let number = read_number(word)?;
-    Some((number, rest))
 }

@@ -7,5 +7,5 @@ use Rattle.pc_text.proofs.number.value_of.Given as goal
 abbrev pub invariant-loop-byte : goal.invariant-loop-byte
 invariant-loop-byte l =
     (l.number < 10 ^ l.byte-index)
-    × ((value_after l.number (drop l.byte-index l.field) ≡ value_after 0 l.field)
-    × (list_all is_ascii_digit (drop l.byte-index l.field) ≡ list_all is_ascii_digit l.field))
+    × ((value_after l.number (drop l.byte-index l.word) ≡ value_after 0 l.word)
+    × (list_all is_ascii_digit (drop l.byte-index l.word) ≡ list_all is_ascii_digit l.word))

@@ -11,13 +11,13 @@ use Rattle.pc_whatif.specs.declared.edits.ask.Change.{Change}
 use Rattle.pc_whatif.specs.declared.edits.ask.Change.TheVariants.{Estimate, Normal, Crash, Slope}
 use Rattle.pc_whatif.specs.declared.edits.ask.Trial.{Trial}
 use Rattle.pc_whatif.specs.declared.edits.ask.TheConstants.{MAX_LINE}
-use Rattle.pc_text.specs.Fields.{◌>>=◌, run_len, code_field, alone, spaced, IsCode}
-use Rattle.pc_whatif.specs.edits.Fields.{number_field}
+use Rattle.pc_text.specs.Fields.{◌>>=◌, run_len, code_field, number_field, alone, spaced, IsCode}
+use Rattle.pc_text.specs.declared.number.TheConstants.{DECK_DIGITS}
 use Rattle.pc_whatif.specs.inside.edits.Lines.{spelling, Fits, Asks, IsSmall}
 use Rattle.pc_whatif.specs.edits.Reading.{edit_of, estimate_ask, amount_of, normal_ask, crash_ask, slope_ask, try_ask, ask_with, ask_of}
 use Rattle.pc_text.proofs.SpellingLemmas.{IsSpelled, either, no_name, one_word}
-use Rattle.pc_text.proofs.FieldLemmas.{bind_some, alone_takes, unless_takes, unless_again, nothing, space, code_field_takes, code_field_again}
-use Rattle.pc_whatif.proofs.lemmas.edits.FieldLemmas.{number_field_takes, number_field_again}
+use Rattle.pc_text.proofs.FieldLemmas.{bind_some, alone_takes, unless_takes, unless_again, nothing, space, code_field_takes, code_field_again, number_field_takes, number_field_again}
+use Rattle.pc_text.proofs.NumberLemmas.{of_deck}
 
 -- the word and the fields are those of the ask, which can be spelled
 abbrev IsAsk : List ℕ → List ℕ → Ask → Type 0
@@ -30,19 +30,20 @@ unfolding estimate_ask
 estimate_takes fields a e =
     let made = λ (code : List ℕ) (opt likely pess : ℕ). edit_of code (Estimate (record { optimistic = opt; likely = likely; pessimistic = pess })) in
     let code = bind_some (code_field fields)
-    (λ code. number_field (code.1) >>=
-    (λ opt. number_field (opt.1) >>=
-    (λ likely. number_field (likely.1) >>= (λ pess. alone (pess.1) (made (code.0) (opt.0) (likely.0) (pess.0)))))) a e in
-    let opt = bind_some (number_field (code.0.1))
-    (λ opt. number_field (opt.1) >>=
-    (λ likely. number_field (likely.1) >>= (λ pess. alone (pess.1) (made (code.0.0) (opt.0) (likely.0) (pess.0))))) a (code.2) in
-    let likely = bind_some (number_field (opt.0.1)) (λ likely. number_field (likely.1) >>= (λ pess. alone (pess.1) (made (code.0.0) (opt.0.0) (likely.0) (pess.0)))) a (opt.2) in
-    let pess = bind_some (number_field (likely.0.1)) (λ pess. alone (pess.1) (made (code.0.0) (opt.0.0) (likely.0.0) (pess.0))) a (likely.2) in
+    (λ code. number_field DECK_DIGITS (code.1) >>=
+    (λ opt. number_field DECK_DIGITS (opt.1) >>=
+    (λ likely. number_field DECK_DIGITS (likely.1) >>= (λ pess. alone (pess.1) (made (code.0) (opt.0) (likely.0) (pess.0)))))) a e in
+    let opt = bind_some (number_field DECK_DIGITS (code.0.1))
+    (λ opt. number_field DECK_DIGITS (opt.1) >>=
+    (λ likely. number_field DECK_DIGITS (likely.1) >>= (λ pess. alone (pess.1) (made (code.0.0) (opt.0) (likely.0) (pess.0))))) a (code.2) in
+    let likely = bind_some (number_field DECK_DIGITS (opt.0.1))
+    (λ likely. number_field DECK_DIGITS (likely.1) >>= (λ pess. alone (pess.1) (made (code.0.0) (opt.0.0) (likely.0) (pess.0)))) a (opt.2) in
+    let pess = bind_some (number_field DECK_DIGITS (likely.0.1)) (λ pess. alone (pess.1) (made (code.0.0) (opt.0.0) (likely.0.0) (pess.0))) a (likely.2) in
     let end = alone_takes (pess.0.1) (made (code.0.0) (opt.0.0) (likely.0.0) (pess.0.0)) a (pess.2) in
     let code_is = code_field_takes fields (code.0) (code.1) in
-    let opt_is = number_field_takes (code.0.1) (opt.0) (opt.1) in
-    let likely_is = number_field_takes (opt.0.1) (likely.0) (likely.1) in
-    let pess_is = number_field_takes (likely.0.1) (pess.0) (pess.1) in
+    let opt_is = number_field_takes of_deck (code.0.1) (opt.0) (opt.1) in
+    let likely_is = number_field_takes of_deck (opt.0.1) (likely.0) (likely.1) in
+    let pess_is = number_field_takes of_deck (likely.0.1) (pess.0) (pess.1) in
     subst (λ l. IsAsk (codes "ESTIMATE") fields l) (end.1) (record {
       text = ap (λ x. codes "ESTIMATE" ++ x) (
           code_is.text ∙ ap (λ x. spaced (code.0.0) x) (
@@ -58,9 +59,9 @@ unfolding estimate_ask
 estimate_again act new h =
     rw (
       code_field_again act (spaced (decimal new.optimistic) (spaced (decimal new.likely) (spaced (decimal new.pessimistic) []))) (h.0) (space _),
-      number_field_again new.optimistic (spaced (decimal new.likely) (spaced (decimal new.pessimistic) [])) (h.1.0) (space _),
-      number_field_again new.likely (spaced (decimal new.pessimistic) []) (h.1.1) (space _),
-      number_field_again new.pessimistic [] (h.1.2) nothing,
+      number_field_again of_deck new.optimistic (spaced (decimal new.likely) (spaced (decimal new.pessimistic) [])) (h.1.0) (space _),
+      number_field_again of_deck new.likely (spaced (decimal new.pessimistic) []) (h.1.1) (space _),
+      number_field_again of_deck new.pessimistic [] (h.1.2) nothing,
     ) refl
 
 -- ---- one number of an activity
@@ -73,11 +74,11 @@ record TakesAmount (fields act : List ℕ) (n : ℕ) : Type 0 where
 amount_takes : (fields : List ℕ) (x : List ℕ × ℕ) → amount_of fields ≡ Some x → TakesAmount fields (x.0) (x.1)
 unfolding amount_of
 amount_takes fields x e =
-    let code = bind_some (code_field fields) (λ code. number_field (code.1) >>= (λ n. alone (n.1) (code.0, n.0))) x e in
-    let n = bind_some (number_field (code.0.1)) (λ n. alone (n.1) (code.0.0, n.0)) x (code.2) in
+    let code = bind_some (code_field fields) (λ code. number_field DECK_DIGITS (code.1) >>= (λ n. alone (n.1) (code.0, n.0))) x e in
+    let n = bind_some (number_field DECK_DIGITS (code.0.1)) (λ n. alone (n.1) (code.0.0, n.0)) x (code.2) in
     let end = alone_takes (n.0.1) (code.0.0, n.0.0) x (n.2) in
     let code_is = code_field_takes fields (code.0) (code.1) in
-    let n_is = number_field_takes (code.0.1) (n.0) (n.1) in
+    let n_is = number_field_takes of_deck (code.0.1) (n.0) (n.1) in
     subst (λ (y : List ℕ × ℕ). TakesAmount fields (y.0) (y.1)) (end.1) (record {
       text = code_is.text ∙ ap (λ x. spaced (code.0.0) x) (n_is.text ∙ ap (λ x. spaced (decimal (n.0.0)) x) (end.0));
       code_is = code_is.code_is;
@@ -87,7 +88,7 @@ amount_takes fields x e =
 amount_again : (act : List ℕ) (n : ℕ) → IsCode act → IsSmall n → amount_of (spaced act (spaced (decimal n) [])) ≡ Some (act, n)
 unfolding amount_of
 amount_again act n code small =
-    rw (code_field_again act (spaced (decimal n) []) code (space _), number_field_again n [] small nothing) refl
+    rw (code_field_again act (spaced (decimal n) []) code (space _), number_field_again of_deck n [] small nothing) refl
 
 some_same : (x y : Ask) → Some x ≡ Some y → x ≡ y
 some_same x y e = cc
@@ -132,27 +133,28 @@ unfolding try_ask
 try_takes fields a e =
     let made = λ (code : List ℕ) (normal crash slope limit : ℕ). ask.Try (record { act = code; normal = normal; crash = crash; slope = slope; length = limit }) in
     let code = bind_some (code_field fields)
-    (λ code. number_field (code.1) >>=
-    (λ normal. number_field (normal.1) >>=
-    (λ crash. number_field (crash.1) >>=
-    (λ slope. number_field (slope.1) >>= (λ limit. alone (limit.1) (made (code.0) (normal.0) (crash.0) (slope.0) (limit.0))))))) a e in
-    let normal = bind_some (number_field (code.0.1))
-    (λ normal. number_field (normal.1) >>=
-    (λ crash. number_field (crash.1) >>=
-    (λ slope. number_field (slope.1) >>= (λ limit. alone (limit.1) (made (code.0.0) (normal.0) (crash.0) (slope.0) (limit.0)))))) a
+    (λ code. number_field DECK_DIGITS (code.1) >>=
+    (λ normal. number_field DECK_DIGITS (normal.1) >>=
+    (λ crash. number_field DECK_DIGITS (crash.1) >>=
+    (λ slope. number_field DECK_DIGITS (slope.1) >>= (λ limit. alone (limit.1) (made (code.0) (normal.0) (crash.0) (slope.0) (limit.0))))))) a e in
+    let normal = bind_some (number_field DECK_DIGITS (code.0.1))
+    (λ normal. number_field DECK_DIGITS (normal.1) >>=
+    (λ crash. number_field DECK_DIGITS (crash.1) >>=
+    (λ slope. number_field DECK_DIGITS (slope.1) >>= (λ limit. alone (limit.1) (made (code.0.0) (normal.0) (crash.0) (slope.0) (limit.0)))))) a
     (code.2) in
-    let crash = bind_some (number_field (normal.0.1))
-    (λ crash. number_field (crash.1) >>=
-    (λ slope. number_field (slope.1) >>= (λ limit. alone (limit.1) (made (code.0.0) (normal.0.0) (crash.0) (slope.0) (limit.0))))) a
+    let crash = bind_some (number_field DECK_DIGITS (normal.0.1))
+    (λ crash. number_field DECK_DIGITS (crash.1) >>=
+    (λ slope. number_field DECK_DIGITS (slope.1) >>= (λ limit. alone (limit.1) (made (code.0.0) (normal.0.0) (crash.0) (slope.0) (limit.0))))) a
     (normal.2) in
-    let slope = bind_some (number_field (crash.0.1)) (λ slope. number_field (slope.1) >>= (λ limit. alone (limit.1) (made (code.0.0) (normal.0.0) (crash.0.0) (slope.0) (limit.0)))) a (crash.2) in
-    let limit = bind_some (number_field (slope.0.1)) (λ limit. alone (limit.1) (made (code.0.0) (normal.0.0) (crash.0.0) (slope.0.0) (limit.0))) a (slope.2) in
+    let slope = bind_some (number_field DECK_DIGITS (crash.0.1))
+    (λ slope. number_field DECK_DIGITS (slope.1) >>= (λ limit. alone (limit.1) (made (code.0.0) (normal.0.0) (crash.0.0) (slope.0) (limit.0)))) a (crash.2) in
+    let limit = bind_some (number_field DECK_DIGITS (slope.0.1)) (λ limit. alone (limit.1) (made (code.0.0) (normal.0.0) (crash.0.0) (slope.0.0) (limit.0))) a (slope.2) in
     let end = alone_takes (limit.0.1) (made (code.0.0) (normal.0.0) (crash.0.0) (slope.0.0) (limit.0.0)) a (limit.2) in
     let code_is = code_field_takes fields (code.0) (code.1) in
-    let normal_is = number_field_takes (code.0.1) (normal.0) (normal.1) in
-    let crash_is = number_field_takes (normal.0.1) (crash.0) (crash.1) in
-    let slope_is = number_field_takes (crash.0.1) (slope.0) (slope.1) in
-    let limit_is = number_field_takes (slope.0.1) (limit.0) (limit.1) in
+    let normal_is = number_field_takes of_deck (code.0.1) (normal.0) (normal.1) in
+    let crash_is = number_field_takes of_deck (normal.0.1) (crash.0) (crash.1) in
+    let slope_is = number_field_takes of_deck (crash.0.1) (slope.0) (slope.1) in
+    let limit_is = number_field_takes of_deck (slope.0.1) (limit.0) (limit.1) in
     subst (λ l. IsAsk (codes "TRY") fields l) (end.1) (record {
       text = ap (λ x. codes "TRY" ++ x) (
           code_is.text ∙ ap (λ x. spaced (code.0.0) x) (
@@ -169,10 +171,10 @@ unfolding try_ask
 try_again trial h =
     rw (
       code_field_again trial.act (spaced (decimal trial.normal) (spaced (decimal trial.crash) (spaced (decimal trial.slope) (spaced (decimal trial.length) [])))) (h.0) (space _),
-      number_field_again trial.normal (spaced (decimal trial.crash) (spaced (decimal trial.slope) (spaced (decimal trial.length) []))) (h.1) (space _),
-      number_field_again trial.crash (spaced (decimal trial.slope) (spaced (decimal trial.length) [])) (h.2) (space _),
-      number_field_again trial.slope (spaced (decimal trial.length) []) (h.3) (space _),
-      number_field_again trial.length [] (h.4) nothing,
+      number_field_again of_deck trial.normal (spaced (decimal trial.crash) (spaced (decimal trial.slope) (spaced (decimal trial.length) []))) (h.1) (space _),
+      number_field_again of_deck trial.crash (spaced (decimal trial.slope) (spaced (decimal trial.length) [])) (h.2) (space _),
+      number_field_again of_deck trial.slope (spaced (decimal trial.length) []) (h.3) (space _),
+      number_field_again of_deck trial.length [] (h.4) nothing,
     ) refl
 
 -- ---- the whole line
