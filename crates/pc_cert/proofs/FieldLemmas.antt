@@ -1,35 +1,12 @@
--- Numbers and bits of a line, and what stands behind them.
+-- Bits of a line, and what stands behind them.
 use Rattle.std.proofs.Common.{◌≡◌, ℕ, Bool, true, false, cond, List, ◌⊎◌, inl, inr, Some, None, refl, ap, ◌∙◌, arith}
 use Rattle.std.proofs.lemmas.Slice.Eq.{bytes_eq-Decides}
 use Rattle.std.specs.Prelude.{codes, bytes_eq}
 use Rattle.std.specs.Char.{is_ascii_digit}
 use Rattle.std.specs.Fmt.{decimal}
 use Rattle.pc_text.specs.Fields.{spaced, Lacks}
-use Rattle.pc_text.proofs.FieldLemmas.{lacks, IsBehind, field_by_takes, field_by_again}
-use Rattle.pc_cert.specs.inside.Number.{numeral_of}
-use Rattle.pc_cert.specs.inside.Fields.{bit_text, number_field, bit_of, bit_field}
-use Rattle.pc_cert.specs.Lines.{IsSmall}
-use Rattle.pc_cert.proofs.NumberLemmas.{number_takes, number_again, decimal_parts}
-
--- a number has no space, and no end of a line
-pub decimal_lacks : (stop : ℕ) → is_ascii_digit stop ≡ false → (n : ℕ) → IsSmall n → Lacks stop (decimal n)
-decimal_lacks stop fails n h = lacks is_ascii_digit stop fails (decimal n) (decimal_parts n h).digits
-
--- a number that is read is spelled behind a space
-pub record TakesNumber (bytes : List ℕ) (n : ℕ) (rest : List ℕ) : Type 0 where
-  pub text : bytes ≡ spaced (decimal n) rest
-  pub small : IsSmall n
-
-pub number_field_takes : (bytes : List ℕ) (x : ℕ × List ℕ) → number_field bytes ≡ Some x → TakesNumber bytes (x.0) (x.1)
-unfolding number_field
-number_field_takes bytes x e =
-    let taken = field_by_takes numeral_of bytes x e in
-    let spells = number_takes taken.word (x.0) taken.reads in
-    record { text = taken.text ∙ ap (λ word. spaced word (x.1)) spells.same; small = spells.small }
-
-pub number_field_again : (n : ℕ) (rest : List ℕ) → IsSmall n → IsBehind rest → number_field (spaced (decimal n) rest) ≡ Some (n, rest)
-unfolding number_field
-number_field_again n rest h behind = field_by_again numeral_of (decimal n) rest n (decimal_lacks 32 refl n h) behind (number_again n h)
+use Rattle.pc_text.proofs.FieldLemmas.{IsBehind, field_by_takes, field_by_again}
+use Rattle.pc_cert.specs.inside.Fields.{bit_text, bit_of, bit_field}
 
 bit_cases : (zero_read one_read bit : Bool) → cond zero_read (Some false) (cond one_read (Some true) None) ≡ Some bit → ((zero_read ≡ true) × (false ≡ bit)) ⊎ ((one_read ≡ true) × (true ≡ bit))
 bit_cases true one_read bit e = inl (refl, cc)

@@ -1,7 +1,7 @@
 -- Reading the flows of an activity one by one.
 use Rattle.std.proofs.Common.{◌≡◌, ◌≢◌, ℕ, ◌+◌, ◌-◌, ◌<◌, ◌≤◌, zero, suc, List, [], ◌∷◌, ◌++◌, length, Option, Some, None, refl, sym, ap, ◌∙◌, arith, append_assoc, append-nil, length-append}
-use Rattle.pc_text.specs.Fields.{◌>>=◌}
-use Rattle.pc_cert.specs.inside.Fields.{number_field}
+use Rattle.pc_text.specs.Fields.{◌>>=◌, number_field}
+use Rattle.pc_cert.specs.declared.number.TheConstants.{MAX_DIGITS}
 use Rattle.pc_cert.specs.inside.Reading.{numbers_in, flows_of}
 
 -- the numbers that came before, and those that follow
@@ -27,12 +27,12 @@ front_more : (front : List ℕ) (n : ℕ) (found : Option (List ℕ)) → with_f
 front_more front n None = refl
 front_more front n (Some others) = ap Some (sym (append_assoc front (n ∷ []) others))
 
-step : (room : ℕ) (front rest : List ℕ) (x : ℕ × List ℕ) → length rest ≢ 0 → number_field rest ≡ Some x →
+step : (room : ℕ) (front rest : List ℕ) (x : ℕ × List ℕ) → length rest ≢ 0 → number_field MAX_DIGITS rest ≡ Some x →
     with_front front (numbers_in (suc room) rest) ≡ with_front (front ++ x.0 ∷ []) (numbers_in room x.1)
 step room front [] x some found = absurd (some refl)
 step room front (b ∷ bs) x some found = rw found (front_more front (x.0) (numbers_in room (x.1)))
 
-stop : (room : ℕ) (front rest : List ℕ) → length rest ≢ 0 → number_field rest ≡ None → with_front front (numbers_in room rest) ≡ None
+stop : (room : ℕ) (front rest : List ℕ) → length rest ≢ 0 → number_field MAX_DIGITS rest ≡ None → with_front front (numbers_in room rest) ≡ None
 stop room front [] some found = absurd (some refl)
 stop zero front (b ∷ bs) some found = refl
 stop (suc room) front (b ∷ bs) some found = rw found refl
@@ -43,7 +43,7 @@ full_at front (b ∷ bs) some = refl
 
 -- one more is read
 pub more : {fields flows rest : List ℕ} (x : ℕ × List ℕ) → IsReadingFlows fields flows rest → length flows < 6 → length rest ≢ 0 →
-    number_field rest ≡ Some x → IsReadingFlows fields (flows ++ x.0 ∷ []) x.1
+    number_field MAX_DIGITS rest ≡ Some x → IsReadingFlows fields (flows ++ x.0 ∷ []) x.1
 more {flows = flows} {rest = rest} x h few some found =
     let long : length (flows ++ x.0 ∷ []) ≡ length flows + 1 = length-append flows (x.0 ∷ []) in
     let room : 6 - length flows ≡ suc (6 - length (flows ++ x.0 ∷ [])) = omega arith in
@@ -59,7 +59,7 @@ full {flows = flows} {rest = rest} h all some =
     sym (full_at flows rest some) ∙ ap (λ n. with_front flows (numbers_in n rest)) (sym room) ∙ h.whole
 
 -- what is no number ends the reading
-pub stopped : {fields flows rest : List ℕ} → IsReadingFlows fields flows rest → length rest ≢ 0 → number_field rest ≡ None → None ≡ flows_of fields
+pub stopped : {fields flows rest : List ℕ} → IsReadingFlows fields flows rest → length rest ≢ 0 → number_field MAX_DIGITS rest ≡ None → None ≡ flows_of fields
 stopped {flows = flows} {rest = rest} h some found = sym (stop (6 - length flows) flows rest some found) ∙ h.whole
 
 nothing : (front rest : List ℕ) (room : ℕ) → length rest ≡ 0 → with_front front (numbers_in room rest) ≡ Some front

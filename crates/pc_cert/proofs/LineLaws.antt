@@ -8,14 +8,16 @@ use Rattle.std.specs.Prelude.{codes, IfSome}
 use Rattle.std.specs.Fmt.{decimal}
 use Rattle.pc_cert.specs.declared.line.CertLine.{CertLine}
 use Rattle.pc_cert.specs.declared.line.CertLine.TheVariants.{Head, Normal, Step, Crash, Segment, Event, Act, Close, End}
-use Rattle.pc_text.specs.Fields.{◌>>=◌, run_len, code_field, spaced, IsCode, alone}
-use Rattle.pc_cert.specs.inside.Fields.{bit_text, number_field, bit_field}
+use Rattle.pc_text.specs.Fields.{◌>>=◌, run_len, code_field, number_field, spaced, IsCode, alone}
+use Rattle.pc_cert.specs.inside.Fields.{bit_text, bit_field}
 use Rattle.pc_cert.specs.Lines.{numbers, spelling, IsSmall, AreSmall, IsWritable}
 use Rattle.pc_cert.specs.inside.Reading.{head_of, step_of, segment_of, event_of, numbers_in, flows_of, act_of, line_with, line_of}
 use Rattle.pc_cert.specs.declared.flows.TheConstants.{MAX_FLOWS}
 use Rattle.pc_text.proofs.SpellingLemmas.{IsSpelled, either, no_name, one_word}
-use Rattle.pc_text.proofs.FieldLemmas.{bind_some, alone_takes, unless_takes, unless_again, IsBehind, nothing, space, code_field_takes, code_field_again}
-use Rattle.pc_cert.proofs.FieldLemmas.{number_field_takes, number_field_again, bit_field_takes, bit_field_again}
+use Rattle.pc_text.proofs.FieldLemmas.{bind_some, alone_takes, unless_takes, unless_again, IsBehind, nothing, space, code_field_takes, code_field_again, number_field_takes, number_field_again}
+use Rattle.pc_cert.proofs.FieldLemmas.{bit_field_takes, bit_field_again}
+use Rattle.pc_cert.proofs.NumberLemmas.{limit}
+use Rattle.pc_cert.specs.declared.number.TheConstants.{MAX_DIGITS}
 
 -- the word and the fields are those of the line, which can be spelled
 abbrev IsLine : List ℕ → List ℕ → CertLine → Type 0
@@ -50,25 +52,25 @@ head_takes : (fields : List ℕ) (line : CertLine) → head_of fields ≡ Some l
 unfolding head_of
 head_takes fields line e =
     let made = λ (version : ℕ) (project : List ℕ) (events : ℕ) (activities : ℕ) (rest : List ℕ). cond (ltb version 1 || ltb 2 version) None (alone rest (Head version project events activities)) in
-    let version = bind_some (number_field fields)
+    let version = bind_some (number_field MAX_DIGITS fields)
     (λ version. code_field (version.1) >>=
-    (λ project. number_field (project.1) >>=
-    (λ events. number_field (events.1) >>= (λ activities. made (version.0) (project.0) (events.0) (activities.0) (activities.1))))) line
+    (λ project. number_field MAX_DIGITS (project.1) >>=
+    (λ events. number_field MAX_DIGITS (events.1) >>= (λ activities. made (version.0) (project.0) (events.0) (activities.0) (activities.1))))) line
     e in
     let project = bind_some (code_field (version.0.1))
-    (λ project. number_field (project.1) >>=
-    (λ events. number_field (events.1) >>= (λ activities. made (version.0.0) (project.0) (events.0) (activities.0) (activities.1))))
+    (λ project. number_field MAX_DIGITS (project.1) >>=
+    (λ events. number_field MAX_DIGITS (events.1) >>= (λ activities. made (version.0.0) (project.0) (events.0) (activities.0) (activities.1))))
     line (version.2) in
-    let events = bind_some (number_field (project.0.1))
-    (λ events. number_field (events.1) >>= (λ activities. made (version.0.0) (project.0.0) (events.0) (activities.0) (activities.1)))
+    let events = bind_some (number_field MAX_DIGITS (project.0.1))
+    (λ events. number_field MAX_DIGITS (events.1) >>= (λ activities. made (version.0.0) (project.0.0) (events.0) (activities.0) (activities.1)))
     line (project.2) in
-    let activities = bind_some (number_field (events.0.1)) (λ activities. made (version.0.0) (project.0.0) (events.0.0) (activities.0) (activities.1)) line (events.2) in
+    let activities = bind_some (number_field MAX_DIGITS (events.0.1)) (λ activities. made (version.0.0) (project.0.0) (events.0.0) (activities.0) (activities.1)) line (events.2) in
     let known = unless_takes (ltb (version.0.0) 1 || ltb 2 (version.0.0)) (alone (activities.0.1) (Head (version.0.0) (project.0.0) (events.0.0) (activities.0.0))) line (activities.2) in
     let end = alone_takes (activities.0.1) (Head (version.0.0) (project.0.0) (events.0.0) (activities.0.0)) line (known.1) in
-    let version_is = number_field_takes fields (version.0) (version.1) in
+    let version_is = number_field_takes limit fields (version.0) (version.1) in
     let project_is = code_field_takes (version.0.1) (project.0) (project.1) in
-    let events_is = number_field_takes (project.0.1) (events.0) (events.1) in
-    let activities_is = number_field_takes (events.0.1) (activities.0) (activities.1) in
+    let events_is = number_field_takes limit (project.0.1) (events.0) (events.1) in
+    let activities_is = number_field_takes limit (events.0.1) (activities.0) (activities.1) in
     subst (λ l. IsLine (codes "CERT") fields l) (end.1) (record {
       text = ap (λ x. codes "CERT" ++ x) (
           version_is.text ∙ ap (λ x. spaced (decimal (version.0.0)) x) (
@@ -85,10 +87,10 @@ unfolding head_of
 head_again version project events activities h =
     let small : IsSmall version = omega (arith, h.0.1) in
     rw (
-      number_field_again version (spaced project (spaced (decimal events) (spaced (decimal activities) []))) small (space _),
+      number_field_again limit version (spaced project (spaced (decimal events) (spaced (decimal activities) []))) small (space _),
       code_field_again project (spaced (decimal events) (spaced (decimal activities) [])) (h.1) (space _),
-      number_field_again events (spaced (decimal activities) []) (h.2) (space _),
-      number_field_again activities [] (h.3) nothing,
+      number_field_again limit events (spaced (decimal activities) []) (h.2) (space _),
+      number_field_again limit activities [] (h.3) nothing,
     ) (unless_again (ltb version 1 || ltb 2 version) (Some (Head version project events activities)) (version_passes version (h.0.0) (h.0.1)))
 
 -- ---- a segment's first line
@@ -96,20 +98,21 @@ head_again version project events activities h =
 segment_takes : (fields : List ℕ) (line : CertLine) → segment_of fields ≡ Some line → IsLine (codes "SEGMENT") fields line
 unfolding segment_of
 segment_takes fields line e =
-    let upper = bind_some (number_field fields)
-    (λ upper. number_field (upper.1) >>=
-    (λ lower. number_field (lower.1) >>=
-    (λ cost. number_field (cost.1) >>= (λ slope. alone (slope.1) (Segment (upper.0) (lower.0) (cost.0) (slope.0)))))) line e in
-    let lower = bind_some (number_field (upper.0.1))
-    (λ lower. number_field (lower.1) >>=
-    (λ cost. number_field (cost.1) >>= (λ slope. alone (slope.1) (Segment (upper.0.0) (lower.0) (cost.0) (slope.0))))) line (upper.2) in
-    let cost = bind_some (number_field (lower.0.1)) (λ cost. number_field (cost.1) >>= (λ slope. alone (slope.1) (Segment (upper.0.0) (lower.0.0) (cost.0) (slope.0)))) line (lower.2) in
-    let slope = bind_some (number_field (cost.0.1)) (λ slope. alone (slope.1) (Segment (upper.0.0) (lower.0.0) (cost.0.0) (slope.0))) line (cost.2) in
+    let upper = bind_some (number_field MAX_DIGITS fields)
+    (λ upper. number_field MAX_DIGITS (upper.1) >>=
+    (λ lower. number_field MAX_DIGITS (lower.1) >>=
+    (λ cost. number_field MAX_DIGITS (cost.1) >>= (λ slope. alone (slope.1) (Segment (upper.0) (lower.0) (cost.0) (slope.0)))))) line e in
+    let lower = bind_some (number_field MAX_DIGITS (upper.0.1))
+    (λ lower. number_field MAX_DIGITS (lower.1) >>=
+    (λ cost. number_field MAX_DIGITS (cost.1) >>= (λ slope. alone (slope.1) (Segment (upper.0.0) (lower.0) (cost.0) (slope.0))))) line (upper.2) in
+    let cost = bind_some (number_field MAX_DIGITS (lower.0.1))
+    (λ cost. number_field MAX_DIGITS (cost.1) >>= (λ slope. alone (slope.1) (Segment (upper.0.0) (lower.0.0) (cost.0) (slope.0)))) line (lower.2) in
+    let slope = bind_some (number_field MAX_DIGITS (cost.0.1)) (λ slope. alone (slope.1) (Segment (upper.0.0) (lower.0.0) (cost.0.0) (slope.0))) line (cost.2) in
     let end = alone_takes (slope.0.1) (Segment (upper.0.0) (lower.0.0) (cost.0.0) (slope.0.0)) line (slope.2) in
-    let upper_is = number_field_takes fields (upper.0) (upper.1) in
-    let lower_is = number_field_takes (upper.0.1) (lower.0) (lower.1) in
-    let cost_is = number_field_takes (lower.0.1) (cost.0) (cost.1) in
-    let slope_is = number_field_takes (cost.0.1) (slope.0) (slope.1) in
+    let upper_is = number_field_takes limit fields (upper.0) (upper.1) in
+    let lower_is = number_field_takes limit (upper.0.1) (lower.0) (lower.1) in
+    let cost_is = number_field_takes limit (lower.0.1) (cost.0) (cost.1) in
+    let slope_is = number_field_takes limit (cost.0.1) (slope.0) (slope.1) in
     subst (λ l. IsLine (codes "SEGMENT") fields l) (end.1) (record {
       text = ap (λ x. codes "SEGMENT" ++ x) (
           upper_is.text ∙ ap (λ x. spaced (decimal (upper.0.0)) x) (
@@ -125,10 +128,10 @@ segment_again : (upper lower cost slope : ℕ) → IsWritable (Segment upper low
 unfolding segment_of
 segment_again upper lower cost slope h =
     rw (
-      number_field_again upper (spaced (decimal lower) (spaced (decimal cost) (spaced (decimal slope) []))) (h.0) (space _),
-      number_field_again lower (spaced (decimal cost) (spaced (decimal slope) [])) (h.1) (space _),
-      number_field_again cost (spaced (decimal slope) []) (h.2) (space _),
-      number_field_again slope [] (h.3) nothing,
+      number_field_again limit upper (spaced (decimal lower) (spaced (decimal cost) (spaced (decimal slope) []))) (h.0) (space _),
+      number_field_again limit lower (spaced (decimal cost) (spaced (decimal slope) [])) (h.1) (space _),
+      number_field_again limit cost (spaced (decimal slope) []) (h.2) (space _),
+      number_field_again limit slope [] (h.3) nothing,
     ) refl
 
 -- ---- an event
@@ -136,12 +139,12 @@ segment_again upper lower cost slope h =
 event_takes : (fields : List ℕ) (line : CertLine) → event_of fields ≡ Some line → IsLine (codes "EVENT") fields line
 unfolding event_of
 event_takes fields line e =
-    let code = bind_some (code_field fields) (λ code. number_field (code.1) >>= (λ time. bit_field (time.1) >>= (λ moves. alone (moves.1) (Event (code.0) (time.0) (moves.0))))) line e in
-    let time = bind_some (number_field (code.0.1)) (λ time. bit_field (time.1) >>= (λ moves. alone (moves.1) (Event (code.0.0) (time.0) (moves.0)))) line (code.2) in
+    let code = bind_some (code_field fields) (λ code. number_field MAX_DIGITS (code.1) >>= (λ time. bit_field (time.1) >>= (λ moves. alone (moves.1) (Event (code.0) (time.0) (moves.0))))) line e in
+    let time = bind_some (number_field MAX_DIGITS (code.0.1)) (λ time. bit_field (time.1) >>= (λ moves. alone (moves.1) (Event (code.0.0) (time.0) (moves.0)))) line (code.2) in
     let moves = bind_some (bit_field (time.0.1)) (λ moves. alone (moves.1) (Event (code.0.0) (time.0.0) (moves.0))) line (time.2) in
     let end = alone_takes (moves.0.1) (Event (code.0.0) (time.0.0) (moves.0.0)) line (moves.2) in
     let code_is = code_field_takes fields (code.0) (code.1) in
-    let time_is = number_field_takes (code.0.1) (time.0) (time.1) in
+    let time_is = number_field_takes limit (code.0.1) (time.0) (time.1) in
     let moves_is = bit_field_takes (time.0.1) (moves.0) (moves.1) in
     subst (λ l. IsLine (codes "EVENT") fields l) (end.1) (record {
       text = ap (λ x. codes "EVENT" ++ x) (
@@ -157,7 +160,7 @@ unfolding event_of
 event_again code time moves h =
     rw (
       code_field_again code (spaced (decimal time) (spaced (bit_text moves) [])) (h.0) (space _),
-      number_field_again time (spaced (bit_text moves) []) (h.1) (space _),
+      number_field_again limit time (spaced (bit_text moves) []) (h.1) (space _),
       bit_field_again moves [] nothing,
     ) refl
 
@@ -181,9 +184,9 @@ numbers_take : (room : ℕ) (fields ns : List ℕ) → numbers_in room fields �
 numbers_take room [] ns e = subst (λ xs. AreTaken room [] xs) (some_same [] ns e) (record { text = refl; small = tt; few = omega arith })
 numbers_take zero (b ∷ bs) ns e = absurd cc
 numbers_take (suc room) (b ∷ bs) ns e =
-    let first = bind_some (number_field (b ∷ bs)) (λ number. numbers_in room (number.1) >>= (λ others. Some (number.0 ∷ others))) ns e in
+    let first = bind_some (number_field MAX_DIGITS (b ∷ bs)) (λ number. numbers_in room (number.1) >>= (λ others. Some (number.0 ∷ others))) ns e in
     let others = bind_some (numbers_in room (first.0.1)) (λ others. Some (first.0.0 ∷ others)) ns (first.2) in
-    let first_is = number_field_takes (b ∷ bs) (first.0) (first.1) in
+    let first_is = number_field_takes limit (b ∷ bs) (first.0) (first.1) in
     let others_are = numbers_take room (first.0.1) (others.0) (others.1) in
     subst (λ xs. AreTaken (suc room) (b ∷ bs) xs) (some_same _ _ (others.2)) (record {
       text = first_is.text ∙ ap (λ rest. spaced (decimal (first.0.0)) rest) (others_are.text);
@@ -198,7 +201,7 @@ numbers_behind (n ∷ ns) = space _
 numbers_again : (room : ℕ) (ns : List ℕ) → AreSmall ns → length ns ≤ room → numbers_in room (numbers ns) ≡ Some ns
 numbers_again room [] small few = numbers_in_nothing room
 numbers_again zero (n ∷ ns) small few = absurd (omega arith)
-numbers_again (suc room) (n ∷ ns) small few = rw (number_field_again n (numbers ns) (small.0) (numbers_behind ns), numbers_again room ns (small.1) (omega arith)) refl
+numbers_again (suc room) (n ∷ ns) small few = rw (number_field_again limit n (numbers ns) (small.0) (numbers_behind ns), numbers_again room ns (small.1) (omega arith)) refl
 
 flows_take : (fields flows : List ℕ) → flows_of fields ≡ Some flows → AreTaken MAX_FLOWS fields flows
 unfolding flows_of
@@ -212,13 +215,13 @@ act_takes : (fields : List ℕ) (line : CertLine) → act_of fields ≡ Some lin
 unfolding act_of
 act_takes fields line e =
     let made = λ (code : List ℕ) (duration : ℕ) (flows : List ℕ). cond (ltb (length flows) 2) None (Some (Act code duration flows)) in
-    let code = bind_some (code_field fields) (λ code. number_field (code.1) >>= (λ duration. flows_of (duration.1) >>= (λ flows. made (code.0) (duration.0) flows))) line e in
-    let duration = bind_some (number_field (code.0.1)) (λ duration. flows_of (duration.1) >>= (λ flows. made (code.0.0) (duration.0) flows)) line (code.2) in
+    let code = bind_some (code_field fields) (λ code. number_field MAX_DIGITS (code.1) >>= (λ duration. flows_of (duration.1) >>= (λ flows. made (code.0) (duration.0) flows))) line e in
+    let duration = bind_some (number_field MAX_DIGITS (code.0.1)) (λ duration. flows_of (duration.1) >>= (λ flows. made (code.0.0) (duration.0) flows)) line (code.2) in
     let flows = bind_some (flows_of (duration.0.1)) (λ flows. made (code.0.0) (duration.0.0) flows) line (duration.2) in
     let enough = unless_takes (ltb (length (flows.0)) 2) (Some (Act (code.0.0) (duration.0.0) (flows.0))) line (flows.2) in
     let same : Act (code.0.0) (duration.0.0) (flows.0) ≡ line = line_same _ _ (enough.1) in
     let code_is = code_field_takes fields (code.0) (code.1) in
-    let duration_is = number_field_takes (code.0.1) (duration.0) (duration.1) in
+    let duration_is = number_field_takes limit (code.0.1) (duration.0) (duration.1) in
     let flows_are = flows_take (duration.0.1) (flows.0) (flows.1) in
     subst (λ l. IsLine (codes "ACT") fields l) same (record {
       text = ap (λ x. codes "ACT" ++ x) (
@@ -232,7 +235,7 @@ unfolding act_of
 act_again code duration flows h =
     rw (
       code_field_again code (spaced (decimal duration) (numbers flows)) (h.0) (space _),
-      number_field_again duration (numbers flows) (h.1) (numbers_behind flows),
+      number_field_again limit duration (numbers flows) (h.1) (numbers_behind flows),
       flows_again flows (h.2) (h.4),
     ) (unless_again (ltb (length flows) 2) (Some (Act code duration flows)) (le-ltb _ _ (h.3)))
 

@@ -10,8 +10,8 @@ use Rattle.pc_cert.specs.declared.line.CertLine.TheVariants.{Head, Normal, Step,
 use Rattle.pc_text.specs.Fields.{Lacks, spaced, IsCode}
 use Rattle.pc_cert.specs.Lines.{numbers, spelling, IsSmall, AreSmall, IsWritable}
 use Rattle.pc_cert.specs.inside.Fields.{bit_text}
-use Rattle.pc_text.proofs.FieldLemmas.{lacks, code_lacks}
-use Rattle.pc_cert.proofs.FieldLemmas.{decimal_lacks}
+use Rattle.pc_text.proofs.FieldLemmas.{lacks, code_lacks, decimal_lacks}
+use Rattle.pc_cert.proofs.NumberLemmas.{limit}
 
 Lacks-append : (byte : ℕ) (xs ys : List ℕ) → Lacks byte xs → Lacks byte ys → Lacks byte (xs ++ ys)
 Lacks-append byte [] ys p q = q
@@ -39,7 +39,7 @@ behind {text = text} {rest = rest} p q = record {
 }
 
 number : (n : ℕ) → IsSmall n → IsShort 18 (decimal n)
-number n h = record { open_text = decimal_lacks 10 refl n h; within = length-decimal-le 18 n (omega arith) h (omega arith) }
+number n h = record { open_text = decimal_lacks limit 10 refl n h; within = length-decimal-le 18 n (omega arith) h (omega arith) }
 
 code : (text : List ℕ) → IsCode text → IsShort 16 text
 code text h = record { open_text = code_lacks 10 refl text h; within = grind (arith, nat_tests) }

@@ -1,4 +1,4 @@
--- The numbers that words spell, and their decimal forms.
+-- The digits at the front of bytes, and the number that they spell.
 use Rattle.std.proofs.Common.{◌≡◌, ℕ, ◌+◌, ◌-◌, ◌*◌, ◌^◌, ◌<◌, ◌≤◌, true, List, [], ◌∷◌, ◌++◌, length, take, get_or, refl, sym, ap, ◌∙◌, arith, zero, suc, Some, subst}
 use Rattle.std.proofs.lemmas.List.{take_more}
 use Rattle.std.proofs.lemmas.List.Folds.{list_all-append}
@@ -11,74 +11,14 @@ use Rattle.std.specs.List.{list_all}
 use Rattle.std.specs.Char.{is_ascii_digit}
 use Rattle.std.specs.Fmt.{decimal}
 use Rattle.pc_text.specs.Number.{value_after}
-use Rattle.pc_text.proofs.NumberLemmas.{own}
-use Rattle.pc_cert.specs.inside.Number.{is_numeral, is_unpadded, numeral_of, AreDigitsAt}
+use Rattle.pc_text.specs.inside.Number.{is_unpadded, Spells}
+use Rattle.pc_text.proofs.NumberLemmas.{IsLimit, spelled}
+use Rattle.pc_cert.specs.inside.Number.{AreDigitsAt}
+use Rattle.pc_cert.specs.declared.number.TheConstants.{MAX_DIGITS}
 
--- a number of fewer than 18 digits is below 10 ^ 17
-pub below_17_digits : (n i : ℕ) → n < 10 ^ i → i < 18 → n < 10 ^ 17
-below_17_digits n i small h =
-    let positive : 0 < 10 = omega arith in
-    let within : i ≤ 17 = omega arith in
-    omega (arith, pow-le-pow_right positive within)
-
--- the parts of the test
-pub record IsDigits (word : List ℕ) : Type 0 where
-  pub some : 1 ≤ length word
-  pub short : length word ≤ 18
-  pub digits : list_all is_ascii_digit word ≡ true
-  pub plain : get_or word 0 0 ≡ 48 → length word ≡ 1
-
-pub parts : (word : List ℕ) → is_numeral word ≡ true → IsDigits word
-parts word h = record {
-  some = grind (arith, nat_tests);
-  short = grind (arith, nat_tests);
-  digits = grind (arith, nat_tests);
-  plain = grind (arith, nat_tests);
-}
-
-joined : (word : List ℕ) → IsDigits word → is_numeral word ≡ true
-joined word p =
-    let some = p.some in let short = p.short in let digits = p.digits in let plain = p.plain in
-    grind (arith, nat_tests)
-
--- what a word spells: a number of at most 18 digits, whose decimal form it is
-pub record Spells (word : List ℕ) (n : ℕ) : Type 0 where
-  pub small : n < 10 ^ 18
-  pub same : word ≡ decimal n
-
-spelled : (word : List ℕ) → IsDigits word → Spells word (value_after 0 word)
-spelled word p =
-    let small = digits_value_short own word 18 p.digits p.short in
-    record { small = small; same = sym (decimal-digits_value own word p.digits p.some p.plain (omega (arith, small))) }
-
--- what is read is spelled so
-pub number_takes : (word : List ℕ) (n : ℕ) → numeral_of word ≡ Some n → Spells word n
-number_takes word n h =
-    let read = cond_some (is_numeral word) (value_after 0 word) n h in
-    subst (Spells word) (read.1) (spelled word (parts word (read.0)))
-
-plain_decimal : (n : ℕ) → n < 2 ^ 64 → get_or (decimal n) 0 0 ≡ 48 → length (decimal n) ≡ 1
-plain_decimal zero small h = rw (decimal_digit 0 (omega arith)) refl
-plain_decimal (suc n) small h = absurd (omega (arith, first_decimal (suc n) (omega arith) small, h))
-
--- the digits of a number
-pub decimal_parts : (n : ℕ) → n < 10 ^ 18 → IsDigits (decimal n)
-decimal_parts n h =
-    let small : n < 2 ^ 64 = omega arith in
-    record {
-      some = decimal_nonempty n small;
-      short = length-decimal-le 18 n (omega arith) h small;
-      digits = digits_decimal own n small;
-      plain = plain_decimal n small;
-    }
-
--- what is spelled so is read
-pub number_again : (n : ℕ) → n < 10 ^ 18 → numeral_of (decimal n) ≡ Some n
-number_again n h =
-    let test : is_numeral (decimal n) ≡ true = joined (decimal n) (decimal_parts n h) in
-    rw test (ap Some (digits_value-decimal own n (omega arith)))
-
--- ---- digits at the front of bytes
+-- numbers of so many digits can be read
+pub limit : IsLimit MAX_DIGITS
+limit = record { some = omega arith; fits = omega arith }
 
 value_after-more : (n : ℕ) (ds : List ℕ) (d : ℕ) → value_after n (ds ++ d ∷ []) ≡ value_after n ds * 10 + (d - 48)
 value_after-more n [] d = refl
@@ -110,10 +50,10 @@ digits_more bytes number count byte are few below here digit small =
     }
 
 -- digits that are not padded are the decimal form of their value
-pub digits_spell : (bytes : List ℕ) (number count : ℕ) → AreDigitsAt bytes number count → is_unpadded (take count bytes) ≡ true → Spells (take count bytes) number
+pub digits_spell : (bytes : List ℕ) (number count : ℕ) → AreDigitsAt bytes number count → is_unpadded 18 (take count bytes) ≡ true → Spells 18 (take count bytes) number
 digits_spell bytes number count are plain =
     let digits : list_all is_ascii_digit (take count bytes) ≡ true = are.digits in
-    subst (Spells (take count bytes)) (sym are.value) (spelled (take count bytes) (record {
+    subst (Spells 18 (take count bytes)) (sym are.value) (spelled 18 (take count bytes) limit (record {
       some = grind (arith, nat_tests);
       short = grind (arith, nat_tests);
       digits = digits;

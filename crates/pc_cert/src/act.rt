@@ -2,10 +2,10 @@
 ghost use Rattle.std.specs.Prelude.{◌≡◌};
 ghost use Rattle.pc_cert.specs.inside.Reading.{act_of, flows_of};
 
-use crate::field::number_field;
 use crate::flows::{Flows, MAX_FLOWS};
 use crate::line::CertLine;
-use pc_text::{Code, field};
+use crate::number::MAX_DIGITS;
+use pc_text::{Code, field, number_field};
 
 #[tactic(auto, unfolding(crate::specs::inside::Reading::act_of, pc_text::specs::Fields::field_by))]
 pub(crate) fn act_of(fields: &[u8]) -> Option<CertLine>
@@ -13,7 +13,7 @@ pub(crate) fn act_of(fields: &[u8]) -> Option<CertLine>
 {
     let (word, rest) = field(fields)?;
     let code = Code::read(word)?;
-    let (duration, rest) = number_field(rest)?;
+    let (duration, rest) = number_field(rest, MAX_DIGITS)?;
     let flows = flows_of(rest)?;
     if flows.as_slice().len() < 2 {
         return None;
@@ -35,7 +35,7 @@ fn flows_of(fields: &[u8]) -> Option<Flows>
         if flows.as_slice().len() == MAX_FLOWS {
             return None;
         }
-        let (flow, behind) = number_field(rest)?;
+        let (flow, behind) = number_field(rest, MAX_DIGITS)?;
         flows.push(flow);
         rest = behind;
     }

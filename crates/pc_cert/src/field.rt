@@ -1,20 +1,9 @@
-//! The fields of a line that are numbers or bits: each is a space and the word after it.
+//! The field of a line that is a bit: a space and `0` or `1`.
 ghost use Rattle.std.specs.Prelude.{◌≡◌};
 ghost use Rattle.std.specs.Option.{option_map};
-ghost use Rattle.pc_cert.specs.inside.Fields.{number_field, bit_field, bit_of};
+ghost use Rattle.pc_cert.specs.inside.Fields.{bit_field, bit_of};
 
-use crate::number::numeral_of;
 use pc_text::field;
-
-/// Reads a space and a number. Returns the number and the bytes after it.
-#[tactic(auto, unfolding(crate::specs::inside::Fields::number_field, pc_text::specs::Fields::field_by))]
-pub(crate) fn number_field(bytes: &[u8]) -> Option<(u64, &[u8])>
-    ensures { option_map (λ parts. (parts.0, parts.1.now)) result ≡ number_field bytes.now }
-{
-    let (word, rest) = field(bytes)?;
-    let number = numeral_of(word)?;
-    Some((number, rest))
-}
 
 /// Reads a space and a bit, `0` or `1`. Returns the bit and the bytes after it.
 #[tactic(auto, unfolding(crate::specs::inside::Fields::bit_field, pc_text::specs::Fields::field_by))]

@@ -1,8 +1,9 @@
 //! The numbers of a certificate, which may be longer than those of a deck.
-ghost use Rattle.std.specs.Prelude.{◌≡◌, ◌+◌, ◌<◌, ◌≤◌, IfSome, length};
-ghost use Rattle.pc_text.specs.inside.Number.{value_of};
-ghost use Rattle.pc_cert.specs.inside.Number.{is_unpadded, numeral_of, AreDigitsAt};
+ghost use Rattle.std.specs.Prelude.{◌+◌, ◌<◌, ◌≤◌, IfSome, length};
+ghost use Rattle.pc_cert.specs.inside.Number.{AreDigitsAt};
 ghost use Rattle.pc_cert.specs.inside.Lines.{IsNumberAt, IsNumeralAt};
+
+use pc_text::is_unpadded;
 
 /// The most digits of a number in a certificate.
 pub const MAX_DIGITS: usize = 18;
@@ -12,41 +13,6 @@ pub const MAX_DIGITS: usize = 18;
 const ZERO: u64 = 48;
 
 const GREATEST_DIGIT: u64 = 9;
-
-/// Reads a number: 1 to 18 digits, without a sign and without a leading zero. Returns `None` if the word is none.
-///
-/// One pass, which ends at the first byte that is not a digit.
-pub(crate) fn numeral_of(word: &[u8]) -> Option<u64>
-    ensures { result ≡ numeral_of word.now }
-{
-    if is_unpadded(word) {
-        value_of(word)
-    } else {
-        None
-    }
-}
-
-/// Returns whether the word has 1 to 18 bytes, and no leading zero.
-fn is_unpadded(word: &[u8]) -> bool
-    ensures { result ≡ is_unpadded word.now }
-{
-    1 <= word.len() && word.len() <= MAX_DIGITS && (word[0] != b'0' || word.len() == 1)
-}
-
-/// Returns the value of at most 18 digits, or `None` if one of the bytes is not a digit.
-fn value_of(word: &[u8]) -> Option<u64>
-    requires short { length word.now ≤ MAX_DIGITS }
-    ensures { result ≡ value_of word.now }
-{
-    let mut number = 0;
-    for byte in word {
-        if !byte.is_ascii_digit() {
-            return None;
-        }
-        number = number * 10 + u64::from(byte - b'0');
-    }
-    Some(number)
-}
 
 /// Reads a space and a number. Returns the number and the bytes after it.
 ///
@@ -67,7 +33,7 @@ fn numeral_at(bytes: &[u8]) -> Option<(u64, &[u8])>
     ensures { IfSome result (λ parts. IsNumeralAt bytes.now parts.0 parts.1.now) }
 {
     let (number, end) = digits_at(bytes);
-    if !is_unpadded(&bytes[..end]) {
+    if !is_unpadded(&bytes[..end], MAX_DIGITS) {
         return None;
     }
     Some((number, &bytes[end..]))
@@ -94,7 +60,7 @@ fn numeral_within(bytes: &[u8]) -> Option<(u64, &[u8])>
     ensures left { IfSome result (λ parts. length bytes.now ≤ length parts.1.now + MAX_DIGITS) }
 {
     let (number, end) = digits_within(bytes);
-    if !is_unpadded(&bytes[..end]) {
+    if !is_unpadded(&bytes[..end], MAX_DIGITS) {
         return None;
     }
     Some((number, &bytes[end..]))

@@ -1,12 +1,12 @@
 //! Reading a line: its first word says which it is, and its fields are read one after the other.
 ghost use Rattle.std.specs.Prelude.{◌≡◌};
-ghost use Rattle.pc_text.specs.Fields.{alone};
 ghost use Rattle.pc_cert.specs.inside.Reading.{line_of, line_with, head_of, step_of, segment_of, event_of};
 
 use crate::act::act_of;
-use crate::field::{bit_field, number_field};
+use crate::field::bit_field;
 use crate::line::CertLine;
-use pc_text::{Code, field, run_len};
+use crate::number::MAX_DIGITS;
+use pc_text::{Code, alone, field, number_field, run_len};
 
 /// Reads a line from its bytes. Returns `None` if they are no line.
 #[tactic(auto, unfolding(crate::specs::inside::Reading::line_of))]
@@ -43,22 +43,15 @@ fn line_with(word: &[u8], fields: &[u8]) -> Option<CertLine>
     }
 }
 
-/// Returns the line if nothing is left after it.
-fn alone(rest: &[u8], line: CertLine) -> Option<CertLine>
-    ensures { result ≡ alone rest.now line }
-{
-    if rest.is_empty() { Some(line) } else { None }
-}
-
 #[tactic(auto, unfolding(crate::specs::inside::Reading::head_of, pc_text::specs::Fields::field_by))]
 fn head_of(fields: &[u8]) -> Option<CertLine>
     ensures { result ≡ head_of fields.now }
 {
-    let (version, rest) = number_field(fields)?;
+    let (version, rest) = number_field(fields, MAX_DIGITS)?;
     let (word, rest) = field(rest)?;
     let project = Code::read(word)?;
-    let (events, rest) = number_field(rest)?;
-    let (activities, rest) = number_field(rest)?;
+    let (events, rest) = number_field(rest, MAX_DIGITS)?;
+    let (activities, rest) = number_field(rest, MAX_DIGITS)?;
     if version < 1 || 2 < version {
         return None;
     }
@@ -86,10 +79,10 @@ fn step_of(fields: &[u8]) -> Option<CertLine>
 fn segment_of(fields: &[u8]) -> Option<CertLine>
     ensures { result ≡ segment_of fields.now }
 {
-    let (upper, rest) = number_field(fields)?;
-    let (lower, rest) = number_field(rest)?;
-    let (cost, rest) = number_field(rest)?;
-    let (slope, rest) = number_field(rest)?;
+    let (upper, rest) = number_field(fields, MAX_DIGITS)?;
+    let (lower, rest) = number_field(rest, MAX_DIGITS)?;
+    let (cost, rest) = number_field(rest, MAX_DIGITS)?;
+    let (slope, rest) = number_field(rest, MAX_DIGITS)?;
     alone(
         rest,
         CertLine::Segment {
@@ -107,7 +100,7 @@ fn event_of(fields: &[u8]) -> Option<CertLine>
 {
     let (word, rest) = field(fields)?;
     let code = Code::read(word)?;
-    let (time, rest) = number_field(rest)?;
+    let (time, rest) = number_field(rest, MAX_DIGITS)?;
     let (moves, rest) = bit_field(rest)?;
     alone(rest, CertLine::Event { code, time, moves })
 }

@@ -1,11 +1,6 @@
--- The fields of a line of a certificate: its numbers, which may be longer than those of a deck, and its bits.
+-- The bit of a line of a certificate.
 use Rattle.std.specs.Prelude.{ℕ, Bool, true, false, List, Option, Some, None, bytes_eq, codes, if◌then◌else◌}
 use Rattle.pc_text.specs.Fields.{field_by}
-use Rattle.pc_cert.specs.inside.Number.{numeral_of}
-
--- the number behind the space at the front, and the bytes behind it
-unfoldable pub number_field : List ℕ → Option (ℕ × List ℕ)
-number_field bytes = field_by numeral_of bytes
 
 -- the bit that a word spells: `0` or `1`
 abbrev pub bit_of : List ℕ → Option Bool

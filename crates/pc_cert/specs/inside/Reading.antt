@@ -1,16 +1,17 @@
 -- The line that bytes spell, read word by word.
 use Rattle.std.specs.Prelude.{ℕ, zero, suc, ◌||◌, nat_lt, List, [], ◌∷◌, length, take, drop, Option, Some, None, bytes_eq, codes, if◌then◌else◌}
-use Rattle.pc_text.specs.Fields.{◌>>=◌, run_len, code_field, alone}
-use Rattle.pc_cert.specs.inside.Fields.{number_field, bit_field}
+use Rattle.pc_text.specs.Fields.{◌>>=◌, run_len, code_field, number_field, alone}
+use Rattle.pc_cert.specs.inside.Fields.{bit_field}
+use Rattle.pc_cert.specs.declared.number.TheConstants.{MAX_DIGITS}
 use Rattle.pc_cert.specs.declared.line.CertLine.{CertLine}
 use Rattle.pc_cert.specs.declared.line.CertLine.TheVariants.{Head, Normal, Step, Crash, Segment, Event, Act, Close, End}
 
 unfoldable pub head_of : List ℕ → Option CertLine
 head_of fields = do
-  version ← number_field fields
+  version ← number_field MAX_DIGITS fields
   project ← code_field version.1
-  events ← number_field project.1
-  activities ← number_field events.1
+  events ← number_field MAX_DIGITS project.1
+  activities ← number_field MAX_DIGITS events.1
   if nat_lt version.0 1 || nat_lt 2 version.0 then None else alone activities.1 (Head version.0 project.0 events.0 activities.0)
 
 unfoldable pub step_of : List ℕ → Option CertLine
@@ -20,16 +21,16 @@ step_of fields = do
 
 unfoldable pub segment_of : List ℕ → Option CertLine
 segment_of fields = do
-  upper ← number_field fields
-  lower ← number_field upper.1
-  cost ← number_field lower.1
-  slope ← number_field cost.1
+  upper ← number_field MAX_DIGITS fields
+  lower ← number_field MAX_DIGITS upper.1
+  cost ← number_field MAX_DIGITS lower.1
+  slope ← number_field MAX_DIGITS cost.1
   alone slope.1 (Segment upper.0 lower.0 cost.0 slope.0)
 
 unfoldable pub event_of : List ℕ → Option CertLine
 event_of fields = do
   code ← code_field fields
-  time ← number_field code.1
+  time ← number_field MAX_DIGITS code.1
   moves ← bit_field time.1
   alone moves.1 (Event code.0 time.0 moves.0)
 
@@ -38,7 +39,7 @@ abbrev pub numbers_in : ℕ → List ℕ → Option (List ℕ)
 numbers_in room [] = Some []
 numbers_in zero (b ∷ bs) = None
 numbers_in (suc room) (b ∷ bs) = do
-  number ← number_field (b ∷ bs)
+  number ← number_field MAX_DIGITS (b ∷ bs)
   others ← numbers_in room number.1
   Some (number.0 ∷ others)
 
@@ -49,7 +50,7 @@ flows_of fields = numbers_in 6 fields
 unfoldable pub act_of : List ℕ → Option CertLine
 act_of fields = do
   code ← code_field fields
-  duration ← number_field code.1
+  duration ← number_field MAX_DIGITS code.1
   flows ← flows_of duration.1
   if nat_lt (length flows) 2 then None else Some (Act code.0 duration.0 flows)
 

@@ -1,18 +1,18 @@
 use Rattle.std.proofs.Common.{◌+◌, ◌*◌, ◌<◌, ◌≡◌, true, get_or, refl, sym, subst, ◌∙◌, arith}
 use Rattle.std.specs.Char.{is_ascii_digit}
-use Rattle.pc_text.proofs.NumberLemmas.{longer}
-use Rattle.pc_cert.proofs.NumberLemmas.{AreSoFar, below_17_digits, digits_more, digit_limit}
+use Rattle.pc_text.proofs.NumberLemmas.{below_18_digits, longer}
+use Rattle.pc_cert.proofs.NumberLemmas.{AreSoFar, digits_more, digit_limit}
 use Rattle.pc_cert.proofs.number.digits_to_end.Goals as goal
 
 pub overflow_mul-number : goal.overflow_mul-number
 overflow_mul-number c =
     let few : c.loop-i.i < 18 = omega (arith, c.requires, c.loop-i-test.true) in
-    omega (arith, below_17_digits c.loop-i.number c.loop-i.i c.loop-i.invariant.small few)
+    omega (arith, below_18_digits c.loop-i.number c.loop-i.i c.loop-i.invariant.small (omega (arith, few)))
 
 pub overflow_add-number : goal.overflow_add-number
 overflow_add-number c =
     let few : c.loop-i.i < 18 = omega (arith, c.requires, c.loop-i-test.true) in
-    let small = below_17_digits c.loop-i.number c.loop-i.i c.loop-i.invariant.small few in
+    let small = below_18_digits c.loop-i.number c.loop-i.i c.loop-i.invariant.small (omega (arith, few)) in
     omega (arith, small, c.from.ensures)
 
 pub loop-i-preserved : goal.loop-i-preserved

@@ -10,6 +10,6 @@ returns-clause-number c =
     let end = c.digits_within-number.result.1 in
     let spells = digits_spell bytes c.digits_within-number.result.0 end c.digits_within-number.ensures (sym c.is_unpadded.ensures ∙ c.if-not-is_unpadded.false) in
     record {
-      text = sym (take-append-drop end bytes) ∙ ap (λ word. word ++ drop end bytes) spells.same ∙ ap (λ rest. decimal c.digits_within-number.result.0 ++ rest) (sym (rest_is end bytes));
-      small = spells.small;
+      text = sym (take-append-drop end bytes) ∙ ap (λ word. word ++ drop end bytes) (spells.1) ∙ ap (λ rest. decimal c.digits_within-number.result.0 ++ rest) (sym (rest_is end bytes));
+      small = spells.0;
     }
