@@ -1,15 +1,14 @@
 -- The numbers that fields spell, and their decimal forms.
-use Rattle.std.proofs.Common.{◌≡◌, ℕ, ◌+◌, ◌-◌, ◌*◌, ◌^◌, ◌<◌, ◌≤◌, true, List, length, drop, get_or, Some}
-use Rattle.std.proofs.Common.{Option, None, IfSome, refl, sym, ap, subst, arith, rules, zero, suc, add-one, drop-cons}
+use Rattle.std.proofs.Common.{◌≡◌, ℕ, ◌+◌, ◌-◌, ◌*◌, ◌^◌, ◌<◌, ◌≤◌, true, List, length, get_or, Some}
+use Rattle.std.proofs.Common.{Option, None, IfSome, refl, sym, ap, subst, arith, rules, zero, suc, add-one}
 use Rattle.std.proofs.Math.Nat.{pow-suc, pow-le-pow_right}
 use Rattle.std.proofs.lemmas.Bool.Decides.{nat_tests}
 use Rattle.std.proofs.lemmas.Option.{cond_some}
-use Rattle.std.proofs.lemmas.Str.Parse.{IsNumeralModel, numerals_by_fold, digits_value_short, digit_at}
+use Rattle.std.proofs.lemmas.Str.Parse.{IsNumeralModel, numerals_by_fold, digits_value_short}
 use Rattle.std.proofs.lemmas.Fmt.{digits_decimal, digits_value-decimal, decimal-digits_value, length-decimal-le, decimal_nonempty, first_decimal, decimal_digit}
 use Rattle.std.specs.List.{list_all}
 use Rattle.std.specs.Char.{is_ascii_digit}
 use Rattle.std.specs.Fmt.{decimal}
-use Rattle.std.specs.Int.{IsInRange}
 use Rattle.pc_text.specs.declared.number.TheConstants.{DECK_DIGITS}
 use Rattle.pc_text.specs.Number.{is_numeral, is_number, value_after, numeral_of}
 use Rattle.pc_text.specs.inside.Number.{Spells, IsDecimal}
@@ -17,14 +16,6 @@ use Rattle.pc_text.specs.inside.Number.{Spells, IsDecimal}
 -- the tests and the value here are std's digits and their value
 pub own : IsNumeralModel (λ ds. list_all is_ascii_digit ds ≡ true) (value_after 0)
 own = numerals_by_fold _ (search rules) value_after (search rules)
-
--- each byte of a text of digits is one of 48 to 57
-pub digit_in : (ds : List ℕ) (i : ℕ) → list_all is_ascii_digit ds ≡ true → i < length ds → IsInRange 48 57 (get_or ds i 0)
-digit_in ds i digits h = digit_at ds i (own.to ds digits) h
-
--- the value goes on with the next digit
-pub value_after-drop : (n : ℕ) (ds : List ℕ) (i : ℕ) → i < length ds → value_after n (drop i ds) ≡ value_after (n * 10 + (get_or ds i 0 - 48)) (drop (i + 1) ds)
-value_after-drop n ds i h = rw (add-one, drop-cons ds i 0 h)
 
 -- one more digit makes a number at most one digit longer
 pub longer : (n digit i : ℕ) → n < 10 ^ i → digit ≤ 57 → n * 10 + (digit - 48) < 10 ^ (i + 1)
