@@ -104,7 +104,7 @@ pub fn early_into(net: &Net, lengths: &[u64], times: &mut [u64])
     ensures limit { All (λ time. time ≤ MAX_TIME) times.new }
     ensures walks { HasBoundedWalks net.now lengths.now }
 {
-    // No more events than a project may have, so that no sum is too great.
+    // Called for the bound on events, so that no sum is too great.
     let _events = net.events();
     for &event in net.order() {
         times[event as usize] = latest_arrival(net, lengths, times, event);
@@ -120,7 +120,7 @@ pub fn tails_into(net: &Net, lengths: &[u64], tails: &mut [u64])
     ensures limit { All (λ tail. tail ≤ MAX_TIME) tails.new }
     ensures walks { HasBoundedWalks net.now lengths.now }
 {
-    // No more events than a project may have, so that no sum is too great.
+    // Called for the bound on events, so that no sum is too great.
     let _events = net.events();
     for &event in net.order().iter().rev() {
         tails[event as usize] = longest_departure(net, lengths, tails, event);

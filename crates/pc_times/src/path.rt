@@ -101,7 +101,7 @@ pub fn critical_path_into(
     ensures picked { IsPickedWalk net.now lengths.now (take result path.new) }
     ensures short { result < net.now.events }
 {
-    // No more events than a project may have, in an order: so no walk is long.
+    // Called for the bound on events and for their order: no walk is longer than the slice.
     let _events = net.events();
     let _order = net.order();
     let mut event = net.start();
