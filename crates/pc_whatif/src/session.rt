@@ -104,7 +104,7 @@ impl<'p> Session<'p> {
         ensures cells { IfOk result (λ session. session.region.free ≡
             trial_cells project.now.network.events (length project.now.network.arcs) (length project.now.pieces)) }
     {
-        // For what a project keeps to: its numbers are those of a sound plan.
+        // Called for what a project always is: its numbers are those of a sound plan.
         let _net = project.net();
         Ok(Session {
             project,
@@ -131,7 +131,7 @@ pub(crate) fn renew(region: &mut SessionRegion, edits: &Edits<'_>, a: u32, proje
     ensures renewed { IsRenewed project.now edits.now.editing region.new }
     ensures free { region.new.free ≡ region.old.free }
 {
-    // For what a network keeps to: the estimates of an activity are in order and within their limit.
+    // Called for what a network always is: the estimates of an activity are in order and within their limit.
     let _net = edits.net();
     region.set_estimates(a, &edits.estimates(a), project.unit_days());
     region.renew(project.net());
@@ -171,7 +171,7 @@ impl Session<'_> {
         ensures { (text : List ℕ) × IsAnswered self.old None text self.new
             × Writes result (O.taken out.old) (O.taken out.new) (O.faults out.old) (O.faults out.new) text }
     {
-        // Reading a field shows what the session keeps: its times stand, and its page is empty.
+        // Read for what a session always is: its times are the project's, and its page is empty.
         let _ = &self.page;
         refuse(Reason::Form, out)
     }
@@ -181,7 +181,7 @@ impl Session<'_> {
         ensures { (text : List ℕ) × IsAnswered self.old (Some (asks.Edit edit.now)) text self.new
             × Writes result (O.taken out.old) (O.taken out.new) (O.faults out.old) (O.faults out.new) text }
     {
-        // Reading a field shows what the session keeps: its times stand, and its page is empty.
+        // Read for what a session always is: its times are the project's, and its page is empty.
         let _ = &self.page;
         match self.edits.apply(edit) {
             Ok(a) => {
@@ -197,7 +197,7 @@ impl Session<'_> {
         ensures { (text : List ℕ) × IsAnswered self.old (Some asks.Undo) text self.new
             × Writes result (O.taken out.old) (O.taken out.new) (O.faults out.old) (O.faults out.new) text }
     {
-        // Reading a field shows what the session keeps: its times stand, and its page is empty.
+        // Read for what a session always is: its times are the project's, and its page is empty.
         let _ = &self.page;
         match self.edits.undo() {
             Ok(a) => {

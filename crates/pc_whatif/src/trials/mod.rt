@@ -61,7 +61,7 @@ pub(crate) struct SessionRegion {
     spans: Spans,
     /// The number of activities on the critical path.
     path_len: usize,
-    /// A place for each event, which the passes over the network write into.
+    /// An entry for each event, which the passes over the network write into.
     room: Vec<u64>,
 }
 
@@ -243,7 +243,7 @@ impl SessionRegion {
         ensures fresh { page.new ≡ fresh }
     {
         let net = project.net();
-        // How many activities a project may have, so that each has a small number.
+        // Called for the bound on activities, so that each has a small number.
         let _activities = net.activities();
         let early = self.early();
         let by = end_to_meet(project.directed(), early[net.end() as usize]);
@@ -334,7 +334,7 @@ fn take_spans(region: &mut Region, events: usize, activities: usize) -> Spans
 
 /// Computes the times and the critical path from the expected times, and returns how many activities the path has.
 ///
-/// The passes write into `room`, which has a place for each event, and from there into the spans. Takes no memory.
+/// The passes write into `room`, which has an entry for each event, and from there into the spans. Takes no memory.
 fn renew_times(region: &mut Region, spans: &Spans, net: &Net, room: &mut [u64]) -> usize
     requires laid { IsLaidIn region.old spans.now }
     requires lengths { AreLengths net.now (list_of region.old 0) }

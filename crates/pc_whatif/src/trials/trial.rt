@@ -53,7 +53,7 @@ fn cost_within<L: Ledger>(solver: &mut Solver<'_>, limit: u64, steps: &mut Steps
     ensures same { IsSameCurve solver.old solver.new }
     ensures counted { steps.new ≤ steps.old + looks_over solver.old.net (solver.old.longest - solver.old.shortest) }
 {
-    // Before the first segment nothing has fallen.
+    // Called for its clause `level`: before the first segment no time has fallen.
     let _given = solver.given();
     let shortest = solver.shortest();
     let longest = solver.longest();
@@ -61,7 +61,7 @@ fn cost_within<L: Ledger>(solver: &mut Solver<'_>, limit: u64, steps: &mut Steps
         return None;
     }
     let cost = cost_at(solver, limit, steps);
-    // At any time a solver's lower end is in the range.
+    // Called for its clause `range`: the lower end of a solver is always in the range.
     let _given = solver.given();
     Some(cost)
 }
@@ -85,10 +85,10 @@ pub(in crate::trials) fn trial_curve<O: Sink, L: Ledger>(
         steps.new ≤ steps.old + looks_over net.now (longest - shortest) }
 {
     let mut solver = Solver::begin(home.take().unwrap(), net);
-    // Before the first segment nothing has fallen.
+    // Called for its clause `level`: before the first segment no time has fallen.
     let _given = solver.given();
     let written = write_curve(page, sink, &mut solver, steps);
-    // At any time a solver's lower end is in the range.
+    // Called for its clause `range`: the lower end of a solver is always in the range.
     let _given = solver.given();
     put_back(home, solver);
     written
