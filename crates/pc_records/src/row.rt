@@ -10,7 +10,7 @@ use std::marker::Model;
 
 /// One record of a deck: a list of fields, each of any bytes.
 ///
-/// [`Rows::next_row`](crate::Rows::next_row) fills it again for each record and keeps its memory.
+/// [`RowReader::next_row`](crate::RowReader::next_row) fills it again for each record and keeps its memory.
 pub struct Row {
     pub(crate) fields: ByteRecord,
 }
@@ -97,7 +97,7 @@ impl Row {
         if !self.field(start).is_empty() {
             return false;
         }
-        // Those behind another are told by where two fields end: none of them is the first.
+        // None of these fields is the first, so each begins where another ends.
         for i in start..self.len() - 1 {
             if !self.field(i + 1).is_empty() {
                 return false;

@@ -73,7 +73,7 @@ impl<'a> RowReader<'a> {
             return Ok(false);
         }
         let Ok(found) = self.reader.read_byte_record(&mut row.fields) else {
-            // Bytes in memory give no error of their own, so memory was wanting.
+            // Reading from memory cannot fail by itself, so memory ran out.
             self.is_done = true;
             return Err(AllocError);
         };
@@ -93,7 +93,7 @@ fn unmarked(bytes: &[u8]) -> &[u8]
     }
 }
 
-// A reader of records of any length, with no header row.
+// A reader of records of any length, without a header.
 fn reader_of(alloc: Global, bytes: &[u8]) -> Reader<&[u8]>
     ensures going { IsGoing result }
     ensures state { reader_state result ≡ st.StartRecord }

@@ -57,7 +57,7 @@ impl RowWriter {
             return Err(AllocError);
         }
         let Ok(()) = self.writer.write_fields(fields) else {
-            // Bytes in memory give no error of their own, so memory was wanting.
+            // Writing to memory cannot fail by itself, so memory ran out.
             self.has_failed = true;
             return Err(AllocError);
         };
