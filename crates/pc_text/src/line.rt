@@ -1,4 +1,4 @@
-//! A line of a report, put together cell by cell before it is written in one piece.
+//! A line of a report, put together piece by piece before it is written at once.
 ghost use Rattle.std.specs.Prelude.{◌≡◌, ◌+◌, ◌-◌, ◌≤◌, max, [], ◌++◌, length, IfOk};
 ghost use Rattle.pc_text.specs.Line.{spaces};
 
