@@ -15,7 +15,7 @@ pub use limits::{
 };
 use std::marker::Model;
 
-/// The place of an activity in the network: the events where it begins and ends, numbered from 0 in card order.
+/// Where an activity is in the network: the events where it begins and ends, numbered from 0 in card order.
 #[derive(Clone, Copy)]
 pub struct Arc {
     pub from: u32,
