@@ -29,7 +29,7 @@ pub(crate) struct PriceTable {
 }
 
 impl Drop for PriceTable {
-    // Written by hand so that the proof of dropping a layout is done once, here.
+    // Written by hand so that the proof of dropping a table is done once, here.
     fn drop(self) {
         let PriceTable {
             rows: _rows,
