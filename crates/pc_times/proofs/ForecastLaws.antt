@@ -1,11 +1,10 @@
 -- How a forecast is made in the order of the events, and why there is one.
-use Rattle.std.proofs.Common.{◌≡◌, ◌≢◌, ℕ, zero, suc, ◌+◌, ◌*◌, ◌<◌, ◌≤◌, ◌^◌, ◌==◌, ◌⊎◌, inl, ⊎_elim, List, length, slice_index, set, get_or-set_same}
+use Rattle.std.proofs.Common.{◌≡◌, ◌≢◌, ℕ, zero, suc, ◌+◌, ◌*◌, ◌<◌, ◌≤◌, ◌^◌, ◌==◌, ◌⊎◌, ⊎_elim, List, length, slice_index, set, get_or-set_same}
 use Rattle.std.proofs.Common.{get_or-set_other, length-set, refl, sym, ap, ◌∙◌, subst, Bool, true, false, cond, max, below_more, arith}
 use Rattle.std.proofs.Math.Nat.{mul-le-mul_right}
 use Rattle.std.proofs.lemmas.Bool.{cases_eq, cases_lt}
 use Rattle.std.proofs.lemmas.List.{ext_get_or, get_or_past}
 use Rattle.pc_model.specs.declared.limits.TheConstants.{MAX_EVENTS}
-use Rattle.pc_model.specs.inside.Greatest.{IsListed}
 use Rattle.pc_model.specs.Walk.{from_of, to_of}
 use Rattle.pc_model.specs.Network.{Network, IsInRange, IsSound, IsOrder, IsEntered}
 use Rattle.pc_model.proofs.Walks.WalkLaws.{last_of_walk, greatest_unique}
@@ -16,19 +15,7 @@ use Rattle.pc_times.specs.declared.forecasts.ActState.TheVariants.{Waiting, Star
 use Rattle.pc_times.specs.Times.{AreLengths}
 use Rattle.pc_times.specs.Forecast.{Expected, state_at, finish_of, IsFinishAt, IsForecast, IsSmallState, AreStates}
 use Rattle.pc_times.specs.inside.Forecast.{finish_at, IsLastAt, AreFinishes, AreLast}
-
--- n is the greatest of what g gives for the first k of the items, or 0 where there are none
-pub record IsLastOf (g : ℕ → ℕ) (items : List ℕ) (k n : ℕ) : Type 0 where
-  pub above : (j : ℕ) → j < k → g (slice_index items j) ≤ n
-  pub met : ((j : ℕ) × ((j < k) × (g (slice_index items j) ≡ n))) ⊎ ((n ≡ 0) × (k ≡ 0))
-
-pub last_more : (g : ℕ → ℕ) (items : List ℕ) (k n m : ℕ) → IsLastOf g items k n → m ≡ g (slice_index items k) → IsLastOf g items (k + 1) (max n m)
-last_more g items k n m so_far is = record {
-  above = below_more (λ j. g (slice_index items j) ≤ max n m) k (λ j lower. omega (arith, so_far.above j lower)) (omega arith);
-  met = ⊎_elim (λ less. inl (k, (omega arith, omega arith)))
-      (λ no_less. ⊎_elim (λ (j, (lower, at)). inl (j, (omega arith, omega arith)))
-      (λ (zero_is, none). inl (k, (omega arith, omega arith))) so_far.met) (cases_lt n m);
-}
+use Rattle.pc_times.proofs.GreatestLaws.{IsGreatestWhere}
 
 -- an event that is not the start is entered
 entered : (net : Network) → IsSound net → (e : ℕ) → e < net.events → e ≢ net.start → IsEntered net e
@@ -38,17 +25,14 @@ entered net sound e below not_start =
     (λ (front, a, is, in_arcs, front_walked, ends). (a, in_arcs, ends))
     (last_of_walk net.arcs net.start e walk walked)
 
--- the activities that are listed at an event are all
-pub last_all : (net : Network) (g : ℕ → ℕ) (items : List ℕ) (e k n : ℕ) → IsSound net → e < net.events →
-    IsListed (λ a. to_of net.arcs a ≡ e) (length net.arcs) items → k ≡ length items → IsLastOf g items k n → IsLastAt net g e n
-last_all net g items e k n sound below listed all so_far = record {
-  above = λ a in_arcs ends. let (j, lower, at) = listed.every a in_arcs ends in omega (arith, so_far.above j (omega arith), ap g at);
-  met = λ not_start. ⊎_elim (λ (j, (lower, at)). (slice_index items j, ((listed.each j (omega arith)).0, (listed.each j (omega arith)).1, at)))
-      (λ (zero_is, none). let (a, in_arcs, ends) = entered net sound e below not_start in let (j, lower, at) = listed.every a in_arcs ends in absurd (omega arith))
-      so_far.met;
-  none = λ start. ⊎_elim (λ (j, (lower, at)). absurd
-      (sound.not_entered (slice_index items j, (listed.each j (omega arith)).0, (listed.each j (omega arith)).1 ∙ start)))
-      (λ (zero_is, none). zero_is) so_far.met;
+-- the greatest of what g gives for the activities that end at an event
+pub last_of_greatest : (net : Network) (g : ℕ → ℕ) (e n : ℕ) → IsSound net → e < net.events →
+    IsGreatestWhere (λ a. to_of net.arcs a ≡ e) (length net.arcs) g n → IsLastAt net g e n
+last_of_greatest net g e n sound below all = record {
+  above = all.above;
+  met = λ not_start. ⊎_elim (λ found. found)
+      (λ (zero_is, none). let (a, in_arcs, ends) = entered net sound e below not_start in absurd (none a in_arcs ends)) all.attained;
+  none = λ start. ⊎_elim (λ (a, in_arcs, ends, at). absurd (sound.not_entered (a, in_arcs, ends ∙ start))) (λ (zero_is, none). zero_is) all.attained;
 }
 
 -- the first k events of the order have their times

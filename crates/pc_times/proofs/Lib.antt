@@ -1,3 +1,4 @@
+mod GreatestLaws
 mod TimesLaws
 mod EstimateLaws
 mod LateLaws

@@ -1,11 +1,10 @@
 -- How the greatest sum at one event comes from those at its neighbours.
 use Rattle.std.proofs.Common.{◌≡◌, ◌≢◌, ℕ, ◌+◌, ◌*◌, ◌<◌, ◌≤◌, List, [], ◌∷◌, ◌++◌, length, slice_index, set, get_or-set_same}
-use Rattle.std.proofs.Common.{get_or-set_other, length-set, ◌∙◌, refl, sym, ap, subst, ◌⊎◌, inl, inr, ⊎_elim, max, below_more, arith}
+use Rattle.std.proofs.Common.{get_or-set_other, length-set, ◌∙◌, refl, sym, ap, subst, ◌⊎◌, ⊎_elim, below_more, arith}
 use Rattle.std.proofs.Math.Nat.{mul-le-mul_right}
-use Rattle.std.proofs.lemmas.Bool.{cases_eq, cases_lt}
-use Rattle.pc_model.specs.inside.Greatest.{IsListed}
+use Rattle.std.proofs.lemmas.Bool.{cases_eq}
 use Rattle.pc_model.specs.Walk.{from_of, to_of, IsWalk, walk_sum, IsSumOfWalk}
-use Rattle.pc_model.specs.Network.{Network, IsInRange, IsSound, IsOrder, IsEntered, IsLeft, IsEarly}
+use Rattle.pc_model.specs.Network.{Network, IsInRange, IsSound, IsOrder, IsEarly}
 use Rattle.pc_model.proofs.Walks.WalkLaws.{IsWalk-push, walk_sum-push, last_of_walk, walk_sum-bound}
 use Rattle.pc_model.proofs.Walks.OrderLaws.{walk_is_short, stands_in_order, same_place}
 use Rattle.pc_model.specs.declared.limits.TheConstants.{MAX_EVENTS}
@@ -13,40 +12,11 @@ use Rattle.pc_times.specs.declared.TheConstants.{MAX_ACTIVITY_LENGTH}
 use Rattle.pc_times.specs.Times.{IsTail, AreLengths, AreEarly}
 use Rattle.pc_times.specs.inside.Times.{AreTails}
 use Rattle.pc_times.specs.inside.Passes.{HasBoundedWalks, AreEarlyBefore, AreTailsAfter}
+use Rattle.pc_times.proofs.GreatestLaws.{IsGreatestWhere}
 
--- n bounds what the activities that enter event e bring, and one of them brings it, or none enters and n is 0
-pub record IsArrival (net : Network) (lengths times : List ℕ) (e n : ℕ) : Type 0 where
-  pub above : (a : ℕ) → a < length net.arcs → to_of net.arcs a ≡ e → slice_index times (from_of net.arcs a) + slice_index lengths a ≤ n
-  pub attained : ((a : ℕ) × (a < length net.arcs) × (to_of net.arcs a ≡ e) × (slice_index times (from_of net.arcs a) + slice_index lengths a ≡ n)) ⊎ ((n ≡ 0) × (IsEntered net e → ⊥))
-
--- the same of the first k of the activities that are listed as entering an event
-pub record IsArrivalOf (net : Network) (lengths times items : List ℕ) (k n : ℕ) : Type 0 where
-  pub above : (j : ℕ) → j < k → slice_index times (from_of net.arcs (slice_index items j)) + slice_index lengths (slice_index items j) ≤ n
-  pub attained : ((j : ℕ) × (j < k) × (slice_index times (from_of net.arcs (slice_index items j)) + slice_index lengths (slice_index items j) ≡ n)) ⊎ ((n ≡ 0) × (k ≡ 0))
-
--- one of them more, which brings m: the greater of n and m
-pub arrival_more : (net : Network) (lengths times items : List ℕ) (k n m : ℕ) → IsArrivalOf net lengths times items k n →
-    m ≡ slice_index times (from_of net.arcs (slice_index items k)) + slice_index lengths (slice_index items k) →
-    IsArrivalOf net lengths times items (k + 1) (max n m)
-arrival_more net lengths times items k n m so_far is = record {
-  above = below_more (λ j. slice_index times (from_of net.arcs (slice_index items j)) + slice_index lengths (slice_index items j)
-      ≤ max n m) k (λ j lower. omega (arith, so_far.above j lower)) (omega arith);
-  attained = ⊎_elim (λ less. inl (k, omega arith, omega arith))
-      (λ no_less. ⊎_elim (λ (j, lower, at). inl (j, omega arith, omega arith))
-      (λ (zero_is, none). inl (k, omega arith, omega arith)) so_far.attained) (cases_lt n m);
-}
-
--- all of them
-pub arrival_all : (net : Network) (lengths times items : List ℕ) (e k n : ℕ) →
-    IsListed (λ a. to_of net.arcs a ≡ e) (length net.arcs) items → k ≡ length items → IsArrivalOf net lengths times items k n →
-    IsArrival net lengths times e n
-arrival_all net lengths times items e k n listed all so_far = record {
-  above = λ a in_arcs ends. let (j, lower, at) = listed.every a in_arcs ends in
-      omega (arith, so_far.above j (omega arith), ap (λ (x : ℕ). slice_index times (from_of net.arcs x) + slice_index lengths x) at);
-  attained = ⊎_elim (λ (j, lower, at). inl (slice_index items j, (listed.each j (omega arith)).0, (listed.each j (omega arith)).1, at))
-      (λ (zero_is, none). inr (zero_is, λ (a, in_arcs, ends). let (j, lower, at) = listed.every a in_arcs ends in omega arith))
-      so_far.attained;
-}
+-- n is the latest time at which an activity that enters event e brings it, or 0 where none enters
+abbrev pub IsArrival : Network → List ℕ → List ℕ → ℕ → ℕ → Type 0
+IsArrival net lengths times e = IsGreatestWhere (λ a. to_of net.arcs a ≡ e) (length net.arcs) (λ a. slice_index times (from_of net.arcs a) + slice_index lengths a)
 
 -- the latest arrival at an event is its time, where the times of the events before it are right
 pub early_from_arrival : (net : Network) → IsSound net → (lengths times : List ℕ) (e n : ℕ) → e < net.events →
@@ -67,11 +37,11 @@ early_from_arrival net sound lengths times e n below before arrival = record {
           omega (arith, walk_sum-push lengths walk a),
         )
 
-    at_start : (n ≡ 0) × (IsEntered net e → ⊥) → IsSumOfWalk net.arcs lengths net.start e n
+    at_start : (n ≡ 0) × ((a : ℕ) → a < length net.arcs → to_of net.arcs a ≡ e → ⊥) → IsSumOfWalk net.arcs lengths net.start e n
     at_start (zero_is, alone) =
         let (walk, walked) = sound.reached e below in
         ⊎_elim (λ (empty, same). ([], same, sym zero_is))
-        (λ (front, a, is, in_arcs, front_walked, ends). absurd (alone (a, in_arcs, ends)))
+        (λ (front, a, is, in_arcs, front_walked, ends). absurd (alone a in_arcs ends))
         (last_of_walk net.arcs net.start e walk walked)
 
     bound : (m : ℕ) (walk : List ℕ) → IsWalk net.arcs net.start walk e → walk_sum lengths walk ≡ m → m ≤ n
@@ -86,39 +56,9 @@ early_from_arrival net sound lengths times e n below before arrival = record {
         ))
         (last_of_walk net.arcs net.start e walk walked)
 
--- n bounds what the activities that leave event e lead to, and one of them leads to it, or none leaves and n is 0
-pub record IsDeparture (net : Network) (lengths tails : List ℕ) (e n : ℕ) : Type 0 where
-  pub above : (a : ℕ) → a < length net.arcs → from_of net.arcs a ≡ e → slice_index lengths a + slice_index tails (to_of net.arcs a) ≤ n
-  pub attained : ((a : ℕ) × (a < length net.arcs) × (from_of net.arcs a ≡ e) × (slice_index lengths a + slice_index tails (to_of net.arcs a) ≡ n)) ⊎ ((n ≡ 0) × (IsLeft net e → ⊥))
-
--- the same of the first k of the activities that are listed as leaving an event
-pub record IsDepartureOf (net : Network) (lengths tails items : List ℕ) (k n : ℕ) : Type 0 where
-  pub above : (j : ℕ) → j < k → slice_index lengths (slice_index items j) + slice_index tails (to_of net.arcs (slice_index items j)) ≤ n
-  pub attained : ((j : ℕ) × (j < k) × (slice_index lengths (slice_index items j) + slice_index tails (to_of net.arcs (slice_index items j)) ≡ n)) ⊎ ((n ≡ 0) × (k ≡ 0))
-
--- one of them more, which leads to m: the greater of n and m
-pub departure_more : (net : Network) (lengths tails items : List ℕ) (k n m : ℕ) → IsDepartureOf net lengths tails items k n →
-    m ≡ slice_index lengths (slice_index items k) + slice_index tails (to_of net.arcs (slice_index items k)) →
-    IsDepartureOf net lengths tails items (k + 1) (max n m)
-departure_more net lengths tails items k n m so_far is = record {
-  above = below_more (λ j. slice_index lengths (slice_index items j) + slice_index tails (to_of net.arcs (slice_index items j)) ≤ max n m) k
-      (λ j lower. omega (arith, so_far.above j lower)) (omega arith);
-  attained = ⊎_elim (λ less. inl (k, omega arith, omega arith))
-      (λ no_less. ⊎_elim (λ (j, lower, at). inl (j, omega arith, omega arith))
-      (λ (zero_is, none). inl (k, omega arith, omega arith)) so_far.attained) (cases_lt n m);
-}
-
--- all of them
-pub departure_all : (net : Network) (lengths tails items : List ℕ) (e k n : ℕ) →
-    IsListed (λ a. from_of net.arcs a ≡ e) (length net.arcs) items → k ≡ length items → IsDepartureOf net lengths tails items k n →
-    IsDeparture net lengths tails e n
-departure_all net lengths tails items e k n listed all so_far = record {
-  above = λ a in_arcs begins. let (j, lower, at) = listed.every a in_arcs begins in
-      omega (arith, so_far.above j (omega arith), ap (λ (x : ℕ). slice_index lengths x + slice_index tails (to_of net.arcs x)) at);
-  attained = ⊎_elim (λ (j, lower, at). inl (slice_index items j, (listed.each j (omega arith)).0, (listed.each j (omega arith)).1, at))
-      (λ (zero_is, none). inr (zero_is, λ (a, in_arcs, begins). let (j, lower, at) = listed.every a in_arcs begins in omega arith))
-      so_far.attained;
-}
+-- n is the greatest length to which an activity that leaves event e leads, or 0 where none leaves
+abbrev pub IsDeparture : Network → List ℕ → List ℕ → ℕ → ℕ → Type 0
+IsDeparture net lengths tails e = IsGreatestWhere (λ a. from_of net.arcs a ≡ e) (length net.arcs) (λ a. slice_index lengths a + slice_index tails (to_of net.arcs a))
 
 -- the longest departure from an event is its tail, where the tails of the events after it are right
 pub tail_from_departure : (net : Network) → IsSound net → (lengths tails : List ℕ) (e n : ℕ) → e < net.events →
@@ -135,12 +75,12 @@ tail_from_departure net sound lengths tails e n below after departure = record {
         let (walk, walked, sums) = (after a in_arcs begins).attained in
         (a ∷ walk, (in_arcs, begins, walked), omega arith)
 
-    at_end : (n ≡ 0) × (IsLeft net e → ⊥) → IsSumOfWalk net.arcs lengths e net.end n
+    at_end : (n ≡ 0) × ((a : ℕ) → a < length net.arcs → from_of net.arcs a ≡ e → ⊥) → IsSumOfWalk net.arcs lengths e net.end n
     at_end (zero_is, alone) = let (walk, walked) = sound.reaches e below in empty walk walked
       where
         empty : (walk : List ℕ) → IsWalk net.arcs e walk net.end → IsSumOfWalk net.arcs lengths e net.end n
         empty [] walked = ([], walked, sym zero_is)
-        empty (a ∷ walk) walked = absurd (alone (a, walked.0, walked.1))
+        empty (a ∷ walk) walked = absurd (alone a walked.0 walked.1)
 
     bound : (m : ℕ) (walk : List ℕ) → IsWalk net.arcs e walk net.end → walk_sum lengths walk ≡ m → m ≤ n
     bound m [] walked sums = omega arith

@@ -1,5 +1,7 @@
-use Rattle.pc_times.proofs.TimesLaws.{IsDepartureOf}
+use Rattle.std.proofs.Common.{◌+◌, slice_index}
+use Rattle.pc_model.specs.Walk.{to_of}
+use Rattle.pc_times.proofs.GreatestLaws.{IsGreatestOf}
 use Rattle.pc_times.proofs.events.longest_departure.Given as goal
 
 abbrev pub invariant-loop-a : goal.invariant-loop-a
-invariant-loop-a l = IsDepartureOf l.net l.lengths l.tails l.a-items l.a-index l.longest
+invariant-loop-a l = IsGreatestOf (λ a. slice_index l.lengths a + slice_index l.tails (to_of l.net.arcs a)) l.a-items l.a-index l.longest
