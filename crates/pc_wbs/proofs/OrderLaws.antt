@@ -12,7 +12,7 @@ use Rattle.pc_wbs.specs.inside.Precedes.{IsUnder, Parts, Precedes, IsSuccessor}
 use Rattle.pc_wbs.proofs.Pigeon.{Repeats, repeats, length-apart}
 use Rattle.pc_wbs.proofs.ClimbLaws.{climb-add, step-some, climb-range, IsBelow-self, IsBelow-parent}
 use Rattle.pc_wbs.proofs.LoopLaws.{HasLevel-no_loop}
-use Rattle.pc_wbs.proofs.PrecedesLaws.{HasNoLoop, IsBelow-trans, IsBelow-under, cases_below, IsUnder-self, sibling_under, Precedes-self, Precedes-trans}
+use Rattle.pc_wbs.proofs.PrecedesLaws.{HasNoLoop, IsBelow-trans, IsBelow-under, cases_below, IsUnder-self, sibling_under, Precedes-self, Precedes-trans, Parts-below, Parts-siblings}
 
 -- what has a parent is a row
 pub parent-inside : (rows : List ItemRow) (x p : ℕ) → parent_of rows x ≡ Some p → x < length rows
@@ -50,31 +50,13 @@ IsSuccessor-child rows x c (from, inside, e, first) = (inside, inl (x, (e, IsBel
     of_child u (d, (f, h)) =
         ⊎_elim (λ same. below-precedes rows u c (rw same h))
         (λ apart. ⊎_elim (λ lt. inr (inr
-        (record {
-          earlier = c;
-          later = d;
-          parent = x;
-          below_earlier = IsBelow-self rows c;
-          below_later = h;
-          parent_earlier = e;
-          parent_later = f;
-          order = lt;
-        }))) (λ gt. absurd (first d (omega arith) gt f)) apart)
+        (Parts-below (Parts-siblings rows c d x e f lt) (IsBelow-self rows c) h))) (λ gt. absurd (first d (omega arith) gt f)) apart)
         (cases_order c d)
 
     later : (u : ℕ) → u < length rows → Precedes rows x u → (u ≡ c) ⊎ Precedes rows c u
     later u lt (inl under) = of_child u (child_of rows u x under)
     later u lt (inr t) =
-        inr (inr (record {
-          earlier = t.earlier;
-          later = t.later;
-          parent = t.parent;
-          below_earlier = IsBelow-parent rows c x t.earlier e t.below_earlier;
-          below_later = t.below_later;
-          parent_earlier = t.parent_earlier;
-          parent_later = t.parent_later;
-          order = t.order;
-        }))
+        inr (inr (Parts-below t (IsBelow-parent rows c x t.earlier e t.below_earlier) t.below_later))
 
 -- a row with a later sibling has a next one
 linked : (rows : List ItemRow) (nexts : List (Option ℕ)) (b a p : ℕ) → AreNextSiblings rows 0 nexts → parent_of rows b ≡ Some p → parent_of rows a ≡ Some p → b < a → link_at nexts b ≡ None → ⊥
@@ -108,27 +90,9 @@ IsSuccessor-beside rows nexts x (Some s) r inside links childless (k, (y, (h, e,
         let ea : parent_of rows a ≡ Some p = t.parent_later ∙ ap Some parents in
         ⊎_elim (λ at. below-precedes rows u s (rw at t.below_later))
         (λ apart. ⊎_elim (λ lt. inr (inr
-        (record {
-          earlier = s;
-          later = a;
-          parent = p;
-          below_earlier = IsBelow-self rows s;
-          below_later = t.below_later;
-          parent_earlier = es;
-          parent_later = ea;
-          order = lt;
-        }))) (λ gt. absurd (first a (omega (arith, t.order)) gt ea)) apart)
+        (Parts-below (Parts-siblings rows s a p es ea lt) (IsBelow-self rows s) t.below_later))) (λ gt. absurd (first a (omega (arith, t.order)) gt ea)) apart)
         (cases_order s a))
-        (λ under. inr (inr (record {
-          earlier = b;
-          later = a;
-          parent = t.parent;
-          below_earlier = IsBelow-under rows s b (sibling_under rows y s p b ep es under);
-          below_later = t.below_later;
-          parent_earlier = t.parent_earlier;
-          parent_later = t.parent_later;
-          order = t.order;
-        })))
+        (λ under. inr (inr (Parts-below t (IsBelow-under rows s b (sibling_under rows y s p b ep es under)) t.below_later)))
         (cases_below rows y b up))
         (cases_lt t.below_earlier.0 k)
 
@@ -319,16 +283,7 @@ IsPreorder-front rows xs r t h = record {
     between j k m lt less within below (inl under) = IsBelow-under rows (slice_index xs k) (slice_index xs j) under
     between j k m lt less within below (inr t) =
         absurd (never k m less within (inr
-        (record {
-          earlier = t.earlier;
-          later = t.later;
-          parent = t.parent;
-          below_earlier = IsBelow-trans rows (slice_index xs m) (slice_index xs j) t.earlier below t.below_earlier;
-          below_later = t.below_later;
-          parent_earlier = t.parent_earlier;
-          parent_later = t.parent_later;
-          order = t.order;
-        })))
+        (Parts-below t (IsBelow-trans rows (slice_index xs m) (slice_index xs j) t.earlier below t.below_earlier) t.below_later)))
 
     ordered : (j k p : ℕ) → j < k → k < length xs → parent_of rows (slice_index xs j) ≡ Some p →
         parent_of rows (slice_index xs k) ≡ Some p →

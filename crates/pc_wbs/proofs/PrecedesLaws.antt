@@ -4,7 +4,7 @@ use Rattle.std.proofs.Common.{◌≡◌, ℕ, zero, suc, ◌+◌, ◌-◌, ◌�
 use Rattle.std.proofs.lemmas.Bool.{cases_lt}
 use Rattle.pc_wbs.specs.declared.tree.ItemRow.{ItemRow}
 use Rattle.pc_wbs.specs.Climb.{parent_of, climb, IsBelow, IsOnLoop}
-use Rattle.pc_wbs.specs.inside.Precedes.{IsUnder, Precedes}
+use Rattle.pc_wbs.specs.inside.Precedes.{IsUnder, Parts, Precedes}
 use Rattle.pc_wbs.proofs.ClimbLaws.{climb-add, climb-step, step-some, IsBelow-self, IsBelow-parent, IsBelow-cases}
 
 -- no row is on a loop
@@ -62,22 +62,39 @@ sibling_under rows a b p y ea eb (q, (eq, h)) =
     let same : q ≡ p = cc in
     (p, (eb, rw (← same) h))
 
+-- the siblings that part two rows part any two below them
+pub Parts-below : {rows : List ItemRow} {u v x y : ℕ} (t : Parts rows u v) → IsBelow rows x t.earlier → IsBelow rows y t.later → Parts rows x y
+Parts-below t below_earlier below_later = record {
+  earlier = t.earlier;
+  later = t.later;
+  parent = t.parent;
+  below_earlier = below_earlier;
+  below_later = below_later;
+  parent_earlier = t.parent_earlier;
+  parent_later = t.parent_later;
+  order = t.order;
+}
+
+-- two siblings part themselves
+pub Parts-siblings : (rows : List ItemRow) (a b p : ℕ) → parent_of rows a ≡ Some p → parent_of rows b ≡ Some p → a < b → Parts rows a b
+Parts-siblings rows a b p ea eb before = record {
+  earlier = a;
+  later = b;
+  parent = p;
+  below_earlier = IsBelow-self rows a;
+  below_later = IsBelow-self rows b;
+  parent_earlier = ea;
+  parent_later = eb;
+  order = before;
+}
+
 pub Precedes-trans : (rows : List ItemRow) (u v w : ℕ) → Precedes rows u v → Precedes rows v w → Precedes rows u w
 Precedes-trans rows u v w (inl vu) (inl wv) =
     inl (IsUnder-below rows w v u wv (IsBelow-under rows v u vu))
 Precedes-trans rows u v w (inl vu) (inr t) = above (cases_above rows v t.earlier u t.below_earlier (IsBelow-under rows v u vu))
   where
     parted : IsBelow rows u t.earlier → Precedes rows u w
-    parted h = inr (record {
-      earlier = t.earlier;
-      later = t.later;
-      parent = t.parent;
-      below_earlier = h;
-      below_later = t.below_later;
-      parent_earlier = t.parent_earlier;
-      parent_later = t.parent_later;
-      order = t.order;
-    })
+    parted h = inr (Parts-below t h t.below_later)
 
     above : IsBelow rows t.earlier u ⊎ IsBelow rows u t.earlier → Precedes rows u w
     above (inr h) = parted h
@@ -85,56 +102,20 @@ Precedes-trans rows u v w (inl vu) (inr t) = above (cases_above rows v t.earlier
         ⊎_elim (λ same. parted (rw same (IsBelow-self rows u)))
         (λ under. inl (IsUnder-from rows w t.later u t.below_later (sibling_under rows t.earlier t.later t.parent u t.parent_earlier t.parent_later under)))
         (cases_below rows _ _ h)
-Precedes-trans rows u v w (inr t) (inl wv) =
-    inr (record {
-      earlier = t.earlier;
-      later = t.later;
-      parent = t.parent;
-      below_earlier = t.below_earlier;
-      below_later = IsBelow-trans rows w v t.later (IsBelow-under rows w v wv) t.below_later;
-      parent_earlier = t.parent_earlier;
-      parent_later = t.parent_later;
-      order = t.order;
-    })
+Precedes-trans rows u v w (inr t) (inl wv) = inr (Parts-below t t.below_earlier (IsBelow-trans rows w v t.later (IsBelow-under rows w v wv) t.below_later))
 Precedes-trans rows u v w (inr s) (inr t) = above (cases_above rows v s.later t.earlier s.below_later t.below_earlier)
   where
     by_second : IsBelow rows u t.earlier → Precedes rows u w
-    by_second h = inr (record {
-      earlier = t.earlier;
-      later = t.later;
-      parent = t.parent;
-      below_earlier = h;
-      below_later = t.below_later;
-      parent_earlier = t.parent_earlier;
-      parent_later = t.parent_later;
-      order = t.order;
-    })
+    by_second h = inr (Parts-below t h t.below_later)
 
     by_first : IsBelow rows w s.later → Precedes rows u w
-    by_first h = inr (record {
-      earlier = s.earlier;
-      later = s.later;
-      parent = s.parent;
-      below_earlier = s.below_earlier;
-      below_later = h;
-      parent_earlier = s.parent_earlier;
-      parent_later = s.parent_later;
-      order = s.order;
-    })
+    by_first h = inr (Parts-below s s.below_earlier h)
 
     level_with : s.later ≡ t.earlier → Precedes rows u w
     level_with same =
         let parents : s.parent ≡ t.parent = let a = s.parent_later in let b = t.parent_earlier in let c = ap (λ n. parent_of rows n) same in cc in
-        inr (record {
-          earlier = s.earlier;
-          later = t.later;
-          parent = s.parent;
-          below_earlier = s.below_earlier;
-          below_later = t.below_later;
-          parent_earlier = s.parent_earlier;
-          parent_later = t.parent_later ∙ ap Some (sym parents);
-          order = omega (arith, s.order, t.order);
-        })
+        let siblings = Parts-siblings rows s.earlier t.later s.parent s.parent_earlier (t.parent_later ∙ ap Some (sym parents)) (omega (arith, s.order, t.order)) in
+        inr (Parts-below siblings s.below_earlier t.below_later)
 
     above : IsBelow rows s.later t.earlier ⊎ IsBelow rows t.earlier s.later → Precedes rows u w
     above (inl h) =
