@@ -1,6 +1,6 @@
 -- How amounts are summed on the items that they are placed on.
 use Rattle.std.proofs.Common.{◌≡◌, ◌≢◌, ℕ, ◌+◌, ◌<◌, ◌≤◌, ◌^◌, ⊎_elim, List, length, get_or, set, take, sym, ap, ◌∙◌}
-use Rattle.std.proofs.Common.{subst, get_or-set_same, get_or-set_other, length-set, FitsSigned, to_z, of_z, w64, arith}
+use Rattle.std.proofs.Common.{subst, get_or-set_same, get_or-set_other, length-set, to_z, of_z, w64, arith}
 use Rattle.std.specs.Prelude.{ℤ, pos, ◌+ℤ◌, unsigned_abs, sum_by}
 use Rattle.std.proofs.lemmas.Bool.{cases_eq}
 use Rattle.std.proofs.lemmas.List.{get_or_default}
@@ -12,7 +12,7 @@ use Rattle.pc_rollup.specs.Sums.{IsSumOver}
 use Rattle.pc_rollup.specs.Totals.{amount_at}
 use Rattle.pc_rollup.specs.inside.Totals.{place_of, amount_of, AreAmountsOf, AreOnLeaves, AreAtLeaves, AreRolledUp, AreTotalsOf}
 use Rattle.pc_rollup.proofs.SumLaws.{unsigned_abs-add, IsSumOver-has, IsSumOver-lacks, IsSumOver-same, IsSumOver-nested, IsSumOver-none, IsSumOver-only}
-use Rattle.pc_rollup.proofs.RollLaws.{added, added_fits}
+use Rattle.pc_rollup.proofs.RollLaws.{added}
 
 -- the sum of all magnitudes
 abbrev pub magnitude_of : List Placed → ℕ
@@ -69,15 +69,6 @@ sums_fit items placed i x amounts a b so_far small within known read is =
     let second = ap unsigned_abs is in
     let both = unsigned_abs-add a b in
     (omega (arith, so_far.small), omega (arith, so_far.small), omega (arith, so_far.small))
-
--- one turn, with the sum and the amount as they are read
-pub placed_fits : (items : ℕ) (placed : List Placed) (i x : ℕ) (amounts : List ℤ) (a b : ℤ) → AreSummed items placed i amounts →
-    magnitude_of placed < 2 ^ 63 → i < length placed → x < items → a ≡ get_or amounts x a → b ≡ amount_of placed i →
-    FitsSigned w64 (to_z w64 (of_z w64 a) +ℤ to_z w64 (of_z w64 b))
-placed_fits items placed i x amounts a b so_far small within known read is =
-    let known_at : x < length amounts = omega (arith, so_far.sums.one_each) in
-    let (less, least, sum) = sums_fit items placed i x amounts a b so_far small within known (read ∙ get_or_default amounts x a (pos 0) known_at) is in
-    added_fits a b less least sum
 
 pub placed_taken : (items : ℕ) (placed : List Placed) (i x : ℕ) (amounts : List ℤ) (a b : ℤ) → AreSummed items placed i amounts →
     magnitude_of placed < 2 ^ 63 → i < length placed → x ≡ place_of placed i → x < items → a ≡ get_or amounts x a → b ≡ amount_of placed i →

@@ -1,6 +1,6 @@
 -- How totals are gathered from the end of the preorder on.
 use Rattle.std.proofs.Common.{◌≡◌, ◌≢◌, ℕ, zero, suc, ◌+◌, ◌<◌, ◌≤◌, ◌⊎◌, inl, inr, ⊎_elim, List, length, get_or, set, take, Option, Some, None}
-use Rattle.std.proofs.Common.{refl, sym, ap, ◌∙◌, subst, get_or-set_same, get_or-set_other, length-set, ◌^◌, FitsSigned, to_z, of_z, w64, arith}
+use Rattle.std.proofs.Common.{refl, sym, ap, ◌∙◌, subst, get_or-set_same, get_or-set_other, length-set, ◌^◌, to_z, of_z, w64, arith}
 use Rattle.std.specs.Prelude.{ℤ, pos, ◌+ℤ◌, unsigned_abs, slice_index, sum_by}
 use Rattle.std.proofs.lemmas.Bool.{cases_eq, cases_order}
 use Rattle.std.proofs.lemmas.Int.{to_z-of_z, fits_signed_from_abs}
@@ -242,12 +242,6 @@ added a b small less sum =
     let fits_b = fits_signed_from_abs w64 b less in
     let fits = fits_signed_from_abs w64 (a +ℤ b) sum in
     ap (λ (z : ℤ). to_z w64 (of_z w64 (z +ℤ to_z w64 (of_z w64 b)))) (to_z-of_z w64 a fits_a) ∙ (ap (λ (z : ℤ). to_z w64 (of_z w64 (a +ℤ z))) (to_z-of_z w64 b fits_b) ∙ to_z-of_z w64 (a +ℤ b) fits)
-
-pub added_fits : (a b : ℤ) → unsigned_abs a < 2 ^ 63 → unsigned_abs b < 2 ^ 63 → unsigned_abs (a +ℤ b) < 2 ^ 63 → FitsSigned w64 (to_z w64 (of_z w64 a) +ℤ to_z w64 (of_z w64 b))
-added_fits a b small less sum =
-    let fits_a = fits_signed_from_abs w64 a small in
-    let fits_b = fits_signed_from_abs w64 b less in
-    rw (to_z-of_z w64 a fits_a, to_z-of_z w64 b fits_b) (fits_signed_from_abs w64 (a +ℤ b) sum)
 
 -- what stays true of totals on their way up: the loop goes back over the preorder of a tree, the amounts are small, and the last j of the order
 -- passed their totals on

@@ -1,8 +1,7 @@
 -- The least slacks by item, from the slack of each activity.
-use Rattle.std.proofs.Common.{◌≡◌, ℕ, ◌+◌, ◌<◌, List, [], ◌∷◌, ◌++◌, length, slice_index, Option, Some, None, sym, ap, ◌∙◌, subst, arith}
-use Rattle.std.specs.Prelude.{ℤ, pos}
+use Rattle.std.proofs.Common.{◌≡◌, ℕ, ◌<◌, List, length, slice_index, Option, Some, None, sym, ap, ◌∙◌, subst, arith}
+use Rattle.std.specs.Prelude.{ℤ}
 use Rattle.std.proofs.lemmas.Int.{ints}
-use Rattle.std.proofs.lemmas.List.{length_push}
 use Rattle.pc_wbs.specs.declared.tree.ItemRow.{ItemRow}
 use Rattle.pc_wbs.specs.Climb.{IsBelow}
 use Rattle.pc_rollup.specs.declared.totals.Placed.{Placed}
@@ -11,17 +10,6 @@ use Rattle.pc_rollup.specs.inside.Least.{AreLeastOf}
 use Rattle.pc_rollup.specs.inside.Totals.{place_of, amount_of}
 use Rattle.pc_rollup.specs.figures.Slacks.{AreLeastSlacks}
 use Rattle.pc_rollup.specs.inside.figures.Slacks.{ArePlacedSlacks}
-use Rattle.pc_rollup.proofs.lemmas.figures.PushLaws.{each_more}
-
--- one slack more
-pub slacks_more : (places : List ℕ) (slack : ℕ → ℤ) (n : ℕ) (placed more : List Placed) (next : Placed) →
-    ArePlacedSlacks places slack n placed → more ≡ placed ++ next ∷ [] → next ≡ record { item = slice_index places n; amount = slack n } →
-    ArePlacedSlacks places slack (n + 1) more
-slacks_more places slack n placed more next so_far pushed is =
-    subst (ArePlacedSlacks places slack (n + 1)) (sym pushed) (record {
-      one_each = omega (arith, length_push placed next, so_far.one_each);
-      each = each_more (λ a p. p ≡ record { item = slice_index places a; amount = slack a }) placed next (record { item = 0; amount = pos 0 }) n so_far.one_each so_far.each is;
-    })
 
 -- the least over what is placed is the least over the activities
 pub least_slacks_are : (tree : List ItemRow) (places : List ℕ) (slack : ℕ → ℤ) (placed : List Placed) (slacks : List (Option ℤ)) →

@@ -31,14 +31,6 @@ use Rattle.pc_rollup.proofs.lemmas.figures.SumLaws.{item_sums_alike}
 never : IsTrue false → ⊥
 never is = cc
 
--- nothing is known of the first none
-pub progress_none : (items : ℕ) (places : List ℕ) (states : List ActState) (progress : List (Option Bool)) → length progress ≡ items →
-    ((x : ℕ) → x < items → progress_at progress x ≡ None) → AreProgress items places states 0 progress
-progress_none items places states progress count none = record {
-  one_each = count;
-  each = λ x lt. subst (IsProgress places states 0 x) (sym (none x lt)) (λ a below on. absurd (omega arith));
-}
-
 -- one activity more on the item
 progress_here : (places : List ℕ) (states : List ActState) (n x : ℕ) (o : Option Bool) (done : Bool) →
     (IsTrue done ↔ IsFinished (state_at states n)) → slice_index places n ≡ x → IsProgress places states n x o →
