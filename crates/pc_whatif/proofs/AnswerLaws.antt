@@ -12,21 +12,20 @@ use Rattle.pc_model.specs.Schedule.{term_at}
 use Rattle.pc_project.specs.Project.{Project}
 use Rattle.pc_whatif.specs.declared.edits.ask.Ask.{Ask}
 use Rattle.pc_whatif.specs.declared.edits.ask.Ask.TheVariants as ask
-use Rattle.pc_whatif.specs.declared.edits.ask.Edit.{Edit}
 use Rattle.pc_whatif.specs.declared.edits.ask.Trial.{Trial}
 use Rattle.pc_whatif.specs.declared.edits.reason.Reason.{Reason}
 use Rattle.pc_whatif.specs.declared.edits.reason.Reason.TheVariants.{NothingToUndo, OutsideRange}
 use Rattle.pc_whatif.specs.declared.edits.ActTerm.{ActTerm}
-use Rattle.pc_whatif.specs.edits.Editing.{Editing, activity_named, edited, undone, editing_with, net_trying}
+use Rattle.pc_whatif.specs.edits.Editing.{Editing, activity_named, undone, editing_with, net_trying}
 use Rattle.pc_whatif.specs.edits.Plans.{Plan, term_tried}
-use Rattle.pc_whatif.specs.edits.Refusal.{edit_refusal, undo_refusal, trial_refusal}
+use Rattle.pc_whatif.specs.edits.Refusal.{undo_refusal, trial_refusal}
 use Rattle.pc_edges.specs.inside.lines.Talk.{Answered}
 use Rattle.pc_edges.specs.inside.lines.Reading.{kept}
 use Rattle.pc_curve.specs.Range.{IsLengthInRange}
 use Rattle.pc_whatif.specs.inside.trials.SessionRegion.{SessionRegion}
 use Rattle.pc_whatif.specs.Planning.{IsLineAnswer, IsTrialText, outside, costs, AreAnswers, editing_after, net_tried}
 use Rattle.pc_whatif.specs.inside.Planning.{Planning, IsAnswered, IsRenewed, Says}
-use Rattle.pc_whatif.specs.Texts.{ok_text, refused_text, cost_text, outcome_text}
+use Rattle.pc_whatif.specs.Texts.{refused_text, cost_text}
 use Rattle.pc_whatif.proofs.LineLaws.{ask_of-kept}
 
 -- ---- one line
@@ -60,23 +59,6 @@ tried_out old project editing editing_left region region_left trial text edits k
     (subst (λ (e : Editing). IsRenewed project e region_left) (sym edits) (subst (IsRenewed project editing) (sym kept) standing))
     (subst (λ (e : Editing). IsTrialText e trial text) (sym edits) answers) refl
 
-pub edit_refused : (old : Planning) (edit : Edit) (reason : Reason) → IsRenewed old.project old.editing old.region → edit_refusal old.editing.net old.editing.estimates edit ≡ Some reason
-    → IsAnswered old (Some (ask.Edit edit)) (refused_text reason) old
-edit_refused old edit reason standing why =
-    stays old (Some (ask.Edit edit)) (refused_text reason) standing (sym (ap outcome_text why))
-    (sym (ap (λ (r : Option Reason). option_map_or (λ (reason : Reason). old.editing) r (edited old.editing edit)) why))
-
-pub edit_accepted : (old new : Planning) (edit : Edit) → edit_refusal old.editing.net old.editing.estimates edit ≡ None → new.project ≡ old.project
-    → new.editing ≡ edited old.editing edit → IsRenewed new.project new.editing new.region → new.region.free ≡ old.region.free → IsAnswered old (Some (ask.Edit edit)) ok_text new
-edit_accepted old new edit none project editing standing cells = record {
-  answer = sym (ap outcome_text none);
-  project = project;
-  editing = editing ∙ sym (ap (λ (r : Option Reason). option_map_or (λ (reason : Reason). old.editing) r (edited old.editing edit)) none);
-  standing = standing;
-  lists = λ other. absurd (other refl);
-  cells = cells;
-}
-
 none_kept : (test : Bool) (reason : Reason) → (if test then Some NothingToUndo else None) ≡ Some reason → test ≡ true
 none_kept true reason e = refl
 none_kept false reason e = absurd cc
@@ -88,21 +70,6 @@ nothing_undone editing none = ap (λ (kept : List Plan). option_map_or (λ (plan
 pub undone_same : (editing : Editing) (reason : Reason) → undo_refusal editing ≡ Some reason → undone editing ≡ editing
 undone_same editing reason why =
     nothing_undone editing (nil_from_length editing.kept (eqb-true (length editing.kept) 0 (none_kept (length editing.kept == 0) reason why)))
-
-pub undo_refused : (old : Planning) (reason : Reason) → IsRenewed old.project old.editing old.region → undo_refusal old.editing ≡ Some reason
-    → IsAnswered old (Some ask.Undo) (refused_text reason) old
-undo_refused old reason standing why = stays old (Some ask.Undo) (refused_text reason) standing (sym (ap outcome_text why)) (sym (undone_same old.editing reason why))
-
-pub undo_accepted : (old new : Planning) → undo_refusal old.editing ≡ None → new.project ≡ old.project → new.editing ≡ undone old.editing
-    → IsRenewed new.project new.editing new.region → new.region.free ≡ old.region.free → IsAnswered old (Some ask.Undo) ok_text new
-undo_accepted old new none project editing standing cells = record {
-  answer = sym (ap outcome_text none);
-  project = project;
-  editing = editing;
-  standing = standing;
-  lists = λ other. absurd (other refl);
-  cells = cells;
-}
 
 -- ---- a trial
 

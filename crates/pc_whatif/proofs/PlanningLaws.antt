@@ -1,8 +1,7 @@
 -- The numbers of a project as it is edited, and the times that stand.
-use Rattle.std.proofs.Common.{◌≡◌, ℕ, ◌<◌, ◌≤◌, List, [], ◌∷◌, length, map, refl, sym, ap, ◌∙◌, subst, arith}
+use Rattle.std.proofs.Common.{◌≡◌, ℕ, ◌<◌, List, [], ◌∷◌, length, map, refl, sym, ap, ◌∙◌, subst}
 use Rattle.std.specs.Prelude.{slice_set}
 use Rattle.std.proofs.lemmas.List.{map-set}
-use Rattle.pc_crash.specs.Priced.{PricedNetwork}
 use Rattle.pc_deck.specs.Deck.{Deck}
 use Rattle.pc_deck.specs.declared.kinds.act.ActCard.{ActCard}
 use Rattle.pc_project.specs.Planned.{IsPlanned}
@@ -11,7 +10,6 @@ use Rattle.pc_whatif.specs.edits.Editing.{Editing, begun}
 use Rattle.pc_whatif.specs.inside.edits.Editing.{ChangesOnly}
 use Rattle.pc_whatif.specs.edits.Plans.{estimates_at, estimates_in, expected_times, variances}
 use Rattle.pc_whatif.specs.inside.trials.SessionRegion.{SessionRegion, IsFor, IsStandingOf, IsChangedTo, expected_by, variance_by}
-use Rattle.pc_whatif.specs.inside.trials.Trials.{HasRoom, trial_cells}
 use Rattle.pc_whatif.specs.Planning.{project_as}
 use Rattle.pc_whatif.specs.inside.Planning.{IsChangedAt, IsEditionOf, IsRenewed}
 
@@ -48,11 +46,6 @@ module _ (project : Project) (planned : IsPlanned project) (region : SessionRegi
 -- ---- after a change
 
 module _ (project : Project) (old new : Editing) (a : ℕ) (change : ChangesOnly old new a) where
-  pub edition_kept : IsEditionOf project old → IsEditionOf project new
-  edition_kept is = record {
-    network = ap (λ (n : PricedNetwork). n.network) change.net ∙ is.network;
-    pieces = ap (λ (n : PricedNetwork). n.pieces) change.net ∙ is.pieces;
-    unit_days = change.unit_days ∙ is.unit_days;
   }
 
   pub changed_at : (region : SessionRegion) → IsEditionOf project old → IsRenewed project old region → IsChangedAt project new a region
@@ -87,9 +80,3 @@ changed_to project editing region renewed = record {
   expected = sym renewed.expected;
   variances = sym renewed.variances_are;
 }
-
--- there is room for a trial of a network with the network and the pieces of the project
-pub has_room : (project : Project) (net : PricedNetwork) (region : SessionRegion) → net.network ≡ project.network → net.pieces ≡ project.pieces
-    → trial_cells project.network.events (length project.network.arcs) (length project.pieces) ≤ region.free → HasRoom net region
-has_room project net region network pieces room =
-    omega (arith, room, ap (λ n. n.events) network, ap (λ n. length n.arcs) network, ap length pieces)

@@ -1,5 +1,5 @@
 -- What the further pieces of an activity ask of its term is what the faults of the pieces one by one come to.
-use Rattle.std.proofs.Common.{◌≡◌, ℕ, zero, suc, ◌+◌, ◌-◌, ◌<◌, Bool, false, ◌||◌, leb, List, [], ◌∷◌, length, Some, None, refl, sym, ◌∙◌, ap, add-one, arith}
+use Rattle.std.proofs.Common.{◌≡◌, ℕ, zero, suc, ◌+◌, ◌-◌, ◌<◌, Bool, false, ◌||◌, leb, List, [], ◌∷◌, length, Some, refl, sym, ◌∙◌, ap, add-one, arith}
 use Rattle.std.proofs.lemmas.Bool.Decides.{nat_tests}
 use Rattle.std.proofs.lemmas.List.Sums.{sum_by-cons}
 use Rattle.pc_model.specs.declared.PieceRow.{PieceRow}
@@ -66,11 +66,6 @@ is_flawed-has_flaw old term (piece ∷ pieces) rising =
 pub refusal_with-is : (over : Bool) (old term : Term) (estimates : Estimates) (own : List PieceRow) → ((k : ℕ) → k < length own → slope_in old own k < slope_in old own (k + 1)) →
     refusal_with over term estimates (further_in own) ≡ refusal_of over term estimates own
 refusal_with-is over old term estimates own rising = rw (is_flawed-has_flaw old term own rising) refl
-
--- an activity with one knee has no further piece
-pub further-none : (own : List PieceRow) → length own + 1 < 2 → None ≡ further_in own
-further-none [] few = refl
-further-none (piece ∷ pieces) few = absurd (omega arith)
 
 -- what the second knee of an activity tells
 pub further-some : (term : Term) (own : List PieceRow) (at rise : ℕ) → 1 < length own + 1 → at ≡ knee_in term own 1 → rise ≡ rise_in term own 1 → (0 < length own → term.slope < slope_in term own 1) →

@@ -1,6 +1,6 @@
 -- The last elements of a list, and one more behind them.
-use Rattle.std.proofs.Common.{◌≡◌, ℕ, ◌+◌, ◌-◌, ◌≤◌, min, List, [], ◌∷◌, ◌++◌, length, take, drop, get_or, Some, None}
-use Rattle.std.proofs.Common.{refl, sym, ◌∙◌, ap, ⊎_elim, arith, length-append, length-drop, drop-drop, take_at}
+use Rattle.std.proofs.Common.{◌≡◌, ℕ, ◌+◌, ◌-◌, ◌≤◌, min, List, [], ◌∷◌, ◌++◌, length, take, drop, get_or, Some}
+use Rattle.std.proofs.Common.{sym, ◌∙◌, ap, ⊎_elim, arith, length-append, length-drop, drop-drop, take_at}
 use Rattle.std.proofs.lemmas.Bool.{cases_lt}
 use Rattle.std.proofs.lemmas.List.{drop-append-le, take_more, take_all}
 use Rattle.std.proofs.lemmas.Option.{get_or_from_slice_get}
@@ -42,11 +42,3 @@ module _ {X : Type 0} where
       sym (take_all (length (y ∷ ys) - 1 + 1) (y ∷ ys) (omega arith))
       ∙ take_more (y ∷ ys) (length (y ∷ ys) - 1) y (omega arith)
       ∙ ap (λ z. take (length (y ∷ ys) - 1) (y ∷ ys) ++ z ∷ []) at
-
-  pub last_item-none : (xs : List X) → last_item xs ≡ None → length xs ≡ 0
-  last_item-none [] e = refl
-  last_item-none (y ∷ ys) e =
-      let e' : last_item (take (length (y ∷ ys) - 1) (y ∷ ys) ++ get_or (y ∷ ys) (length (y ∷ ys) - 1) y ∷ []) ≡ None =
-      ap last_item (sym (sym (take_all (length (y ∷ ys) - 1 + 1) (y ∷ ys) (omega arith)) ∙ take_more (y ∷ ys) (length (y ∷ ys) - 1) y (omega arith))) ∙ e in
-      let some = last_item-push (take (length (y ∷ ys) - 1) (y ∷ ys)) (get_or (y ∷ ys) (length (y ∷ ys) - 1) y) in
-      absurd cc

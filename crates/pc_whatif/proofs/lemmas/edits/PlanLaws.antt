@@ -1,13 +1,12 @@
 -- Numbers that are accepted fit, and those that are taken back are what they were.
-use Rattle.std.proofs.Common.{◌≡◌, ℕ, zero, suc, ◌+◌, ◌-◌, ◌*◌, ◌^◌, ◌<◌, ◌≤◌, Bool, true, false, ◌||◌, cond, leb, List, [], ◌∷◌}
+use Rattle.std.proofs.Common.{◌≡◌, ℕ, zero, suc, ◌+◌, ◌-◌, ◌<◌, ◌≤◌, Bool, true, false, ◌||◌, cond, leb, List, [], ◌∷◌}
 use Rattle.std.proofs.Common.{length, set, get_or, Option, Some, None, refl, sym, ◌∙◌, ap, subst, ⊎_elim, add-one, arith}
-use Rattle.std.proofs.Math.Nat.{mul-le-mul, pow-le-pow_left}
 use Rattle.std.proofs.lemmas.Bool.{cases_eq, ltb-false}
 use Rattle.std.proofs.lemmas.Bool.Decides.{nat_tests}
 use Rattle.std.proofs.lemmas.List.{get_or-set_same, get_or-set_other, length-set, set-set, same_lists, get_or_default}
 use Rattle.pc_model.specs.declared.PieceRow.{PieceRow}
 use Rattle.pc_model.specs.declared.Term.{Term}
-use Rattle.pc_model.specs.declared.limits.TheConstants.{MAX_COST, MAX_DURATION, MAX_SLOPE, MAX_UNIT_DAYS, MAX_VARIANCE}
+use Rattle.pc_model.specs.declared.limits.TheConstants.{MAX_COST, MAX_DURATION, MAX_SLOPE}
 use Rattle.pc_model.specs.Network.{Network}
 use Rattle.pc_model.specs.Pieces.{ArePieces, pieces_of, slope_in, units_of}
 use Rattle.pc_model.specs.Schedule.{AreTerms, term_at}
@@ -178,14 +177,6 @@ tried_short trial within = grind (arith, nat_tests)
 
 tried_gentle : (trial : Trial) → is_trial_over trial ≡ false → trial.slope ≤ MAX_SLOPE
 tried_gentle trial within = grind (arith, nat_tests)
-
--- a variance is no greater than that of the widest estimates in the longest unit
-pub variance_small : (opt pess unit_days : ℕ) → pess ≤ MAX_DURATION → unit_days ≤ MAX_UNIT_DAYS → (pess - opt) ^ 2 * unit_days ^ 2 ≤ MAX_VARIANCE
-variance_small opt pess unit_days most few =
-    let range : pess - opt ≤ 100000 = omega arith in
-    let square : (pess - opt) ^ 2 ≤ 100000 ^ 2 = pow-le-pow_left range 2 in
-    let units : unit_days ^ 2 ≤ 7 ^ 2 = pow-le-pow_left few 2 in
-    mul-le-mul square units
 
 -- and estimates within them
 with_estimates : (change : Change) (old : Estimates) → is_over change ≡ false → AreEstimates old → are_disordered (estimates_with change old) ≡ false → AreEstimates (estimates_with change old)
