@@ -5,7 +5,6 @@ pub mod FlowsLemmas
 pub mod LineLaws
 pub mod LineLengths
 pub mod TextLaws
-mod RunLemmas
 pub mod ReaderLaws
 pub mod EventLaws
 pub mod ListedLaws

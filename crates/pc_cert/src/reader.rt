@@ -28,8 +28,8 @@ ghost use Rattle.pc_cert.specs.declared.reader.Malformed.{Malformed};
 
 use crate::known::KnownLine;
 use crate::line::{CertLine, MAX_LINE};
-use crate::line_end::line_len;
 use crate::place::Place;
+use pc_edges::lines::line_len;
 use std::marker::Model;
 
 /// The first line that is not allowed at its place, or that is missing. Lines are counted from 1.

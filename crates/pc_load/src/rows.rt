@@ -12,7 +12,7 @@ use crate::loading::PrintedLoad;
 use crate::table::Table;
 use pc_days::{Day, date_of_sixths, day_text};
 use pc_edges::Sink;
-use pc_edges::page::{Page, Rows, put_rows};
+use pc_edges::page::{Cell, Page, Rows, put_row, put_rows};
 use pc_project::Project;
 use pc_text::Code;
 
@@ -122,23 +122,24 @@ impl<'a> Rows for AmountRows<'a> {
 fn put_period<O: Sink>(page: &mut Page, sink: &mut O, k: u64, date: &[u8; 10])
     ensures { Puts O.taken O.faults page.old sink.old page.new sink.new (period_cells k date.now) }
 {
-    page.put(sink, b"PERIOD           ");
-    page.put_number_right(sink, 6, k);
-    page.put(sink, b" ");
-    page.put(sink, date);
-    page.put(sink, b"\n");
+    let cells = [
+        Cell::Left(16, b"PERIOD"),
+        Cell::Number(6, k),
+        Cell::Text(date),
+    ];
+    put_row(page, sink, &cells);
 }
 
 fn put_amount<O: Sink>(page: &mut Page, sink: &mut O, code: &Code, k: u64, amount: u64)
     requires { 0 < amount }
     ensures { Puts O.taken O.faults page.old sink.old page.new sink.new (amount_row code.now k (pos amount)) }
 {
-    page.put_left(sink, 16, code.bytes());
-    page.put(sink, b" ");
-    page.put_number_right(sink, 6, k);
-    page.put(sink, b" ");
-    page.put_number_right(sink, 14, amount);
-    page.put(sink, b"\n");
+    let cells = [
+        Cell::Left(16, code.bytes()),
+        Cell::Number(6, k),
+        Cell::Number(14, amount),
+    ];
+    put_row(page, sink, &cells);
 }
 
 /// Returns the date so many days after a day, or ten hyphens if it is past the days that are printed.

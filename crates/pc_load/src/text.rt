@@ -4,13 +4,13 @@ ghost use Rattle.pc_edges.specs.inside.Writes.{Writes};
 ghost use Rattle.pc_edges.specs.inside.page.Puts.{Puts};
 ghost use Rattle.pc_load.specs.inside.Loading.{IsReadyFor};
 ghost use Rattle.pc_load.specs.inside.PrintedLoad.{loading_of};
-ghost use Rattle.pc_load.specs.LoadText.{head_line, load_text};
+ghost use Rattle.pc_load.specs.LoadText.{load_text};
 ghost use Rattle.pc_wbs.specs.Preorder.{IsPreorder};
 
 use crate::loading::{Loading, MAX_DAYS, PrintedLoad};
 use crate::rows::{ItemLoadRows, PeriodRows, ResourceRows};
 use crate::table::Table;
-use pc_edges::page::{Page, put_rows};
+use pc_edges::page::{Page, put_named, put_rows};
 use pc_edges::{Failed, Sink};
 use pc_project::Project;
 
@@ -68,21 +68,10 @@ fn put_load<O: Sink>(page: &mut Page, sink: &mut O, project: &Project, printed: 
     ensures { Puts O.taken O.faults page.old sink.old page.new sink.new
         (load_text project.now (loading_of printed.now)) }
 {
-    put_head(page, sink, project, printed.days);
+    put_named(page, sink, b"LOAD ", &project.code(), printed.days);
     put_rows(page, sink, &PeriodRows { project, printed });
     page.put(sink, b"ITEMS\n");
     put_rows(page, sink, &ItemLoadRows { project, printed });
     page.put(sink, b"RESOURCES\n");
     put_rows(page, sink, &ResourceRows { project, printed });
-}
-
-/// Puts the project's code and the days of a period.
-fn put_head<O: Sink>(page: &mut Page, sink: &mut O, project: &Project, days: u64)
-    ensures { Puts O.taken O.faults page.old sink.old page.new sink.new (head_line project.now.heading.code days) }
-{
-    page.put(sink, b"LOAD ");
-    page.put(sink, project.code().bytes());
-    page.put(sink, b" ");
-    page.put_number(sink, days);
-    page.put(sink, b"\n");
 }

@@ -1,6 +1,7 @@
 //! Lines as they are spelled, and the order in which they come.
 use crate::cases::expect_none;
-use pc_cert::{CertLine, Place, line_len};
+use pc_cert::{CertLine, Place};
+use pc_edges::lines::line_len;
 
 /// The numbers that a line says, in order, and 0 where it says fewer than six; a bit is 0 or 1.
 fn numbers(line: &CertLine) -> [u64; 6] {

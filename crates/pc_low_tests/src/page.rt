@@ -1,7 +1,7 @@
 //! Pages: each public function once, and which calls of a sink a page makes, which no clause counts.
 
 use crate::cases::expect_ok_none;
-use pc_edges::page::{PAGE_ROOM, Page, Rows, put_rows};
+use pc_edges::page::{Cell, PAGE_ROOM, Page, Rows, put_row, put_rows};
 use pc_edges::{MemSink, Sink};
 use std::alloc::{AllocError, Global};
 
@@ -75,19 +75,22 @@ fn few_pushes_and_a_flush(rt: HostRuntime) {
 
 /// Whether each kind of piece is put.
 fn are_put(page: &mut Page, sink: &mut MemSink) -> bool {
-    page.put_left(sink, 4, b"AB");
-    page.put_right(sink, 3, b"C");
-    page.put_left(sink, 2, b"DEFG");
-    page.put(sink, b"longer than the page");
-    page.put_number_right(sink, 4, 17);
-    page.put_signed_right(sink, 4, -6);
+    let cells = [
+        Cell::Left(4, b"AB"),
+        Cell::Right(3, b"C"),
+        Cell::Left(2, b"DEFG"),
+        Cell::Text(b"longer than the page"),
+        Cell::Number(4, 17),
+        Cell::Signed(4, -6),
+    ];
+    put_row(page, sink, &cells);
     page.put_signed(sink, -37);
     page.put(sink, b"\n");
     put_rows(page, sink, &NumberLines { below: 3 });
     page.finish(sink).is_ok()
 }
 
-const PIECES: &[u8] = b"AB    CDEFGlonger than the page  17  -6-37\n0\n1\n2\n";
+const PIECES: &[u8] = b"AB     C DEFG longer than the page   17   -6\n-37\n0\n1\n2\n";
 
 fn puts_pieces(alloc: Global) -> Result<bool, AllocError> {
     let mut page = Page::with_capacity(alloc, 10)?;

@@ -1,5 +1,4 @@
 -- What contracts within and between crates speak of besides what the clauses of the top calls and the laws reach.
-pub mod Cells
 pub mod Schedule
 pub mod Times
 pub mod View

@@ -3,10 +3,9 @@ ghost use Rattle.std.specs.Prelude.{◌≡◌};
 ghost use Rattle.pc_edges.specs.inside.page.Puts.{Puts};
 ghost use Rattle.pc_reports.specs.Check.{check_text, counts_text};
 
-use crate::lines::{put_code, put_number};
 use crate::report::Report;
 use pc_edges::Sink;
-use pc_edges::page::Page;
+use pc_edges::page::{Page, put_code, put_number};
 use pc_project::{Counts, Project};
 
 // The project's code, and how many cards of each kind its deck has.

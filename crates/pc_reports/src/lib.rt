@@ -1,11 +1,9 @@
 //! The texts of the reports, line by line.
 #![tactic(auto)]
 
-mod cells;
 mod check;
 mod dates;
 mod forecasts;
-mod lines;
 mod outlook_costs;
 mod outlook_report;
 mod outlook_rows;

@@ -4,9 +4,8 @@ ghost use Rattle.pc_edges.specs.inside.page.Puts.{Puts};
 ghost use Rattle.pc_reports.specs.OutlookText.{outlook_cells, outlook_row};
 ghost use Rattle.pc_reports.specs.inside.OutlookText.{IsOutlookFor};
 
-use crate::cells::{put_amount_cell, put_level_cell, put_title_cell};
 use pc_edges::Sink;
-use pc_edges::page::{Page, Rows};
+use pc_edges::page::{Cell, Page, Rows, put_row};
 use pc_project::Project;
 use pc_rollup::figures::{Outlook, OutlookAmounts};
 use pc_text::{Code, Title};
@@ -49,10 +48,13 @@ fn put_amounts<O: Sink>(
     ensures { Puts O.taken O.faults page.old sink.old page.new sink.new
         (outlook_cells code.now level amounts.now title.now) }
 {
-    page.put_left(sink, 16, code.bytes());
-    put_level_cell(page, sink, level as u64);
-    put_amount_cell(page, sink, amounts.budget);
-    put_amount_cell(page, sink, amounts.outlook);
-    put_amount_cell(page, sink, amounts.change);
-    put_title_cell(page, sink, title);
+    let cells = [
+        Cell::Left(16, code.bytes()),
+        Cell::Number(2, level as u64),
+        Cell::Signed(14, amounts.budget),
+        Cell::Signed(14, amounts.outlook),
+        Cell::Signed(14, amounts.change),
+        Cell::Text(title.bytes()),
+    ];
+    put_row(page, sink, &cells);
 }

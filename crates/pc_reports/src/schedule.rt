@@ -6,9 +6,8 @@ ghost use Rattle.pc_reports.specs.Lines.{named_line_at};
 ghost use Rattle.pc_reports.specs.Schedule.{schedule_text};
 ghost use Rattle.pc_reports.specs.inside.Schedule.{durations_text, plan_of, text_of, times_text, IsWhole};
 
-use crate::lines::{put_named, put_number};
 use pc_crash::CrashNet;
-use pc_edges::page::{Page, Rows, put_rows};
+use pc_edges::page::{Page, Rows, put_named, put_number, put_rows};
 use pc_edges::{Failed, Sink};
 use pc_text::Code;
 

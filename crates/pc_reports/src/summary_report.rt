@@ -4,7 +4,7 @@ ghost use Rattle.pc_edges.specs.inside.Writes.{Writes};
 ghost use Rattle.pc_edges.specs.inside.page.Puts.{Puts};
 ghost use Rattle.pc_reports.specs.SummaryText.{IsSummary, ChargesCountOnce, summary_text};
 
-use crate::lines::put_dated;
+use crate::dates::put_dated;
 use crate::report::{Report, write_report};
 use crate::summary_rows::{ItemRows, LevelRows};
 use pc_edges::page::{Page, put_rows};

@@ -3,9 +3,8 @@ ghost use Rattle.std.specs.Prelude.{length};
 ghost use Rattle.pc_edges.specs.inside.page.Puts.{Puts};
 ghost use Rattle.pc_reports.specs.SummaryText.{IsSummary, item_cells, item_row, level_cells, level_row};
 
-use crate::cells::{put_amount_cell, put_level_cell, put_title_cell};
 use pc_edges::Sink;
-use pc_edges::page::{Page, Rows};
+use pc_edges::page::{Cell, Page, Rows, put_row};
 use pc_project::Project;
 use pc_rollup::figures::{Summary, SummaryAmounts};
 use pc_text::{Code, Title};
@@ -72,25 +71,30 @@ fn put_item<O: Sink>(
     ensures { Puts O.taken O.faults page.old sink.old page.new sink.new
         (item_cells code.now level amounts.now title.now) }
 {
-    page.put_left(sink, 16, code.bytes());
-    put_level_cell(page, sink, level as u64);
-    put_amount_cell(page, sink, amounts.budget);
-    put_amount_cell(page, sink, amounts.actual);
-    put_amount_cell(page, sink, amounts.to_go);
-    put_amount_cell(page, sink, amounts.latest);
-    put_amount_cell(page, sink, amounts.overrun);
-    put_title_cell(page, sink, title);
+    let cells = [
+        Cell::Left(16, code.bytes()),
+        Cell::Number(2, level as u64),
+        Cell::Signed(14, amounts.budget),
+        Cell::Signed(14, amounts.actual),
+        Cell::Signed(14, amounts.to_go),
+        Cell::Signed(14, amounts.latest),
+        Cell::Signed(14, amounts.overrun),
+        Cell::Text(title.bytes()),
+    ];
+    put_row(page, sink, &cells);
 }
 
 fn put_level<O: Sink>(page: &mut Page, sink: &mut O, level: u64, amounts: &SummaryAmounts)
     ensures { Puts O.taken O.faults page.old sink.old page.new sink.new (level_cells level amounts.now) }
 {
-    page.put(sink, b"LEVEL           ");
-    put_level_cell(page, sink, level);
-    put_amount_cell(page, sink, amounts.budget);
-    put_amount_cell(page, sink, amounts.actual);
-    put_amount_cell(page, sink, amounts.to_go);
-    put_amount_cell(page, sink, amounts.latest);
-    put_amount_cell(page, sink, amounts.overrun);
-    page.put(sink, b"\n");
+    let cells = [
+        Cell::Left(16, b"LEVEL"),
+        Cell::Number(2, level),
+        Cell::Signed(14, amounts.budget),
+        Cell::Signed(14, amounts.actual),
+        Cell::Signed(14, amounts.to_go),
+        Cell::Signed(14, amounts.latest),
+        Cell::Signed(14, amounts.overrun),
+    ];
+    put_row(page, sink, &cells);
 }

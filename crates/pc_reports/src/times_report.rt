@@ -7,7 +7,6 @@ ghost use Rattle.pc_reports.specs.Times.{IsTimes};
 ghost use Rattle.pc_reports.specs.TimesText.{times_text};
 ghost use Rattle.pc_reports.specs.inside.View.{IsShownOf, as_shown};
 
-use crate::lines::put_code;
 use crate::report::{Report, write_report};
 use crate::times::late_to_meet;
 use crate::times_rows::{put_activities, put_events, put_path};

@@ -12,10 +12,9 @@ ghost use Rattle.pc_reports.specs.TimesText.{
 ghost use Rattle.pc_reports.specs.inside.View.{IsShownOf, as_shown};
 
 use crate::dates::{DATE_LENGTH, date_text};
-use crate::lines::{put_code, put_number};
 use crate::view::TimesView;
 use pc_edges::Sink;
-use pc_edges::page::Page;
+use pc_edges::page::{Cell, Page, put_code, put_number, put_row};
 use pc_project::Project;
 use pc_text::Code;
 use pc_times::slack;
@@ -98,16 +97,14 @@ fn put_event<O: Sink>(
     requires late { unsigned_abs late < 2 ^ 40 }
     ensures { Puts O.taken O.faults page.old sink.old page.new sink.new (event_cells code.now early late date.now) }
 {
-    page.put_left(sink, 16, code.bytes());
-    page.put(sink, b" ");
-    page.put_number_right(sink, 12, early);
-    page.put(sink, b" ");
-    page.put_signed_right(sink, 12, late);
-    page.put(sink, b" ");
-    page.put_signed_right(sink, 12, slack(late, early));
-    page.put(sink, b" ");
-    page.put(sink, date);
-    page.put(sink, b"\n");
+    let cells = [
+        Cell::Left(16, code.bytes()),
+        Cell::Number(12, early),
+        Cell::Signed(12, late),
+        Cell::Signed(12, slack(late, early)),
+        Cell::Text(date),
+    ];
+    put_row(page, sink, &cells);
 }
 
 fn put_activity<O: Sink>(
@@ -121,14 +118,13 @@ fn put_activity<O: Sink>(
     ensures { Puts O.taken O.faults page.old sink.old page.new sink.new
         (activity_cells code.now expected variance slack) }
 {
-    page.put_left(sink, 16, code.bytes());
-    page.put(sink, b" ");
-    page.put_number_right(sink, 12, expected);
-    page.put(sink, b" ");
-    page.put_number_right(sink, 16, variance);
-    page.put(sink, b" ");
-    page.put_signed_right(sink, 12, slack);
-    page.put(sink, b"\n");
+    let cells = [
+        Cell::Left(16, code.bytes()),
+        Cell::Number(12, expected),
+        Cell::Number(16, variance),
+        Cell::Signed(12, slack),
+    ];
+    put_row(page, sink, &cells);
 }
 
 /// Returns the slack of an activity in sixths of a day: the time between its events, less its expected time.

@@ -6,8 +6,8 @@ ghost use Rattle.pc_reports.specs.ValueText.{value_text};
 ghost use Rattle.pc_rollup.specs.figures.Outline.{row_at};
 ghost use Rattle.pc_rollup.specs.figures.Worth.{IsWorthOf};
 
+use crate::dates::put_dated;
 use crate::forecasts::Forecasts;
-use crate::lines::put_dated;
 use crate::report::{Report, write_report};
 use crate::value_rows::{ForecastRows, WorthRows};
 use pc_edges::page::{Page, put_rows};

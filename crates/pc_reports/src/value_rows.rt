@@ -1,16 +1,16 @@
 //! The rows of the report of the value of work.
-ghost use Rattle.std.specs.Prelude.{◌<◌, ◌≤◌, ◌^◌, length, unsigned_abs};
+ghost use Rattle.std.specs.Prelude.{◌≡◌, ◌<◌, ◌≤◌, ◌^◌, length, unsigned_abs};
 ghost use Rattle.pc_edges.specs.page.Cells.{right};
+ghost use Rattle.pc_edges.specs.inside.page.Cells.{cell_text};
 ghost use Rattle.pc_edges.specs.inside.page.Puts.{Puts};
 ghost use Rattle.pc_times.specs.declared.TheConstants.{MAX_TIME};
 ghost use Rattle.pc_reports.specs.Earned.{AreForecasts, IsEarned};
 ghost use Rattle.pc_reports.specs.ValueText.{forecast_cells, forecast_row, slack_text, worth_cells, worth_row};
 
-use crate::cells::{put_amount_cell, put_level_cell, put_title_cell};
 use crate::forecasts::Forecasts;
 use crate::value_report::ValueReport;
 use pc_edges::Sink;
-use pc_edges::page::{Page, Rows};
+use pc_edges::page::{Cell, Page, Rows, put_row};
 use pc_project::Project;
 use pc_rollup::figures::WorthAmounts;
 use pc_text::{Code, Title};
@@ -82,14 +82,13 @@ fn put_forecast<O: Sink>(
     requires late { unsigned_abs late ≤ MAX_TIME }
     ensures { Puts O.taken O.faults page.old sink.old page.new sink.new (forecast_cells code.now time late date.now) }
 {
-    page.put_left(sink, 16, code.bytes());
-    page.put(sink, b" ");
-    page.put_number_right(sink, 12, time);
-    page.put(sink, b" ");
-    page.put_signed_right(sink, 12, slack(late, time));
-    page.put(sink, b" ");
-    page.put(sink, date);
-    page.put(sink, b"\n");
+    let cells = [
+        Cell::Left(16, code.bytes()),
+        Cell::Number(12, time),
+        Cell::Signed(12, slack(late, time)),
+        Cell::Text(date),
+    ];
+    put_row(page, sink, &cells);
 }
 
 fn put_worth<O: Sink>(
@@ -104,23 +103,25 @@ fn put_worth<O: Sink>(
     ensures { Puts O.taken O.faults page.old sink.old page.new sink.new
         (worth_cells code.now level amounts.now slack title.now) }
 {
-    page.put_left(sink, 16, code.bytes());
-    put_level_cell(page, sink, level as u64);
-    put_amount_cell(page, sink, amounts.budget);
-    put_amount_cell(page, sink, amounts.actual);
-    put_amount_cell(page, sink, amounts.value);
-    put_amount_cell(page, sink, amounts.overrun);
-    page.put(sink, b" ");
-    put_slack(page, sink, slack);
-    put_title_cell(page, sink, title);
+    let cells = [
+        Cell::Left(16, code.bytes()),
+        Cell::Number(2, level as u64),
+        Cell::Signed(14, amounts.budget),
+        Cell::Signed(14, amounts.actual),
+        Cell::Signed(14, amounts.value),
+        Cell::Signed(14, amounts.overrun),
+        slack_cell(slack),
+        Cell::Text(title.bytes()),
+    ];
+    put_row(page, sink, &cells);
 }
 
-/// Puts the slack of an item, or a hyphen if it has none.
-fn put_slack<O: Sink>(page: &mut Page, sink: &mut O, slack: Option<i64>)
-    ensures { Puts O.taken O.faults page.old sink.old page.new sink.new (right 12 (slack_text slack)) }
+/// Returns the cell of an item's slack: a hyphen if it has none.
+fn slack_cell(slack: Option<i64>) -> Cell<'static>
+    ensures { cell_text result ≡ right 12 (slack_text slack) }
 {
     match slack {
-        Some(slack) => page.put_signed_right(sink, 12, slack),
-        None => page.put_right(sink, 12, b"-"),
+        Some(slack) => Cell::Signed(12, slack),
+        None => Cell::Right(12, b"-"),
     }
 }

@@ -2,3 +2,4 @@
 pub mod Page
 pub mod PageInside
 pub mod Puts
+pub mod Cells

@@ -20,10 +20,9 @@ ghost use Rattle.std.specs.Prelude.{
 ghost use Rattle.pc_edges.specs.Faults.{Rose};
 ghost use Rattle.pc_edges.specs.Pulls.{TakesPulls};
 ghost use Rattle.pc_edges.specs.inside.lines.Reading.{StandsFor, Stepped, TakesLine, Filled, bytes_left};
-ghost use Rattle.pc_edges.specs.inside.lines.Lines.{line_len};
 
+use crate::lines::line_end::line_len;
 use crate::{Failed, STREAM_ROOM, Source};
-use memchr::memchr;
 use std::alloc::{AllocError, Global};
 use std::marker::Model;
 
@@ -218,16 +217,5 @@ impl LineReader {
         self.to = n.min(INPUT_LIMIT - self.taken);
         self.taken += n;
         Ok(n)
-    }
-}
-
-/// Returns how many bytes are before the first end of a line: all of them if there is none.
-pub(in crate::lines) fn line_len(bytes: &[u8]) -> usize
-    ensures value { result ≡ line_len bytes.now }
-    ensures within { result ≤ length bytes.now }
-{
-    match memchr(b'\n', bytes) {
-        Some(end) => end,
-        None => bytes.len(),
     }
 }

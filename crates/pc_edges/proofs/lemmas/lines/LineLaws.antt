@@ -2,32 +2,33 @@
 use Rattle.std.proofs.Common.{◌≡◌, ◌≢◌, ℕ, ◌+◌, ◌<◌, Bool, true, false, List, [], ◌∷◌, ◌++◌, length, take, drop, refl, sym, ap, ◌∙◌, arith, append_assoc, append-nil, add-one}
 use Rattle.std.proofs.lemmas.Bool.{eqb-true, eqb-false, ne_eqb}
 use Rattle.std.specs.Prelude.{◌==◌}
+use Rattle.pc_text.specs.Fields.{run_len}
 use Rattle.pc_edges.specs.lines.Lines.{lines_behind, whole_lines, open_behind, last_line, lines_of}
-use Rattle.pc_edges.specs.inside.lines.Lines.{line_len, text_of, IsOpen, AreOpen}
+use Rattle.pc_edges.specs.inside.lines.Lines.{text_of, IsOpen, AreOpen}
 
 -- ---- where lines end
 
 -- a text in which a line ends is that line, its end and the rest
-pub line_len-splits : (bytes : List ℕ) → line_len bytes < length bytes
-    → (bytes ≡ take (line_len bytes) bytes ++ 10 ∷ drop (line_len bytes + 1) bytes) × IsOpen (take (line_len bytes) bytes)
-line_len-splits [] less = absurd (omega (arith, less))
-line_len-splits (b ∷ bytes) less = splits_by b bytes (b == 10) refl (line_len-splits bytes) less where
+pub line-splits : (bytes : List ℕ) → run_len 10 bytes < length bytes
+    → (bytes ≡ take (run_len 10 bytes) bytes ++ 10 ∷ drop (run_len 10 bytes + 1) bytes) × IsOpen (take (run_len 10 bytes) bytes)
+line-splits [] less = absurd (omega (arith, less))
+line-splits (b ∷ bytes) less = splits_by b bytes (b == 10) refl (line-splits bytes) less where
   splits_by : (b : ℕ) (bytes : List ℕ) (test : Bool) → (b == 10) ≡ test
-      → (line_len bytes < length bytes → (bytes ≡ take (line_len bytes) bytes ++ 10 ∷ drop (line_len bytes + 1) bytes) × IsOpen (take (line_len bytes) bytes))
-      → line_len (b ∷ bytes) < length (b ∷ bytes)
-      → (b ∷ bytes ≡ take (line_len (b ∷ bytes)) (b ∷ bytes) ++ 10 ∷ drop (line_len (b ∷ bytes) + 1) (b ∷ bytes)) × IsOpen (take (line_len (b ∷ bytes)) (b ∷ bytes))
+      → (run_len 10 bytes < length bytes → (bytes ≡ take (run_len 10 bytes) bytes ++ 10 ∷ drop (run_len 10 bytes + 1) bytes) × IsOpen (take (run_len 10 bytes) bytes))
+      → run_len 10 (b ∷ bytes) < length (b ∷ bytes)
+      → (b ∷ bytes ≡ take (run_len 10 (b ∷ bytes)) (b ∷ bytes) ++ 10 ∷ drop (run_len 10 (b ∷ bytes) + 1) (b ∷ bytes)) × IsOpen (take (run_len 10 (b ∷ bytes)) (b ∷ bytes))
   splits_by b bytes true is tail less = rw is (ap (λ first. first ∷ bytes) (eqb-true b 10 is), tt)
   splits_by b bytes false is tail less =
-      let below : line_len bytes < length bytes = omega (arith, rw is at less) in
+      let below : run_len 10 bytes < length bytes = omega (arith, rw is at less) in
       let parts = tail below in
       rw (is, add-one) (ap (λ l. b ∷ l) (rw add-one at (parts.0)), (eqb-false b 10 is, parts.1))
 
 -- a text in which no line ends
-pub line_len-open : (bytes : List ℕ) → line_len bytes ≡ length bytes → IsOpen bytes
-line_len-open [] is = tt
-line_len-open (b ∷ bytes) is = open_by b bytes (b == 10) refl (line_len-open bytes) is where
-  open_by : (b : ℕ) (bytes : List ℕ) (test : Bool) → (b == 10) ≡ test → (line_len bytes ≡ length bytes → IsOpen bytes)
-      → line_len (b ∷ bytes) ≡ length (b ∷ bytes) → IsOpen (b ∷ bytes)
+pub line-open : (bytes : List ℕ) → run_len 10 bytes ≡ length bytes → IsOpen bytes
+line-open [] is = tt
+line-open (b ∷ bytes) is = open_by b bytes (b == 10) refl (line-open bytes) is where
+  open_by : (b : ℕ) (bytes : List ℕ) (test : Bool) → (b == 10) ≡ test → (run_len 10 bytes ≡ length bytes → IsOpen bytes)
+      → run_len 10 (b ∷ bytes) ≡ length (b ∷ bytes) → IsOpen (b ∷ bytes)
   open_by b bytes true here tail is = absurd (omega (arith, rw here at is))
   open_by b bytes false here tail is = (eqb-false b 10 here, tail (omega (arith, rw here at is)))
 

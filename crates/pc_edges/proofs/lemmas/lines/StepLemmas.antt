@@ -5,37 +5,38 @@ use Rattle.std.proofs.lemmas.List.{take_all, drop_all, length-take, nil_from_len
 use Rattle.std.proofs.Math.Seq.{take-append-add}
 use Rattle.std.proofs.KnownBytes.{Consumes-nil, Consumes-trans, Consumes-kept}
 use Rattle.std.specs.Io.KnownBytes.{Consumes, Keeps, IsAtEnd}
+use Rattle.pc_text.specs.Fields.{run_len}
 use Rattle.pc_edges.specs.Pulls.{CameIn, TakesPulls}
 use Rattle.pc_edges.specs.declared.loading.TheConstants.{STREAM_ROOM}
 use Rattle.pc_edges.proofs.PullLaws.{CameIn-more}
 use Rattle.pc_edges.specs.declared.lines.reader.TheConstants.{INPUT_LIMIT, LINE_ROOM}
 use Rattle.pc_edges.specs.lines.Lines.{last_line, lines_of, whole_lines}
-use Rattle.pc_edges.specs.inside.lines.Lines.{line_len, text_of, IsOpen, AreOpen}
+use Rattle.pc_edges.specs.inside.lines.Lines.{text_of, IsOpen, AreOpen}
 use Rattle.pc_edges.specs.inside.lines.Reading.{Reading, kept, StandsFor, bytes_left, TookAll, TookLine, IsFilled, HasPulled, no_pull, some_pulls, Gave, GaveLast, GaveAll, FailedBehind, PassedLimit}
 use Rattle.pc_edges.proofs.lemmas.lines.HoldLemmas.{take-of_cut}
-use Rattle.pc_edges.proofs.lemmas.lines.LineLaws.{line_len-splits, line_len-open, IsOpen-append, text_of-more, AreOpen-more, whole_lines-are, lines_of-are, last_line-some}
+use Rattle.pc_edges.proofs.lemmas.lines.LineLaws.{line-splits, line-open, IsOpen-append, text_of-more, AreOpen-more, whole_lines-are, lines_of-are, last_line-some}
 
 -- ---- what is taken of the bytes ahead
 
-pub took_all : (old held new : Reading) (count : ℕ) → count ≡ line_len old.ahead → count ≡ length old.ahead
+pub took_all : (old held new : Reading) (count : ℕ) → count ≡ run_len 10 old.ahead → count ≡ length old.ahead
     → held ≡ record old { line = take LINE_ROOM (old.line ++ take count old.ahead) } → new ≡ record held { ahead = drop count held.ahead } → TookAll old new
 took_all old held new count is all holds passes =
     let passed : new ≡ record { line = take LINE_ROOM (old.line ++ take count old.ahead); ahead = drop count old.ahead; taken = old.taken } =
     passes ∙ ap (λ (r : Reading). record r { ahead = drop count r.ahead }) holds in
     record {
       nothing = ap (λ (r : Reading). r.ahead) passed ∙ drop_all count old.ahead (omega arith);
-      no_end = line_len-open old.ahead (sym is ∙ all);
+      no_end = line-open old.ahead (sym is ∙ all);
       kept_is = ap (λ (r : Reading). r.line) passed ∙ ap (λ l. kept (old.line ++ l)) (take_all count old.ahead (omega arith));
       same = ap (λ (r : Reading). r.taken) passed;
     }
 
-pub took_line : (old held new : Reading) (count : ℕ) → count ≡ line_len old.ahead → count < length old.ahead
+pub took_line : (old held new : Reading) (count : ℕ) → count ≡ run_len 10 old.ahead → count < length old.ahead
     → held ≡ record old { line = take LINE_ROOM (old.line ++ take count old.ahead) } → new ≡ record held { ahead = drop (count + 1) held.ahead }
     → (front : List ℕ) × TookLine old new front
 took_line old held new count is less holds passes =
     let passed : new ≡ record { line = take LINE_ROOM (old.line ++ take count old.ahead); ahead = drop (count + 1) old.ahead; taken = old.taken } =
     passes ∙ ap (λ (r : Reading). record r { ahead = drop (count + 1) r.ahead }) holds in
-    let parts = line_len-splits old.ahead (omega (arith, is, less)) in (
+    let parts = line-splits old.ahead (omega (arith, is, less)) in (
       take count old.ahead,
       record {
         split = parts.0 ∙ ap (λ n. take n old.ahead ++ 10 ∷ drop (n + 1) old.ahead) (sym is) ∙ ap (λ l. take count old.ahead ++ 10 ∷ l) (sym (ap (λ (r : Reading). r.ahead) passed));

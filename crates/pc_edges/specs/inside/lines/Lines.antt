@@ -1,11 +1,6 @@
 -- The lines of a text: each is what stands before an end of a line (10), and what stands behind the last of them, where it is not empty.
 -- Here is what no clause of a top call and no law reaches.
-use Rattle.std.specs.Prelude.{ℕ, ◌≢◌, zero, suc, ◌==◌, List, [], ◌∷◌, ◌++◌, if◌then◌else◌}
-
--- how many bytes stand before the first end of a line
-abbrev pub line_len : List ℕ → ℕ
-line_len [] = zero
-line_len (b ∷ bytes) = if b == 10 then zero else suc (line_len bytes)
+use Rattle.std.specs.Prelude.{ℕ, ◌≢◌, List, [], ◌∷◌, ◌++◌}
 
 -- the text of lines that have an end
 abbrev pub text_of : List (List ℕ) → List ℕ

@@ -1,8 +1,8 @@
-use Rattle.std.proofs.Common.{◌≡◌, ◌<◌, ℕ, false, List, [], ◌∷◌, ◌++◌, refl, ap, arith}
+use Rattle.std.proofs.Common.{◌≡◌, ◌<◌, ℕ, false, List, [], ◌∷◌, refl, ap, arith}
 use Rattle.std.specs.Prelude.{pos, int_le, decimal}
 use Rattle.std.proofs.lemmas.Bool.Decides.{nat_tests}
-use Rattle.pc_edges.specs.page.Cells.{left, right}
-use Rattle.pc_edges.proofs.lemmas.page.PageLaws.{◌▸◌, Adds-as}
+use Rattle.pc_edges.specs.page.Cells.{left, right, row}
+use Rattle.pc_edges.proofs.lemmas.page.PageLaws.{Adds-as}
 use Rattle.pc_load.specs.LoadText.{amount_row}
 use Rattle.pc_load.proofs.rows.put_amount.Goals as goal
 
@@ -11,12 +11,10 @@ above_none : (n : ℕ) → 0 < n → int_le (pos n) (pos 0) ≡ false
 above_none n lt = grind (arith, nat_tests)
 
 -- so it has a row
-has_row : (code : List ℕ) (k n : ℕ) → 0 < n → left 16 code ++ (32 ∷ (right 6 (decimal k) ++ (32 ∷ (right 14 (decimal n) ++ 10 ∷ [])))) ≡ amount_row code k (pos n)
+has_row : (code : List ℕ) (k n : ℕ) → 0 < n → row (left 16 code ∷ right 6 (decimal k) ∷ right 14 (decimal n) ∷ []) ≡ amount_row code k (pos n)
 has_row code k n lt = rw (above_none n lt) refl
 
 pub returns : goal.returns
 returns g c =
-    Adds-as (amount_row c.args.code.now c.args.k (pos c.args.amount)) (has_row c.args.code.now c.args.k c.args.amount c.requires)
-    (Adds-as (left 16 c.args.code.now) (ap (left 16) c.bytes.ensures.value) c.put_left.ensures ▸ c.put.ensures
-    ▸ c.put_number_right.ensures ▸ c.put-2.ensures
-    ▸ c.put_number_right-2.ensures ▸ c.put-3.ensures)
+    Adds-as _ (has_row c.args.code.now c.args.k c.args.amount c.requires)
+    (Adds-as _ (ap (λ code. row (left 16 code ∷ right 6 (decimal c.args.k) ∷ right 14 (decimal c.args.amount) ∷ [])) c.bytes.ensures.value) c.put_row.ensures)

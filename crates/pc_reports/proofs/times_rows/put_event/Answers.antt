@@ -1,13 +1,7 @@
-use Rattle.std.proofs.Common.{ap, pos, ◌-ℤ◌, rules}
-use Rattle.std.specs.Fmt.{signed_decimal}
-use Rattle.pc_edges.specs.page.Cells.{left, right}
-use Rattle.pc_edges.proofs.lemmas.page.PageLaws.{◌▸◌, Adds-as}
+use Rattle.std.proofs.Common.{rules}
+use Rattle.pc_reports.specs.TimesText.{event_cells}
+use Rattle.pc_edges.proofs.lemmas.page.PageLaws.{Adds-as}
 use Rattle.pc_reports.proofs.times_rows.put_event.Goals as goal
 
 pub returns : goal.returns
-returns g c =
-    Adds-as _ (ap (left 16) c.bytes.ensures.value) c.put_left.ensures ▸ c.put.ensures
-    ▸ c.put_number_right.ensures ▸ c.put-2.ensures
-    ▸ Adds-as (right 12 (signed_decimal c.args.late)) (search rules) c.put_signed_right.ensures ▸ c.put-3.ensures
-    ▸ Adds-as (right 12 (signed_decimal (c.args.late -ℤ pos c.args.early))) (search rules) c.put_signed_right-2.ensures ▸ c.put-4.ensures
-    ▸ c.put-5.ensures ▸ c.put-6.ensures
+returns g c = Adds-as (event_cells c.args.code.now c.args.early c.args.late c.args.date.now) (search rules) c.put_row.ensures

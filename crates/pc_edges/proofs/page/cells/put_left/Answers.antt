@@ -1,0 +1,5 @@
+use Rattle.pc_edges.proofs.lemmas.page.PageLaws.{◌⨾◌}
+use Rattle.pc_edges.proofs.page.cells.put_left.Goals as goal
+
+pub returns : goal.returns
+returns g c = c.put.ensures ⨾ c.put_spaces.ensures

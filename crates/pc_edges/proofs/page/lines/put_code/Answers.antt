@@ -1,0 +1,7 @@
+use Rattle.std.proofs.Common.{ap}
+use Rattle.pc_edges.specs.page.Lines.{word_line}
+use Rattle.pc_edges.proofs.lemmas.page.PageLaws.{Adds-as}
+use Rattle.pc_edges.proofs.page.lines.put_code.Goals as goal
+
+pub returns : goal.returns
+returns g c = Adds-as _ (ap (word_line c.args.word.now) c.bytes.ensures.value) c.put_line.ensures

@@ -1,0 +1,8 @@
+use Rattle.std.proofs.Common.{◌∙◌}
+use Rattle.pc_edges.specs.page.Lines.{pair_line}
+use Rattle.pc_edges.proofs.lemmas.page.PageLaws.{Adds-as}
+use Rattle.pc_edges.proofs.page.lines.put_named.Goals as goal
+
+pub returns : goal.returns
+returns g c =
+    Adds-as _ (λ i. pair_line c.args.word.now (c.bytes.ensures.value i) ((c.bytes-2.ensures ∙ c.digits.ensures.value) i)) c.put_pair.ensures

@@ -1,6 +1,0 @@
-use Rattle.pc_edges.proofs.lemmas.page.PageLaws.{◌▸◌}
-use Rattle.pc_load.proofs.rows.put_period.Goals as goal
-
-pub returns : goal.returns
-returns g c =
-    c.put.ensures ▸ c.put_number_right.ensures ▸ c.put-2.ensures ▸ c.put-3.ensures ▸ c.put-4.ensures

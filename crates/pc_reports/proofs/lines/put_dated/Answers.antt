@@ -1,6 +1,0 @@
-use Rattle.pc_edges.proofs.lemmas.page.PageLaws.{◌▸◌, Adds-as}
-use Rattle.pc_reports.proofs.lines.put_dated.Goals as goal
-
-pub returns : goal.returns
-returns g c =
-    c.put.ensures ▸ Adds-as _ c.bytes.ensures.value c.put-2.ensures ▸ c.put-3.ensures ▸ Adds-as _ c.day_text.ensures.text c.put-4.ensures ▸ c.put-5.ensures
