@@ -1,13 +1,13 @@
 //! What is printed of an optimum.
 ghost use Rattle.std.specs.Fmt.{signed_decimal};
 ghost use Rattle.pc_edges.specs.inside.page.Puts.{Puts};
-ghost use Rattle.pc_edges.specs.page.Lines.{word_line, number_line};
+ghost use Rattle.pc_edges.specs.page.Lines.{word_line};
 ghost use Rattle.pc_total.specs.BestText.{best_text, difference};
 
 use crate::optimum::Best;
 use pc_edges::Sink;
-use pc_edges::page::Page;
-use pc_text::Code;
+use pc_edges::page::{Page, put_code, put_line, put_number};
+use pc_text::{Code, signed};
 
 /// Writes the lines of the optimum of the project with this code to a page, to which more may be added.
 ///
@@ -25,31 +25,11 @@ pub fn put_best<O: Sink>(page: &mut Page, sink: &mut O, code: &Code, best: &Best
     put_difference(page, sink, b"ABOVE ", best.above);
 }
 
-/// Puts the line of a code.
-fn put_code<O: Sink>(page: &mut Page, sink: &mut O, word: &[u8], code: &Code)
-    ensures { Puts O.taken O.faults page.old sink.old page.new sink.new (word_line word.now code.now) }
-{
-    page.put(sink, word);
-    page.put(sink, code.bytes());
-    page.put(sink, b"\n");
-}
-
-/// Puts the line of a number.
-fn put_number<O: Sink>(page: &mut Page, sink: &mut O, word: &[u8], number: u64)
-    ensures { Puts O.taken O.faults page.old sink.old page.new sink.new (number_line word.now number) }
-{
-    page.put(sink, word);
-    page.put_number(sink, number);
-    page.put(sink, b"\n");
-}
-
 /// Puts the line of an amount, with `-` before a negative one.
 fn put_amount<O: Sink>(page: &mut Page, sink: &mut O, word: &[u8], amount: i64)
     ensures { Puts O.taken O.faults page.old sink.old page.new sink.new (word_line word.now (signed_decimal amount)) }
 {
-    page.put(sink, word);
-    page.put_signed(sink, amount);
-    page.put(sink, b"\n");
+    put_line(page, sink, word, signed(amount).bytes());
 }
 
 /// Puts the line of a difference, or of a dash.
@@ -58,9 +38,6 @@ fn put_difference<O: Sink>(page: &mut Page, sink: &mut O, word: &[u8], more: Opt
 {
     match more {
         Some(more) => put_amount(page, sink, word, more),
-        None => {
-            page.put(sink, word);
-            page.put(sink, b"-\n");
-        }
+        None => put_line(page, sink, word, b"-"),
     }
 }
