@@ -1,5 +1,5 @@
 //! What the benchmark prints.
-ghost use Rattle.std.specs.Prelude.{◌≡◌, ◌+◌, ◌≤◌, ℕ, List, decimal, false};
+ghost use Rattle.std.specs.Prelude.{◌≡◌, ◌+◌, ◌≤◌, ℕ, List, false};
 ghost use Rattle.pc_edges.specs.inside.Writes.{Writes};
 ghost use Rattle.pc_flow.specs.Courses.{IsFurther, IsSameCurve, most_looks};
 ghost use Rattle.pc_edges.specs.page.Lines.{number_line};
@@ -9,10 +9,10 @@ ghost use Rattle.pc_curve.specs.bench.Report.{IsBenchText, bench_text, point_lin
 
 use crate::bench::figures::{CurveFigures, figures_of};
 use pc_crash::Steps;
-use pc_edges::page::Page;
+use pc_edges::page::{Page, put_line, put_pair};
 use pc_edges::{Failed, Sink};
 use pc_flow::Solver;
-use pc_text::wide;
+use pc_text::{digits, wide};
 use std::sync::ledger::Ledger;
 
 /// Writes what the benchmark of `n` activities reports of the curve of a solver's network and flushes the sink: the
@@ -73,25 +73,12 @@ fn put_figures<O: Sink>(page: &mut Page, sink: &mut O, n: u64, figures: &CurveFi
 fn put_count<O: Sink>(page: &mut Page, sink: &mut O, name: &[u8], count: u128)
     ensures { Puts O.taken O.faults page.old sink.old page.new sink.new (number_line name.now count) }
 {
-    page.put(sink, name);
-    put_wide(page, sink, count);
-    page.put(sink, b"\n");
+    put_line(page, sink, name, wide(count).bytes());
 }
 
 /// Puts the line of a length and its cost.
 fn put_point<O: Sink>(page: &mut Page, sink: &mut O, name: &[u8], length: u64, cost: u128)
     ensures { Puts O.taken O.faults page.old sink.old page.new sink.new (point_line name.now length cost) }
 {
-    page.put(sink, name);
-    page.put_number(sink, length);
-    page.put(sink, b" ");
-    put_wide(page, sink, cost);
-    page.put(sink, b"\n");
-}
-
-/// Puts the decimal form of a number.
-fn put_wide<O: Sink>(page: &mut Page, sink: &mut O, number: u128)
-    ensures { Puts O.taken O.faults page.old sink.old page.new sink.new (decimal number) }
-{
-    page.put(sink, wide(number).bytes());
+    put_pair(page, sink, name, digits(length).bytes(), wide(cost).bytes());
 }
