@@ -1,5 +1,5 @@
 -- How a forecast is made in the order of the events, and why there is one.
-use Rattle.std.proofs.Common.{◌≡◌, ◌≢◌, ℕ, zero, suc, ◌+◌, ◌*◌, ◌<◌, ◌≤◌, ◌^◌, ◌==◌, ◌⊎◌, ⊎_elim, List, length, slice_index, set, get_or-set_same}
+use Rattle.std.proofs.Common.{◌≡◌, ◌≢◌, ℕ, zero, suc, ◌+◌, ◌*◌, ◌<◌, ◌≤◌, ◌^◌, ◌==◌, inl, inr, ⊎_elim, List, length, slice_index, set, get_or-set_same}
 use Rattle.std.proofs.Common.{get_or-set_other, length-set, refl, sym, ap, ◌∙◌, subst, Bool, true, false, cond, max, below_more, arith}
 use Rattle.std.proofs.Math.Nat.{mul-le-mul_right}
 use Rattle.std.proofs.lemmas.Bool.{cases_eq, cases_lt}
@@ -30,9 +30,14 @@ pub last_of_greatest : (net : Network) (g : ℕ → ℕ) (e n : ℕ) → IsSound
     IsGreatestWhere (λ a. to_of net.arcs a ≡ e) (length net.arcs) g n → IsLastAt net g e n
 last_of_greatest net g e n sound below all = record {
   above = all.above;
-  met = λ not_start. ⊎_elim (λ found. found)
-      (λ (zero_is, none). let (a, in_arcs, ends) = entered net sound e below not_start in absurd (none a in_arcs ends)) all.attained;
-  none = λ start. ⊎_elim (λ (a, in_arcs, ends, at). absurd (sound.not_entered (a, in_arcs, ends ∙ start))) (λ (zero_is, none). zero_is) all.attained;
+  met = λ not_start. elim all.attained [
+    | inl found ↦ found
+    | inr none ↦ let (a, in_arcs, ends) = entered net sound e below not_start in absurd (none.1 a in_arcs ends)
+  ];
+  none = λ start. elim all.attained [
+    | inl (a, in_arcs, ends, at) ↦ absurd (sound.not_entered (a, in_arcs, ends ∙ start))
+    | inr none ↦ none.0
+  ];
 }
 
 -- the first k events of the order have their times
