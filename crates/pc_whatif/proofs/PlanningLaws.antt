@@ -46,8 +46,6 @@ module _ (project : Project) (planned : IsPlanned project) (region : SessionRegi
 -- ---- after a change
 
 module _ (project : Project) (old new : Editing) (a : ℕ) (change : ChangesOnly old new a) where
-  }
-
   pub changed_at : (region : SessionRegion) → IsEditionOf project old → IsRenewed project old region → IsChangedAt project new a region
   changed_at region is renewed =
       let e = estimates_at new.estimates a in
