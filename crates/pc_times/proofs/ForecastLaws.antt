@@ -31,7 +31,7 @@ pub last_of_greatest : (net : Network) (g : ℕ → ℕ) (e n : ℕ) → IsSound
 last_of_greatest net g e n sound below all = record {
   above = all.above;
   met = λ not_start. elim all.attained [
-    | inl found ↦ found
+    | inl (a, in_arcs, ends, at) ↦ (a, (in_arcs, ends, at))
     | inr none ↦ let (a, in_arcs, ends) = entered net sound e below not_start in absurd (none.1 a in_arcs ends)
   ];
   none = λ start. elim all.attained [
