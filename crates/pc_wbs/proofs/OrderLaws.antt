@@ -50,7 +50,7 @@ IsSuccessor-child rows x c (from, inside, e, first) = (inside, inl (x, (e, IsBel
     of_child u (d, (f, h)) =
         ⊎_elim (λ same. below-precedes rows u c (rw same h))
         (λ apart. ⊎_elim (λ lt. inr (inr
-        (Parts-below (Parts-siblings rows c d x e f lt) (IsBelow-self rows c) h))) (λ gt. absurd (first d (omega arith) gt f)) apart)
+        (Parts-siblings rows c d x c u e f lt (IsBelow-self rows c) h))) (λ gt. absurd (first d (omega arith) gt f)) apart)
         (cases_order c d)
 
     later : (u : ℕ) → u < length rows → Precedes rows x u → (u ≡ c) ⊎ Precedes rows c u
@@ -90,7 +90,7 @@ IsSuccessor-beside rows nexts x (Some s) r inside links childless (k, (y, (h, e,
         let ea : parent_of rows a ≡ Some p = t.parent_later ∙ ap Some parents in
         ⊎_elim (λ at. below-precedes rows u s (rw at t.below_later))
         (λ apart. ⊎_elim (λ lt. inr (inr
-        (Parts-below (Parts-siblings rows s a p es ea lt) (IsBelow-self rows s) t.below_later))) (λ gt. absurd (first a (omega (arith, t.order)) gt ea)) apart)
+        (Parts-siblings rows s a p s u es ea lt (IsBelow-self rows s) t.below_later))) (λ gt. absurd (first a (omega (arith, t.order)) gt ea)) apart)
         (cases_order s a))
         (λ under. inr (inr (Parts-below t (IsBelow-under rows s b (sibling_under rows y s p b ep es under)) t.below_later)))
         (cases_below rows y b up))

@@ -62,31 +62,23 @@ sibling_under rows a b p y ea eb (q, (eq, h)) =
     let same : q ≡ p = cc in
     (p, (eb, rw (← same) h))
 
--- the siblings that part two rows part any two below them
-pub Parts-below : {rows : List ItemRow} {u v x y : ℕ} (t : Parts rows u v) → IsBelow rows x t.earlier → IsBelow rows y t.later → Parts rows x y
-Parts-below t below_earlier below_later = record {
-  earlier = t.earlier;
-  later = t.later;
-  parent = t.parent;
-  below_earlier = below_earlier;
-  below_later = below_later;
-  parent_earlier = t.parent_earlier;
-  parent_later = t.parent_later;
-  order = t.order;
-}
-
--- two siblings part themselves
-pub Parts-siblings : (rows : List ItemRow) (a b p : ℕ) → parent_of rows a ≡ Some p → parent_of rows b ≡ Some p → a < b → Parts rows a b
-Parts-siblings rows a b p ea eb before = record {
+-- two siblings part any two rows below them
+pub Parts-siblings : (rows : List ItemRow) (a b p u v : ℕ) → parent_of rows a ≡ Some p → parent_of rows b ≡ Some p → a < b →
+    IsBelow rows u a → IsBelow rows v b → Parts rows u v
+Parts-siblings rows a b p u v ea eb before below_a below_b = record {
   earlier = a;
   later = b;
   parent = p;
-  below_earlier = IsBelow-self rows a;
-  below_later = IsBelow-self rows b;
+  below_earlier = below_a;
+  below_later = below_b;
   parent_earlier = ea;
   parent_later = eb;
   order = before;
 }
+
+-- the siblings that part two rows do so
+pub Parts-below : {rows : List ItemRow} {u v x y : ℕ} (t : Parts rows u v) → IsBelow rows x t.earlier → IsBelow rows y t.later → Parts rows x y
+Parts-below {rows} {u} {v} {x} {y} t = Parts-siblings rows t.earlier t.later t.parent x y t.parent_earlier t.parent_later t.order
 
 pub Precedes-trans : (rows : List ItemRow) (u v w : ℕ) → Precedes rows u v → Precedes rows v w → Precedes rows u w
 Precedes-trans rows u v w (inl vu) (inl wv) =
@@ -114,8 +106,8 @@ Precedes-trans rows u v w (inr s) (inr t) = above (cases_above rows v s.later t.
     level_with : s.later ≡ t.earlier → Precedes rows u w
     level_with same =
         let parents : s.parent ≡ t.parent = let a = s.parent_later in let b = t.parent_earlier in let c = ap (λ n. parent_of rows n) same in cc in
-        let siblings = Parts-siblings rows s.earlier t.later s.parent s.parent_earlier (t.parent_later ∙ ap Some (sym parents)) (omega (arith, s.order, t.order)) in
-        inr (Parts-below siblings s.below_earlier t.below_later)
+        inr (Parts-siblings rows s.earlier t.later s.parent u w s.parent_earlier (t.parent_later ∙ ap Some (sym parents))
+        (omega (arith, s.order, t.order)) s.below_earlier t.below_later)
 
     above : IsBelow rows s.later t.earlier ⊎ IsBelow rows t.earlier s.later → Precedes rows u w
     above (inl h) =
