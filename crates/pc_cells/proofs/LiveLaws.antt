@@ -1,7 +1,7 @@
 -- Which spans stay live, and with what in them, when a span is written, taken or given back.
-use Rattle.std.proofs.Common.{◌≡◌, ℕ, zero, suc, ◌+◌, ◌<◌, List, [], ◌∷◌, ◌++◌, length, take, set, get_or, refl, sym, ◌∙◌, ap, arith}
+use Rattle.std.proofs.Common.{◌≡◌, ℕ, zero, suc, ◌+◌, List, [], ◌∷◌, ◌++◌, length, take, set, get_or, refl, sym, ◌∙◌, ap, arith}
 use Rattle.std.specs.Prelude.{sum_by}
-use Rattle.std.proofs.lemmas.List.{length-set, length-append, length-take, get_or-set_same, get_or-set_other, get_or-take, get_or_append_left, take-take, take-append-le}
+use Rattle.std.proofs.lemmas.List.{length-set, length-append, get_or-set_same, get_or-set_other, get_or_append_left, take-append-le}
 use Rattle.std.proofs.lemmas.List.Sums.{sum_by-cons}
 use Rattle.std.proofs.lemmas.Bool.{cases_eq}
 use Rattle.std.proofs.Common.{inl, inr}
@@ -42,12 +42,4 @@ live-append spans more j s is = record {
   known = omega (arith, length-append spans more, is.known);
   begins = is.begins ∙ sym (ap (sum_by length) (take-append-le j spans more (omega (arith, is.known))));
   extends = is.extends ∙ sym (ap length (get_or_append_left spans more [] j is.known));
-}
-
--- where spans are given back, those before them stay
-pub live-take : (spans : List (List ℕ)) (n j : ℕ) (s : Span) → j < n → IsSpan spans j s → IsSpan (take n spans) j s
-live-take spans n j s before is = record {
-  known = omega (arith, length-take n spans, is.known, before);
-  begins = is.begins ∙ sym (ap (sum_by length) (take-take j n spans (omega arith)));
-  extends = is.extends ∙ sym (ap length (get_or-take n spans j [] before));
 }
