@@ -6,7 +6,7 @@ use Rattle.pc_model.specs.Codes.{text_at}
 use Rattle.pc_text.specs.Number.{number_of}
 use Rattle.pc_model.specs.declared.limits.TheConstants.{MAX_COST, MAX_DIRECTED, MAX_DURATION, MAX_SLOPE, MAX_TERMS, MAX_UNIT_DAYS}
 use Rattle.pc_faults.specs.declared.kind.Kind.{Kind}
-use Rattle.pc_faults.specs.declared.kind.Kind.TheVariants.{Project, Terms, Act, Task, Piece, Acct, Charge, ToGo, Load}
+use Rattle.pc_faults.specs.declared.kind.Kind.TheVariants.{Project, Terms, Act, Piece, Acct, Charge, ToGo, Load}
 use Rattle.pc_deck.specs.Deck.{Deck, list_of}
 use Rattle.pc_deck.specs.Kinds.{CardOf, card_of, slots_of}
 use Rattle.pc_cards.specs.Forms.{AllFit, is_outside}
@@ -16,7 +16,6 @@ use Rattle.pc_deck.specs.Project.{project_kind, project_card}
 use Rattle.pc_deck.specs.Terms.{terms_kind, terms_card}
 use Rattle.pc_deck.specs.Act.{act_kind, act_card}
 use Rattle.pc_deck.specs.inside.Act.{IsActWithin}
-use Rattle.pc_deck.specs.Task.{task_kind, task_card}
 use Rattle.pc_deck.specs.Piece.{piece_kind, piece_card}
 use Rattle.pc_deck.specs.Acct.{account_kind, account_card}
 use Rattle.pc_deck.specs.Money.{charge_kind, money_card}
@@ -24,7 +23,6 @@ use Rattle.pc_deck.specs.Load.{load_kind, load_card}
 use Rattle.pc_deck.specs.Within.{IsFit, IsWithin}
 use Rattle.pc_deck.specs.declared.kinds.terms.TermsCard.{TermsCard}
 use Rattle.pc_cards.proofs.FitLemmas.{number_fits}
-use Rattle.pc_deck.specs.declared.kinds.task.TaskCard.{TaskCard}
 use Rattle.pc_deck.specs.declared.kinds.project.ProjectCard.{ProjectCard}
 use Rattle.pc_deck.specs.declared.kinds.piece.PieceCard.{PieceCard}
 use Rattle.pc_deck.specs.declared.kinds.money.MoneyCard.{MoneyCard}
@@ -56,16 +54,6 @@ pub record IsProjectWithin (project : ProjectCard) : Type 0 where
   pub directed_within : ForSome project.directed (λ days. days ≤ MAX_DIRECTED)
   pub version_some : 1 ≤ project.version
   pub version_within : project.version ≤ 2
-
--- the numbers of a task are within their limits
-pub record IsTaskWithin (task : TaskCard) : Type 0 where
-  pub opt : task.opt ≤ MAX_DURATION
-  pub likely : task.likely ≤ MAX_DURATION
-  pub pess : task.pess ≤ MAX_DURATION
-  pub normal : task.normal ≤ MAX_DURATION
-  pub crash : task.crash ≤ MAX_DURATION
-  pub cost : task.cost ≤ MAX_COST
-  pub slope : task.slope ≤ MAX_SLOPE
 
 -- the terms are within their limits
 pub record AreTermsWithin (terms : TermsCard) : Type 0 where
@@ -114,20 +102,6 @@ act_within row fields fit =
       slope = (number_fits 0 MAX_SLOPE (number_of (text_at fields 11)) from_11.1.0.0 from_11.1.0.1).1;
     }
 
-task_within : (row : ℕ) (fields : List (List ℕ)) → AllFit (task_kind.slots Plan) fields → IsTaskWithin (task_card row fields)
-task_within row fields fit =
-    let from_4 = fit.1.1 in
-    let from_9 = from_4.1.1.1.1.1 in
-    record {
-      opt = (number_fits 0 MAX_DURATION (number_of (text_at fields 3)) from_4.0.0 from_4.0.1).1;
-      likely = (number_fits 0 MAX_DURATION (number_of (text_at fields 4)) from_4.1.0.0 from_4.1.0.1).1;
-      pess = (number_fits 0 MAX_DURATION (number_of (text_at fields 5)) from_4.1.1.0.0 from_4.1.1.0.1).1;
-      normal = (number_fits 0 MAX_DURATION (number_of (text_at fields 6)) from_4.1.1.1.0.0 from_4.1.1.1.0.1).1;
-      crash = (number_fits 0 MAX_DURATION (number_of (text_at fields 7)) from_4.1.1.1.1.0.0 from_4.1.1.1.1.0.1).1;
-      cost = (number_fits 0 MAX_COST (number_of (text_at fields 8)) from_9.0.0 from_9.0.1).1;
-      slope = (number_fits 0 MAX_SLOPE (number_of (text_at fields 9)) from_9.1.0.0 from_9.1.0.1).1;
-    }
-
 piece_within : (row : ℕ) (fields : List (List ℕ)) → AllFit (piece_kind.slots Plan) fields → IsPieceWithin (piece_card row fields)
 piece_within row fields fit = record {
   some_units = (number_fits 1 MAX_DURATION (number_of (text_at fields 2)) fit.1.0.0 fit.1.0.1).0;
@@ -162,9 +136,6 @@ module _ {sort : Sort} (deck : Deck) (limits : IsWithin sort deck) where
 
   pub terms-within : ForSome deck.terms AreTermsWithin
   terms-within = for_some deck.terms (all_so Terms AreTermsWithin deck limits terms_within)
-
-  pub tasks-within : All IsTaskWithin deck.tasks
-  tasks-within = all_so Task IsTaskWithin deck limits task_within
 
   pub acts-within : All IsActWithin deck.acts
   acts-within = all_so Act IsActWithin deck limits act_within

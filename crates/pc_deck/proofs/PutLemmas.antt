@@ -14,11 +14,6 @@ use Rattle.pc_deck.specs.inside.Text.{lead_text, lists_text}
 pub put-none : (text : List ℕ) → text ≡ text ++ records_text []
 put-none text = sym (append-nil text)
 
--- one record, and then others
-pub put-one : (old new end : List ℕ) (row : List (List ℕ)) (more : List (List (List ℕ))) → new ≡ old ++ record_text row → end ≡ new ++ records_text more → end ≡ old ++ records_text (row ∷ more)
-put-one old new end row more is then =
-    then ∙ (ap (λ text. text ++ records_text more) is ∙ append_assoc old (record_text row) (records_text more))
-
 -- the records of these cards, and then others
 pub put-some : {C : Type 0} (row : C → List (List ℕ)) (got cards : List C) (old new end : List ℕ) (more : List (List (List ℕ))) → got ≡ cards
     → new ≡ old ++ records_text (map row got) → end ≡ new ++ records_text more → end ≡ old ++ records_text (map row cards ++ more)
