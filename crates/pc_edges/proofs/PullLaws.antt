@@ -51,18 +51,6 @@ module _ {X : Type 0} (left : X → Option (List ℕ)) (faults : X → ℕ) (pul
   CameIn-consumes (piece ∷ pieces) bytes a b p =
       subst (λ l. Consumes (left a) (left b) l) (sym (p.2)) (Consumes-trans _ _ _ piece (p.0) (p.4) (CameIn-consumes pieces (p.0) (p.1) b (p.7)))
 
-  -- there is at most one pull for each byte
-  pub CameIn-turns : (pieces : List (List ℕ)) (bytes : List ℕ) (a b : X) → CameIn left faults pulls pieces bytes a b → TakesPulls (length bytes) (pulls a) (pulls b)
-  CameIn-turns [] bytes a b p = subst (λ s. TakesPulls (length bytes) (pulls a) (pulls s)) (sym (p.1)) (TakesPulls-none (length bytes) (pulls a))
-  CameIn-turns (piece ∷ pieces) bytes a b p =
-      TakesPulls-more (1 + length (p.0)) (length bytes) (pulls a) (pulls b) (omega (arith, ap length (p.2), length-append piece (p.0), p.3))
-      (TakesPulls-then 1 (length (p.0)) (pulls a) (pulls (p.1)) (pulls b) (p.6) (CameIn-turns pieces (p.0) (p.1) b (p.7)))
-
-  -- no fault came with them
-  pub CameIn-no_fault : (pieces : List (List ℕ)) (bytes : List ℕ) (a b : X) → CameIn left faults pulls pieces bytes a b → faults b ≡ faults a
-  CameIn-no_fault [] bytes a b p = ap faults (p.1)
-  CameIn-no_fault (piece ∷ pieces) bytes a b p = CameIn-no_fault pieces (p.0) (p.1) b (p.7) ∙ p.5
-
 -- ---- where reading stops
 
 module _ {X : Type 0} (limit room : ℕ) (left : X → Option (List ℕ)) (faults : X → ℕ) (pulls : X → Option ℕ) where

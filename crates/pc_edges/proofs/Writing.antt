@@ -1,10 +1,8 @@
 -- What several writes to one sink leave, one after the other.
 --
 -- `Wrote` is where a writer stands after the calls so far; `?` leaves `Stopped`; both together are `Writes`.
-use Rattle.std.proofs.Common.{◌≡◌, ℕ, ◌+◌, ◌<◌, ◌≤◌, ◌⊎◌, inl, inr, zero, suc, List, [], ◌∷◌, ◌++◌, length, take, Option, Some}
-use Rattle.std.proofs.Common.{None, Result, Ok, Err, IsErr, refl, sym, ap, ◌∙◌, subst, arith, append_assoc, append-nil, add-one}
-use Rattle.std.proofs.lemmas.Bool.{false≢true}
-use Rattle.std.proofs.Math.Nat.{eq-or-lt_of_le}
+use Rattle.std.proofs.Common.{◌≡◌, ℕ, ◌+◌, ◌≤◌, zero, suc, List, [], ◌∷◌, ◌++◌, length, take, Option, Some}
+use Rattle.std.proofs.Common.{None, Result, Ok, Err, refl, sym, ap, ◌∙◌, subst, arith, append_assoc, add-one}
 use Rattle.std.proofs.Math.Seq.{take-append-add}
 use Rattle.std.proofs.lemmas.List.{take_all}
 use Rattle.std.proofs.KnownBytes.{Appends-nil, Appends-trans}
@@ -16,10 +14,6 @@ use Rattle.pc_edges.specs.inside.Writes.{Writes, Gathered}
 use Rattle.pc_edges.specs.Texts.{texts_to}
 
 -- ---- counts of faults
-
--- a count that rose and did not fall since
-pub Rose-later : (a b c : ℕ) → Rose a b → b ≤ c → Rose a c
-Rose-later a b c rose later = omega arith
 
 -- a count that did not fall and then rose
 pub Rose-earlier : (a b c : ℕ) → a ≤ b → Rose b c → Rose a c
@@ -66,20 +60,6 @@ Stopped-after {a = a} {c = c} {s = s} {u = u} {x = x} {y = y} p q = record {
 -- an exit by Ok
 pub Writes-ok : {A E : Type 0} {v : A} {a b : Option (List ℕ)} {s t : ℕ} {x : List ℕ} → Wrote a b s t x → Writes {A = A} {E = E} (Ok v) a b s t x
 Writes-ok {s = s} {t = t} p = record { ok = p; err = tt; count = omega (arith, p.no_fault) }
-
--- an exit by an error: the exit of a `?` has `r` and `is_err` as `c.from_residual.result` and `c.from_residual.ensures.0`
-pub Writes-err : {A E : Type 0} (r : Result A E) {a b : Option (List ℕ)} {s t : ℕ} {x : List ℕ} → IsErr r → s ≤ t → Stopped a b s t x → Writes r a b s t x
-Writes-err (Ok v) is_err count p = absurd (false≢true is_err)
-Writes-err (Err e) is_err count p = record { ok = tt; err = p; count = count }
-
--- the last call's answer is the answer
-pub Writes-last : {A E : Type 0} (r : Result A E) {a b c : Option (List ℕ)} {s t u : ℕ} {x y : List ℕ} → Wrote a b s t x → Writes r b c t u y → Writes r a c s u (x ++ y)
-Writes-last (Ok v) p q = Writes-ok (Wrote-then p q.ok)
-Writes-last (Err e) p q = record { ok = tt; err = Stopped-after p q.err; count = omega (arith, p.no_fault, q.count) }
-
--- the same, where the text has a name
-pub Writes-as : {A E : Type 0} (r : Result A E) {a b : Option (List ℕ)} {s t : ℕ} {x : List ℕ} (text : List ℕ) → x ≡ text → Writes r a b s t x → Writes r a b s t text
-Writes-as r {a = a} {b = b} {s = s} {t = t} text e w = subst (Writes r a b s t) e w
 
 -- ---- a flush behind a text
 
@@ -145,17 +125,3 @@ Stopped-next {p = p} y g h = Stopped-gathered (Gathered-more y (p ++ y) refl g) 
 -- the lines below i + 1
 pub texts_to-more : (i : ℕ) (f : ℕ → List ℕ) → texts_to (i + 1) f ≡ texts_to i f ++ f i
 texts_to-more i f = rw add-one refl
-
--- below n + 1 is n or below n
-last_or_below : (n i : ℕ) → i < suc n → (i ≡ n) ⊎ (i < n)
-last_or_below n i below = eq-or-lt_of_le (omega (arith, below))
-
--- the lines below i, the line i, and the others
-pub texts_to-split : (n i : ℕ) (f : ℕ → List ℕ) → i < n → (rest : List ℕ) × (texts_to n f ≡ texts_to i f ++ (f i ++ rest))
-texts_to-split zero i f below = absurd (omega (arith, below))
-texts_to-split (suc n) i f below =
-    elim (last_or_below n i below) [
-      | inl here ↦ ([], ap (λ k. texts_to n f ++ f k) (sym here) ∙ ap (λ k. texts_to k f ++ f i) (sym here) ∙ ap (λ l. texts_to i f ++ l) (sym (append-nil (f i))))
-      | inr before ↦ (let r = texts_to-split n i f before in
-          (r.0 ++ f n, ap (λ l. l ++ f n) r.1 ∙ append_assoc (texts_to i f) (f i ++ r.0) (f n) ∙ ap (λ l. texts_to i f ++ l) (append_assoc (f i) r.0 (f n))))
-    ]

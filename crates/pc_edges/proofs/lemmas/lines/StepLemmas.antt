@@ -263,9 +263,6 @@ passes {lines = lines} {bytes = bytes} u nothing long =
 pub left-of_all : {old new : Reading} → TookAll old new → bytes_left new ≤ bytes_left old
 left-of_all {old} {new} took = omega (arith, took.same, ap length took.nothing)
 
-pub left-of_line : {old new : Reading} (front : List ℕ) → TookLine old new front → bytes_left new < bytes_left old
-left-of_line {old} {new} front took = omega (arith, took.same, ap length took.split, length-append front (10 ∷ new.ahead))
-
 pub left-filled : {old new : Reading} {left left_after : Option (List ℕ)} (count : ℕ) → IsFilled old new left left_after count → old.ahead ≡ [] → bytes_left new ≤ bytes_left old
 left-filled {old} {new} count f nothing =
     omega (arith, f.counted, f.length_is, ap length f.ahead, length-take (INPUT_LIMIT - old.taken) f.more, ap length nothing)
