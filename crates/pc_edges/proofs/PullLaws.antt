@@ -1,5 +1,5 @@
 -- How pulls from a source are counted, and what follows from where reading stops.
-use Rattle.std.proofs.Common.{◌≡◌, ℕ, ◌+◌, ◌<◌, ◌≤◌, List, [], ◌∷◌, ◌++◌, length, length-append, append_assoc, append-nil, Option, Some, None, refl, sym, ap, ◌∙◌, subst, arith}
+use Rattle.std.proofs.Common.{◌≡◌, ℕ, ◌+◌, ◌<◌, ◌≤◌, List, [], ◌∷◌, ◌++◌, length, append_assoc, append-nil, Option, Some, None, refl, sym, ap, ◌∙◌, subst, arith}
 use Rattle.std.specs.Io.KnownBytes.{Consumes}
 use Rattle.std.proofs.KnownBytes.{Consumes-nil, Consumes-trans}
 use Rattle.pc_edges.specs.Pulls.{TakesPulls, CameIn, IsReadWithin}
@@ -67,22 +67,3 @@ module _ {X : Type 0} (limit room : ℕ) (left : X → Option (List ℕ)) (fault
     short = omega arith;
     once = TakesPulls-none 1 (pulls a);
   }
-
-  module _ (old new : X) (is : IsReadWithin limit room left faults pulls old new) where
-    -- there is at most one pull for each byte within the limit, and one more
-    pub IsReadWithin_turns : TakesPulls (limit + 1) (pulls old) (pulls new)
-    IsReadWithin_turns =
-        TakesPulls-more (length is.front + 1) (limit + 1) (pulls old) (pulls new) (omega (arith, is.within))
-        (TakesPulls-then (length is.front) 1 (pulls old) (pulls is.before) (pulls new) (CameIn-turns left faults pulls is.pieces is.front old is.before is.came) is.once)
-
-    -- at most the bytes of one pull are taken past the limit
-    pub IsReadWithin_near : (bytes : List ℕ) × Consumes (left old) (left new) bytes × (length bytes ≤ limit + room)
-    IsReadWithin_near = (
-      is.front ++ is.last,
-      Consumes-trans _ _ _ _ _ (CameIn-consumes left faults pulls is.pieces is.front old is.before is.came) is.pulled,
-      omega (arith, length-append is.front is.last, is.within, is.short),
-    )
-
-    -- no fault came before the last pull
-    pub IsReadWithin_no_fault : faults is.before ≡ faults old
-    IsReadWithin_no_fault = CameIn-no_fault left faults pulls is.pieces is.front old is.before is.came
