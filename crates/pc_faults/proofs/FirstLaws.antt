@@ -6,10 +6,6 @@ use Rattle.pc_faults.specs.First.{IsFirstFault, IsNoLater}
 use Rattle.pc_faults.specs.declared.fault.Fault.{Fault}
 use Rattle.pc_faults.specs.inside.First.{IsFirstIn, earliest, is_no_later}
 
--- the test in numbers: record and number of one fault and of another
-comes_first : ℕ → ℕ → ℕ → ℕ → Bool
-comes_first row number other_row other = nat_lt row other_row || (row == other_row && nat_le number other)
-
 first_by_test : (r n s m : ℕ) → (nat_lt r s || (r == s && nat_le n m)) ≡ true → (r < s) ⊎ ((r ≡ s) × (n ≤ m))
 first_by_test r n s m h =
     elim (cases_order r s) [
