@@ -1,11 +1,10 @@
 -- The first status in disorder, and statuses in order.
-use Rattle.std.proofs.Common.{◌≡◌, ◌<◌, ℕ, List, length, Option, None, Some, refl, sym, ap, ◌∙◌, subst, inl, inr, ◌⊎◌, arith}
-use Rattle.std.specs.Prelude.{ℤ, ◌<ℤ◌, ◌≤ℤ◌, IfSome, IfNone, option_map}
+use Rattle.std.proofs.Common.{◌≡◌, ◌<◌, ℕ, List, length, Option, None, Some, refl, subst, inl, inr, ◌⊎◌, arith}
+use Rattle.std.specs.Prelude.{ℤ, ◌≤ℤ◌, IfSome, IfNone, option_map}
 use Rattle.std.proofs.lemmas.Int.{by_lt_z, ints}
 use Rattle.pc_deck.specs.Deck.{Deck}
 use Rattle.pc_deck.specs.declared.kinds.as_of.AsOfCard.{AsOfCard}
 use Rattle.pc_faults.specs.Faults.{disorder}
-use Rattle.pc_faults.specs.First.{IsFirstFault}
 use Rattle.pc_faults.specs.declared.fault.Fault.{Fault}
 use Rattle.pc_faults.specs.declared.fault.StatusFault.{StatusFault}
 use Rattle.pc_faults.specs.declared.fault.StatusFault.TheVariants.{Second, Early, Late, NoStart, FinishFirst}
@@ -103,13 +102,3 @@ pub first_of_disorder : (deck : Deck) (as_of statuses : Option Fault) → IsFirs
     IsFirstIn (HasStatusDisorder deck) statuses → IsFirstIn (HasDisorder deck) (earliest as_of statuses)
 first_of_disorder deck as_of statuses a s =
     earliest-first (IsEarlyAsOf deck) (HasStatusDisorder deck) (HasDisorder deck) (λ f h. of_as_of h) (λ f h. of_status h) (into deck) as_of statuses a s
-
--- an ASOF card before the start is the first fault of as-of
-pub first_early : (deck : Deck) (card : AsOfCard) (fault : Fault) → deck.as_of ≡ Some card → card.day <ℤ deck.project.start_day → fault ≡ disorder card.row Early →
-    IsFirstFault (IsEarlyAsOf deck) fault
-first_early deck card fault there early is = record {
-  holds = (card, (there, early, is));
-  least = λ other h.
-      let same : h.0 ≡ card = let both : Some h.0 ≡ Some card = sym h.1.0 ∙ there in cc in
-      no_later fault other (disorder h.0.row Early) h.1.2 (ap (λ (f : Fault). f.row) is ∙ sym (ap (λ (c : AsOfCard). c.row) same)) (omega (arith, ap (λ (f : Fault). f.number) is));
-}

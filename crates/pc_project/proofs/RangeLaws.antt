@@ -1,5 +1,5 @@
 -- The items of a loop and the activities of a cycle are among those that there are.
-use Rattle.std.proofs.Common.{◌≡◌, ℕ, zero, suc, ◌+◌, ◌<◌, List, [], ◌∷◌, length, refl, add-one, arith}
+use Rattle.std.proofs.Common.{◌≡◌, ℕ, zero, suc, ◌+◌, ◌<◌, List, [], ◌∷◌, length, add-one, arith}
 use Rattle.std.specs.Prelude.{All, slice_index}
 use Rattle.std.proofs.lemmas.List.{length-map}
 use Rattle.std.proofs.lemmas.List.Elements.{All-from_get_or}
@@ -44,8 +44,3 @@ pub cycle_of-known : (deck : Deck) (walk : List ℕ) → IsCycle (network_of dec
 cycle_of-known deck walk is =
     All-from_get_or (λ act. act < length deck.acts) walk 0
     (λ k below. omega (arith, length-map deck.acts (arc_of deck), walk_known (network_of deck).arcs is.1.0 is.1.0 walk is.1.1 k below))
-
--- a cycle has some activity
-pub cycle-some : (arcs : List Arc) (walk : List ℕ) → IsCycle arcs walk → 0 < length walk
-cycle-some arcs [] is = absurd (is.0 refl)
-cycle-some arcs (a ∷ walk) is = omega arith
