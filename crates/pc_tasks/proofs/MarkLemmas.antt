@@ -1,20 +1,16 @@
 -- Marks of tasks, and the numbers without one.
 use Rattle.std.proofs.Common.{◌≡◌, ℕ, ◌+◌, ◌<◌, ◌==◌, ◌||◌, Bool, true, false, cond, List, [], ◌∷◌, ◌++◌, length, get_or, set, take, refl, sym, ◌∙◌, ap, subst, ⊎_elim, arith}
-use Rattle.std.specs.Prelude.{All, filter, not, replicate}
+use Rattle.std.specs.Prelude.{All, filter, not}
 use Rattle.std.specs.List.{range_with_len}
 use Rattle.std.proofs.lemmas.Bool.{cases_eq}
 use Rattle.std.proofs.lemmas.Bool.Decides.{nat_tests}
-use Rattle.std.proofs.lemmas.List.{append-nil, get_or-replicate, get_or-set_other, get_or-set_same, length-replicate, length-set, map-id}
+use Rattle.std.proofs.lemmas.List.{append-nil, get_or-set_other, get_or-set_same, length-set, map-id}
 use Rattle.std.proofs.lemmas.List.Elements.{All-from_get_or, All-head, All-tail}
 use Rattle.std.proofs.lemmas.List.Folds.{list_any_more}
 use Rattle.std.proofs.lemmas.List.FromFn.{filter_of_map_range_with_len_more, get_or-range_with_len, length-range_with_len}
 use Rattle.pc_tasks.specs.network.Arrows.{comes_after, comes_before}
 use Rattle.pc_tasks.specs.declared.network.AfterRow.{AfterRow}
 use Rattle.pc_tasks.specs.inside.Marks.{AreMarks}
-
--- no mark is set at first
-pub no_marks : (n : ℕ) → AreMarks n (λ i. false) (replicate n false)
-no_marks n = record { one_each = length-replicate n false; each = λ i inside. get_or-replicate n i false false inside }
 
 or_true : (b : Bool) → (b || true) ≡ true
 or_true true = refl
