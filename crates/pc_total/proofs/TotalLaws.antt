@@ -100,10 +100,6 @@ module _ (terms : TimeTerms) where
           (λ found. none (found.0 + weight longer, record { direct = found.0; least = found.1; adds = refl }));
     }
 
-    -- a total as such a sum
-    abbrev weight_in : {limit : ℕ} {total : ℤ} → IsTotal curve terms limit total → ℕ
-    weight_in {limit} total = total.direct + weight limit
-
     weighs : (limit : ℕ) (total : ℤ) (of : IsTotal curve terms limit total) → Weighs limit (of.direct + weight limit)
     weighs limit total of = record { direct = of.direct; least = of.least; adds = refl }
 
