@@ -179,7 +179,7 @@ told_of-refused deck fault (of_pieces plan figures first) = told_of-piece deck f
 told_of-refused deck fault (of_terms plan figures pieces first) = told_of-terms deck fault first.holds
 
 -- an error that a `?` hands on has what it had
-pub handed_on : {T : Type 0} (P : DeckError → Type 0) (result : Result T DeckError) (error : DeckError) → IsErrAnd result (λ e. e ≡ error) → P error → IfErr result P
+pub handed_on : {T E : Type 0} (P : E → Type 0) (result : Result T E) (error : E) → IsErrAnd result (λ e. e ≡ error) → P error → IfErr result P
 handed_on P (Ok value) error is has = tt
 handed_on P (Err e) error is has = subst P (sym is) has
 
