@@ -37,13 +37,13 @@ impl<'a> Rows for OutlookRows<'a> {
     }
 }
 
-fn put_amounts<O: Sink>(
+fn put_amounts<'r, O: Sink>(
     page: &mut Page,
     sink: &mut O,
-    code: &Code,
+    code: &'r Code,
     level: u32,
     amounts: &OutlookAmounts,
-    title: &Title,
+    title: &'r Title,
 )
     ensures { Puts O.taken O.faults page.old sink.old page.new sink.new
         (outlook_cells code.now level amounts.now title.now) }

@@ -60,13 +60,13 @@ impl<'a> Rows for LevelRows<'a> {
     }
 }
 
-fn put_item<O: Sink>(
+fn put_item<'r, O: Sink>(
     page: &mut Page,
     sink: &mut O,
-    code: &Code,
+    code: &'r Code,
     level: u32,
     amounts: &SummaryAmounts,
-    title: &Title,
+    title: &'r Title,
 )
     ensures { Puts O.taken O.faults page.old sink.old page.new sink.new
         (item_cells code.now level amounts.now title.now) }

@@ -11,7 +11,7 @@ use crate::report::{Report, write_report};
 use crate::times::late_to_meet;
 use crate::times_rows::{put_activities, put_events, put_path};
 use crate::view::{Reported, TimesView};
-use pc_edges::page::Page;
+use pc_edges::page::{Page, put_code};
 use pc_edges::{Failed, Sink};
 use pc_project::Project;
 use pc_times::{Longest, longest};

@@ -85,13 +85,13 @@ pub(crate) fn put_path<O: Sink, V: TimesView>(
     put_number(page, sink, b"VARIANCE ", variance);
 }
 
-fn put_event<O: Sink>(
+fn put_event<'r, O: Sink>(
     page: &mut Page,
     sink: &mut O,
-    code: &Code,
+    code: &'r Code,
     early: u64,
     late: i64,
-    date: &[u8; DATE_LENGTH],
+    date: &'r [u8; DATE_LENGTH],
 )
     requires early { early < 2 ^ 40 }
     requires late { unsigned_abs late < 2 ^ 40 }

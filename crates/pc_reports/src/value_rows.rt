@@ -70,13 +70,13 @@ impl<'a> Rows for WorthRows<'a> {
     }
 }
 
-fn put_forecast<O: Sink>(
+fn put_forecast<'r, O: Sink>(
     page: &mut Page,
     sink: &mut O,
-    code: &Code,
+    code: &'r Code,
     time: u64,
     late: i64,
-    date: &[u8; 10],
+    date: &'r [u8; 10],
 )
     requires time { time < 2 ^ 40 }
     requires late { unsigned_abs late ≤ MAX_TIME }
@@ -91,14 +91,14 @@ fn put_forecast<O: Sink>(
     put_row(page, sink, &cells);
 }
 
-fn put_worth<O: Sink>(
+fn put_worth<'r, O: Sink>(
     page: &mut Page,
     sink: &mut O,
-    code: &Code,
+    code: &'r Code,
     level: u32,
     amounts: &WorthAmounts,
     slack: Option<i64>,
-    title: &Title,
+    title: &'r Title,
 )
     ensures { Puts O.taken O.faults page.old sink.old page.new sink.new
         (worth_cells code.now level amounts.now slack title.now) }

@@ -1,4 +1,4 @@
-use Rattle.std.proofs.Common.{codes, ap}
+use Rattle.std.proofs.Common.{ap}
 use Rattle.pc_edges.proofs.lemmas.page.PageLaws.{◌⨾◌, Adds-as}
 use Rattle.pc_load.specs.LoadText.{head_line, load_text}
 use Rattle.pc_load.proofs.text.put_load.Goals as goal

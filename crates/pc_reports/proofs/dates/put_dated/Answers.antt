@@ -1,4 +1,3 @@
-use Rattle.std.proofs.Common.{ap}
 use Rattle.pc_edges.specs.page.Lines.{pair_line}
 use Rattle.pc_edges.proofs.lemmas.page.PageLaws.{Adds-as}
 use Rattle.pc_reports.proofs.dates.put_dated.Goals as goal
