@@ -9,9 +9,9 @@ ghost use Rattle.pc_flow.specs.search.Labelling.{slopes_in};
 ghost use Rattle.pc_flow.specs.Courses.{IsLevel, lower_of};
 ghost use Rattle.pc_flow.specs.inside.Courses.{IsOnCurve};
 
+use crate::board::Board;
 use crate::early::MAX_LENGTH;
 use crate::opening::open_board;
-use crate::search::Search;
 use pc_cells::Region;
 use pc_crash::CrashNet;
 use std::marker::Model;
@@ -27,7 +27,8 @@ use std::marker::Model;
 ///
 /// Kelley 1961; Fulkerson 1961.
 pub struct Solver<'n> {
-    pub(crate) search: Search<'n>,
+    pub(crate) net: &'n CrashNet<'n>,
+    pub(crate) board: Board,
     pub(crate) longest: u64,
     pub(crate) shortest: u64,
     pub(crate) cost: u64,
@@ -40,7 +41,8 @@ impl<'n> Drop for Solver<'n> {
     // Written by hand so that the proof of dropping it is done once, here.
     fn drop(self) {
         let Solver {
-            search: _search,
+            net: _net,
+            board: _board,
             longest: _longest,
             shortest: _shortest,
             cost: _cost,
@@ -118,10 +120,8 @@ impl<'n> Solver<'n> {
         let _order = net.net().order();
         let opening = open_board(region, net);
         Solver {
-            search: Search {
-                net,
-                board: opening.board,
-            },
+            net,
+            board: opening.board,
             longest: opening.longest,
             shortest: opening.shortest,
             cost: normal_cost(net),
@@ -135,7 +135,7 @@ impl<'n> Solver<'n> {
     pub fn net(&self) -> &'n CrashNet<'n>
         ensures { result.now ≡ self.now.net }
     {
-        self.search.net
+        self.net
     }
 
     /// Returns the all-normal length, in units: how long the project takes if each activity has its normal duration.
@@ -172,7 +172,8 @@ impl<'n> Solver<'n> {
         ensures { result ≡ self.entry.board.home }
     {
         let Solver {
-            search,
+            net: _net,
+            board,
             longest: _longest,
             shortest: _shortest,
             cost: _cost,
@@ -180,7 +181,7 @@ impl<'n> Solver<'n> {
             fall: _fall,
             given: _given,
         } = self;
-        search.board.close()
+        board.close()
     }
 }
 

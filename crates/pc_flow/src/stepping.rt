@@ -8,9 +8,10 @@ ghost use Rattle.pc_flow.specs.Courses.{IsSameCurve, IsFurther, most_looks};
 ghost use Rattle.pc_flow.specs.inside.Courses.{IsNext, HasEnded};
 ghost use Rattle.pc_flow.specs.inside.Descents.{HasDescended, HasSearched};
 
-use crate::search::{Labelling, Search};
+use crate::board::Board;
+use crate::search::Labelling;
 use crate::solver::Solver;
-use pc_crash::{SegmentView, Steps};
+use pc_crash::{CrashNet, SegmentView, Steps};
 use std::sync::ledger::Ledger;
 
 impl<'n> Solver<'n> {
@@ -28,8 +29,8 @@ impl<'n> Solver<'n> {
         if self.has_ended() {
             return false;
         }
-        descend(&mut self.search, self.fall);
-        let labelling = search_on(&mut self.search, self.shortest, steps);
+        descend(&mut self.board, self.net, self.fall);
+        let labelling = search_on(&mut self.board, self.net, self.shortest, steps);
         self.cost += self.slope * self.fall;
         self.slope += labelling.rise;
         self.fall = labelling.fall;
@@ -46,31 +47,36 @@ impl<'n> Solver<'n> {
 }
 
 // Has the events without a label fall to the lower end of the present segment, if it has one.
-fn descend(search: &mut Search<'_>, fall: u64)
-    requires between { IsBetween search.old.net.now search.old.board }
-    requires listed { AreListed search.old.net.now search.old.board }
-    requires falls { 0 < fall → MayFall search.old.net.now search.old.board fall }
-    ensures net { search.new.net.now ≡ search.old.net.now }
-    ensures descended { HasDescended search.old.net.now search.old.board search.new.board fall }
+fn descend(board: &mut Board, net: &CrashNet<'_>, fall: u64)
+    requires between { IsBetween net.now board.old }
+    requires listed { AreListed net.now board.old }
+    requires falls { 0 < fall → MayFall net.now board.old fall }
+    ensures descended { HasDescended net.now board.old board.new fall }
 {
     if fall > 0 {
-        search.fall(fall);
+        // The network is priced, so that no time falls below 0.
+        let _net = net.net();
+        board.fall(fall);
     }
 }
 
 // Raises the flow and seeks the next fall, where the length is above the all-crash length.
-fn search_on<L: Ledger>(search: &mut Search<'_>, shortest: u64, steps: &mut Steps<L>) -> Labelling
-    requires between { IsBetween search.old.net.now search.old.board }
-    requires listed { AreListed search.old.net.now search.old.board }
-    requires shortest { IsAllCrashLength search.old.net.now.network search.old.net.now.terms shortest }
-    ensures net { search.new.net.now ≡ search.old.net.now }
-    ensures counted { steps.new ≤ steps.old + 4 * length search.old.net.now.network.arcs * (result.rise + result.fall) }
-    ensures searched { HasSearched search.old.net.now search.old.board search.new.board shortest result.rise
+fn search_on<L: Ledger>(
+    board: &mut Board,
+    net: &CrashNet<'_>,
+    shortest: u64,
+    steps: &mut Steps<L>,
+) -> Labelling
+    requires between { IsBetween net.now board.old }
+    requires listed { AreListed net.now board.old }
+    requires shortest { IsAllCrashLength net.now.network net.now.terms shortest }
+    ensures counted { steps.new ≤ steps.old + 4 * length net.now.network.arcs * (result.rise + result.fall) }
+    ensures searched { HasSearched net.now board.old board.new shortest result.rise
         result.fall }
 {
-    let end = search.net.net().end();
-    if search.board.time(end) > shortest {
-        search.label(steps)
+    let end = net.net().end();
+    if board.time(end) > shortest {
+        board.label(net, steps)
     } else {
         Labelling { rise: 0, fall: 0 }
     }

@@ -16,7 +16,7 @@ impl<'n> SegmentView for Solver<'n> {
     ghost segment = { present };
 
     fn upper(&self) -> u64 {
-        self.search.board.time(self.search.net.net().end())
+        self.board.time(self.net.net().end())
     }
 
     fn lower(&self) -> u64 {
@@ -32,23 +32,23 @@ impl<'n> SegmentView for Solver<'n> {
     }
 
     fn time(&self, e: u32) -> u64 {
-        self.search.board.time(e)
+        self.board.time(e)
     }
 
     fn moves(&self, e: u32) -> bool {
-        self.fall > 0 && self.search.board.rank(e) == 0
+        self.fall > 0 && self.board.rank(e) == 0
     }
 
     fn duration(&self, a: u32) -> u64 {
-        let net = self.search.net;
+        let net = self.net;
         let begins = self.time(net.net().from(a));
         let ends = self.time(net.net().to(a));
         net.term(a).normal.min(ends - begins)
     }
 
     fn flow(&self, a: u32, k: u32) -> u64 {
-        let knees = self.search.net.knees(a);
-        let flow = self.search.board.flow(a);
+        let knees = self.net.knees(a);
+        let flow = self.board.flow(a);
         if k < knees.len() {
             flow_at(knees.as_slice(), flow, k as usize)
         } else {
@@ -69,6 +69,6 @@ impl<'n> Solver<'n> {
         ensures beside { (present self.now).beside a
             ≡ crash_flow (stair_of self.now.net.terms (knees_in self.now.net) a) result }
     {
-        self.search.board.flow(a)
+        self.board.flow(a)
     }
 }

@@ -8,7 +8,7 @@ use crate::small::{small_net, small_priced};
 use pc_cells::Region;
 use pc_crash::{CrashNet, Steps};
 use pc_flow::board::Board;
-use pc_flow::search::{Search, Way};
+use pc_flow::search::Way;
 use std::alloc::{AllocError, Global};
 use std::marker::Brand;
 use std::sync::ledger::{Blank, Ledger};
@@ -28,9 +28,8 @@ fn ways<L: Ledger>(
     let _shape = net.net();
     let mut board = Board::new(Region::with_cells(alloc, 42)?, 3, 3);
     board.start_at(0);
-    let search = Search { net, board };
     let (first, second) = (net.look(0, &mut steps), net.look(1, &mut steps));
-    Ok([search.way(0, &first), search.way(1, &second)])
+    Ok([board.way(net, 0, &first), board.way(net, 1, &second)])
 }
 
 fn small_ways(alloc: Global) -> Option<[Option<Way>; 2]> {

@@ -6,8 +6,8 @@ use Rattle.pc_flow.specs.inside.Courses.{IsOnCourse}
 -- the course of the fields
 abbrev pub course_of : Inside → Course
 course_of s = record {
-  net = s.search.net.now;
-  board = s.search.board;
+  net = s.net.now;
+  board = s.board;
   longest = s.longest;
   shortest = s.shortest;
   cost = s.cost;

@@ -12,8 +12,8 @@ ghost use Rattle.pc_flow.specs.inside.search.Labelling.{
   slope_at,
 };
 
-use crate::search::search::Search;
-use pc_crash::Steps;
+use crate::board::Board;
+use pc_crash::{CrashNet, Steps};
 use std::sync::ledger::Ledger;
 
 /// The result of a labelling: by how much the flow was raised, and by how much the events without a label can move.
@@ -23,7 +23,7 @@ pub struct Labelling {
     pub fall: u64,
 }
 
-impl<'n> Search<'n> {
+impl Board {
     /// Augments the flow until no steps with residual capacity lead to the end, and returns by how much, and by how
     /// much the events without a label can move then. At most four looks for each activity, and four more for each unit
     /// of the augmentation.
@@ -31,55 +31,52 @@ impl<'n> Search<'n> {
     /// # Source
     ///
     /// Fulkerson 1961.
-    pub fn label<L: Ledger>(&mut self, steps: &mut Steps<L>) -> Labelling
-        requires between { IsBetween self.old.net.now self.old.board }
-        requires above { IsAboveAllCrash self.old.net.now self.old.board }
-        requires listed { AreListed self.old.net.now self.old.board }
-        ensures net { self.new.net.now ≡ self.old.net.now }
-        ensures counted { steps.new ≤ steps.old + 4 * length self.old.net.now.network.arcs * (1 + result.rise) }
-        ensures labelled { HasLabelled self.old.net.now self.old.board self.new.board result.rise result.fall }
+    pub fn label<L: Ledger>(&mut self, net: &CrashNet<'_>, steps: &mut Steps<L>) -> Labelling
+        requires between { IsBetween net.now self.old }
+        requires above { IsAboveAllCrash net.now self.old }
+        requires listed { AreListed net.now self.old }
+        ensures counted { steps.new ≤ steps.old + 4 * length net.now.network.arcs * (1 + result.rise) }
+        ensures labelled { HasLabelled net.now self.old self.new result.rise result.fall }
     {
         // The network is priced, so that some activity stops before the length is 0.
-        let _net = self.net.net();
-        self.settle(steps);
-        self.grow(steps);
-        let rise = self.raise_all(steps);
-        let fall = self.choose(steps);
+        let _net = net.net();
+        self.settle(net, steps);
+        self.grow(net, steps);
+        let rise = self.raise_all(net, steps);
+        let fall = self.choose(net, steps);
         Labelling { rise, fall }
     }
 
     // Raises the flow until the end has no label, and says by how much in all.
-    fn raise_all<L: Ledger>(&mut self, steps: &mut Steps<L>) -> u64
-        requires under_way { IsUnderWay self.old.net.now self.old.board }
-        ensures net { self.new.net.now ≡ self.old.net.now }
-        ensures counted { steps.new ≤ steps.old + 4 * length self.old.net.now.network.arcs * result }
-        ensures rises { Rises self.old.net.now self.old.board self.new.board result }
-        ensures under_way { IsUnderWay self.old.net.now self.new.board }
-        ensures unreached { rank_of self.new.board self.old.net.now.network.end ≡ 0 }
+    fn raise_all<L: Ledger>(&mut self, net: &CrashNet<'_>, steps: &mut Steps<L>) -> u64
+        requires under_way { IsUnderWay net.now self.old }
+        ensures counted { steps.new ≤ steps.old + 4 * length net.now.network.arcs * result }
+        ensures rises { Rises net.now self.old self.new result }
+        ensures under_way { IsUnderWay net.now self.new }
+        ensures unreached { rank_of self.new net.now.network.end ≡ 0 }
     {
-        let end = self.net.net().end();
+        let end = net.net().end();
         let mut rise = 0;
-        while self.board.rank(end) > 0 {
-            rise += self.raise_once(steps);
+        while self.rank(end) > 0 {
+            rise += self.raise_once(net, steps);
         }
         rise
     }
 
     // Raises the flow along the steps that led to the end, and labels events again. At most four looks for each
     // activity.
-    fn raise_once<L: Ledger>(&mut self, steps: &mut Steps<L>) -> u64
-        requires under_way { IsUnderWay self.old.net.now self.old.board }
-        requires reached { 0 < rank_of self.old.board self.old.net.now.network.end }
-        ensures net { self.new.net.now ≡ self.old.net.now }
-        ensures counted { steps.new ≤ steps.old + 4 * length self.old.net.now.network.arcs }
+    fn raise_once<L: Ledger>(&mut self, net: &CrashNet<'_>, steps: &mut Steps<L>) -> u64
+        requires under_way { IsUnderWay net.now self.old }
+        requires reached { 0 < rank_of self.old net.now.network.end }
+        ensures counted { steps.new ≤ steps.old + 4 * length net.now.network.arcs }
         ensures some { 0 < result }
-        ensures rises { Rises self.old.net.now self.old.board self.new.board result }
-        ensures under_way { IsUnderWay self.old.net.now self.new.board }
-        ensures bounded { slope_at self.old.net.now self.new.board ≤ slopes_in self.old.net.now }
+        ensures rises { Rises net.now self.old self.new result }
+        ensures under_way { IsUnderWay net.now self.new }
+        ensures bounded { slope_at net.now self.new ≤ slopes_in net.now }
     {
-        let raised = self.raise();
-        self.look_again(raised.standing, steps);
-        self.grow(steps);
+        let raised = self.augment(net);
+        self.look_again(net, raised.standing, steps);
+        self.grow(net, steps);
         raised.by
     }
 }

@@ -3,15 +3,12 @@
 
 mod again;
 mod choosing;
-mod falling;
 mod growing;
 mod labelling;
 mod raising;
-mod search;
 mod seeking;
 mod visiting;
 mod way;
 
 pub use labelling::Labelling;
-pub use search::Search;
 pub use way::Way;

@@ -9,63 +9,61 @@ ghost use Rattle.pc_flow.specs.inside.search.Rooms.{IsRoom, IsMeasured};
 ghost use Rattle.pc_flow.specs.inside.search.Growing.{AreSettled};
 ghost use Rattle.pc_flow.specs.inside.search.Labelling.{IsBetween, IsAboveAllCrash, HasRaised};
 
-use crate::board::Augmentation;
+use crate::board::{Augmentation, Board};
 use crate::lengths::renew_step;
-use crate::search::search::Search;
 use crate::stair::{room_against, room_along};
+use pc_crash::CrashNet;
 
-impl<'n> Search<'n> {
+impl Board {
     /// Augments the flow along the steps that led to the end, as far as they have residual capacity. It measures their
     /// residual capacities first, and then renews what is kept of their activities. No look.
-    pub fn raise(&mut self) -> Augmentation
-        requires between { IsBetween self.old.net.now self.old.board }
-        requires above { IsAboveAllCrash self.old.net.now self.old.board }
-        requires settled { AreSettled self.old.net.now self.old.board }
-        requires reached { 0 < rank_of self.old.board self.old.net.now.network.end }
-        ensures net { self.new.net.now ≡ self.old.net.now }
-        ensures raised { HasRaised self.old.net.now self.old.board self.new.board result.by }
-        ensures stand { StandFirst self.new.board result.standing }
+    pub fn augment(&mut self, net: &CrashNet<'_>) -> Augmentation
+        requires between { IsBetween net.now self.old }
+        requires above { IsAboveAllCrash net.now self.old }
+        requires settled { AreSettled net.now self.old }
+        requires reached { 0 < rank_of self.old net.now.network.end }
+        ensures raised { HasRaised net.now self.old self.new result.by }
+        ensures stand { StandFirst self.new result.standing }
     {
-        let net = self.net.net();
+        let shape = net.net();
         // With an order of the events, no activity has more flow than the value.
-        let _order = net.order();
-        let end = net.end();
-        self.measure_back(end);
-        let raised = self.board.raise(end);
-        self.renew_back(end);
+        let _order = shape.order();
+        let end = shape.end();
+        self.measure_back(net, end);
+        let raised = self.raise(end);
+        self.renew_back(net, end);
         raised
     }
 
     // Measures the residual capacities of all steps that led to an event.
-    fn measure_back(&mut self, end: u32)
-        requires known { end < self.old.board.events }
-        requires search { IsSearch self.old.net.now self.old.board }
-        requires room { HaveRoom self.old.board }
-        ensures net { self.new.net.now ≡ self.old.net.now }
-        ensures measured { IsMeasured self.old.net.now self.old.board self.new.board }
+    fn measure_back(&mut self, net: &CrashNet<'_>, end: u32)
+        requires known { end < self.old.events }
+        requires search { IsSearch net.now self.old }
+        requires room { HaveRoom self.old }
+        ensures measured { IsMeasured net.now self.old self.new }
     {
         let mut e = end;
-        while self.board.rank(e) > 1 {
-            let room = self.room_of_step(e);
-            self.board.set_room(e, room);
-            e = self.board.near(e);
+        while self.rank(e) > 1 {
+            let room = self.room_of_step(net, e);
+            self.set_room(e, room);
+            e = self.near(e);
         }
     }
 
     // How many units more the step of an event can take.
-    fn room_of_step(&self, e: u32) -> u64
-        requires known { e < self.now.board.events }
-        requires has { HasStep self.now.board e }
-        requires search { IsSearch self.now.net.now self.now.board }
-        requires room { HaveRoom self.now.board }
-        ensures { IsRoom self.now.net.now self.now.board e result }
+    fn room_of_step(&self, net: &CrashNet<'_>, e: u32) -> u64
+        requires known { e < self.now.events }
+        requires has { HasStep self.now e }
+        requires search { IsSearch net.now self.now }
+        requires room { HaveRoom self.now }
+        ensures { IsRoom net.now self.now e result }
     {
-        let a = self.board.step(e);
-        let list = self.net.knees(a);
+        let a = self.step(e);
+        let list = net.knees(a);
         let knees = list.as_slice();
-        let crash = self.net.term(a).crash;
-        let flow = self.board.flow(a);
-        if self.board.is_against(e) {
+        let crash = net.term(a).crash;
+        let flow = self.flow(a);
+        if self.is_against(e) {
             room_against(knees, crash, flow)
         } else {
             room_along(knees, crash, flow)
@@ -73,20 +71,19 @@ impl<'n> Search<'n> {
     }
 
     // Renews the lengths that are kept of the activities of all steps that led to an event.
-    fn renew_back(&mut self, end: u32)
-        requires known { end < self.old.board.events }
-        requires fits { IsFor self.old.net.now.network self.old.board }
-        requires back { IsRankedBack self.old.board }
-        requires steps { HaveSteps self.old.board }
-        requires stairs { IsOnStairs self.old.net.now self.old.board }
-        requires level { AreLevelBack self.old.net.now self.old.board self.old.board end }
-        ensures net { self.new.net.now ≡ self.old.net.now }
-        ensures renewed { IsRenewedBack self.old.net.now self.old.board self.new.board end }
+    fn renew_back(&mut self, net: &CrashNet<'_>, end: u32)
+        requires known { end < self.old.events }
+        requires fits { IsFor net.now.network self.old }
+        requires back { IsRankedBack self.old }
+        requires steps { HaveSteps self.old }
+        requires stairs { IsOnStairs net.now self.old }
+        requires level { AreLevelBack net.now self.old self.old end }
+        ensures renewed { IsRenewedBack net.now self.old self.new end }
     {
         let mut e = end;
-        while self.board.rank(e) > 1 {
-            renew_step(&mut self.board, self.net, e);
-            e = self.board.near(e);
+        while self.rank(e) > 1 {
+            renew_step(self, net, e);
+            e = self.near(e);
         }
     }
 }

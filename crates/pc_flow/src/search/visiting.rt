@@ -18,27 +18,27 @@ ghost use Rattle.pc_flow.specs.inside.search.Searches.{
   IsVisited,
 };
 
-use crate::search::search::Search;
+use crate::board::Board;
 use crate::search::way::Way;
 use crate::stair::Knee;
-use pc_crash::{Look, Steps};
+use pc_crash::{CrashNet, Look, Steps};
 use std::sync::ledger::Ledger;
 
-impl<'n> Search<'n> {
+impl Board {
     /// Returns which way labels may cross an activity: along it from where it begins, or, if something flows, against
     /// it from where it ends.
-    pub fn way(&self, a: u32, look: &Look) -> Option<Way>
-        requires known { a < length self.now.net.now.network.arcs }
-        requires look { IsLookAt self.now.net.now a look.now }
-        requires in_range { IsInRange self.now.net.now.network }
-        requires fits { IsFor self.now.net.now.network self.now.board }
-        ensures { IsWay self.now.net.now self.now.board a result }
+    pub fn way(&self, net: &CrashNet<'_>, a: u32, look: &Look) -> Option<Way>
+        requires known { a < length net.now.network.arcs }
+        requires look { IsLookAt net.now a look.now }
+        requires in_range { IsInRange net.now.network }
+        requires fits { IsFor net.now.network self.now }
+        ensures { IsWay net.now self.now a result }
     {
-        let from = self.board.rank(look.from) > 0;
-        let to = self.board.rank(look.to) > 0;
+        let from = self.rank(look.from) > 0;
+        let to = self.rank(look.to) > 0;
         if from {
             if to { None } else { Some(Way::Along) }
-        } else if to && self.board.flow(a) > 0 {
+        } else if to && self.flow(a) > 0 {
             Some(Way::Against)
         } else {
             None
@@ -47,45 +47,45 @@ impl<'n> Search<'n> {
 
     /// Returns after how long a step of the times an activity stops that labels may cross this way.
     #[inline(always)]
-    pub fn stop(&self, a: u32, look: &Look, way: Way) -> u64
-        requires known { a < length self.now.net.now.network.arcs }
-        requires look { IsLookAt self.now.net.now a look.now }
-        requires board { IsPricedBoard self.now.net.now self.now.board }
-        requires way { IsWay self.now.net.now self.now.board a (Some way) }
-        ensures { StopsAfter self.now.net.now self.now.board a way result }
+    pub fn stop(&self, net: &CrashNet<'_>, a: u32, look: &Look, way: Way) -> u64
+        requires known { a < length net.now.network.arcs }
+        requires look { IsLookAt net.now a look.now }
+        requires board { IsPricedBoard net.now self.now }
+        requires way { IsWay net.now self.now a (Some way) }
+        ensures { StopsAfter net.now self.now a way result }
     {
         match way {
-            Way::Along => self.stops_along(a, look.from, look.to),
-            Way::Against => self.stops_against(a, look.from, look.to),
+            Way::Along => self.stops_along(net, a, look.from, look.to),
+            Way::Against => self.stops_against(net, a, look.from, look.to),
         }
     }
 
     // After how long an activity stops that labels may cross along it.
     #[inline(always)]
-    fn stops_along(&self, a: u32, from: u32, to: u32) -> u64
-        requires known { a < length self.now.net.now.network.arcs }
-        requires begins { from ≡ from_of self.now.net.now.network.arcs a }
-        requires ends { to ≡ to_of self.now.net.now.network.arcs a }
-        requires board { IsPricedBoard self.now.net.now self.now.board }
-        requires way { MayGoAlong self.now.net.now self.now.board a }
-        ensures { StopsAlong self.now.net.now self.now.board a result }
+    fn stops_along(&self, net: &CrashNet<'_>, a: u32, from: u32, to: u32) -> u64
+        requires known { a < length net.now.network.arcs }
+        requires begins { from ≡ from_of net.now.network.arcs a }
+        requires ends { to ≡ to_of net.now.network.arcs a }
+        requires board { IsPricedBoard net.now self.now }
+        requires way { MayGoAlong net.now self.now a }
+        ensures { StopsAlong net.now self.now a result }
     {
-        let gap = self.board.falling_time(to) - self.board.resting_time(from);
-        gap - self.board.up(a)
+        let gap = self.falling_time(to) - self.resting_time(from);
+        gap - self.up(a)
     }
 
     // After how long an activity stops that labels may cross against it.
     #[inline(always)]
-    fn stops_against(&self, a: u32, from: u32, to: u32) -> u64
-        requires known { a < length self.now.net.now.network.arcs }
-        requires begins { from ≡ from_of self.now.net.now.network.arcs a }
-        requires ends { to ≡ to_of self.now.net.now.network.arcs a }
-        requires board { IsPricedBoard self.now.net.now self.now.board }
-        requires way { MayGoAgainst self.now.net.now self.now.board a }
-        ensures { StopsAgainst self.now.net.now self.now.board a result }
+    fn stops_against(&self, net: &CrashNet<'_>, a: u32, from: u32, to: u32) -> u64
+        requires known { a < length net.now.network.arcs }
+        requires begins { from ≡ from_of net.now.network.arcs a }
+        requires ends { to ≡ to_of net.now.network.arcs a }
+        requires board { IsPricedBoard net.now self.now }
+        requires way { MayGoAgainst net.now self.now a }
+        ensures { StopsAgainst net.now self.now a result }
     {
-        let gap = self.board.resting_time(to) - self.board.falling_time(from);
-        self.board.down(a) - gap
+        let gap = self.resting_time(to) - self.falling_time(from);
+        self.down(a) - gap
     }
 
     /// Labels the far event of an activity if its step has residual capacity, and otherwise lets the activity wait for
@@ -94,22 +94,21 @@ impl<'n> Search<'n> {
     /// Labels may not cross most of the activities that a search comes to. So only the test is in the loops that call
     /// this, and the rest is a call with the result of the look.
     #[inline(always)]
-    pub fn visit<L: Ledger>(&mut self, a: u32, steps: &mut Steps<L>)
-        requires known { a < length self.old.net.now.network.arcs }
-        requires search { IsSearch self.old.net.now self.old.board }
-        requires room { HaveRoom self.old.board }
-        ensures net { self.new.net.now ≡ self.old.net.now }
+    pub fn visit<L: Ledger>(&mut self, net: &CrashNet<'_>, a: u32, steps: &mut Steps<L>)
+        requires known { a < length net.now.network.arcs }
+        requires search { IsSearch net.now self.old }
+        requires room { HaveRoom self.old }
         ensures counted { steps.new ≡ steps.old + 1 }
-        ensures visited { IsVisited self.old.net.now self.old.board self.new.board a }
+        ensures visited { IsVisited net.now self.old self.new a }
     {
-        let look = self.net.look(a, steps);
-        let way = match self.way(a, &look) {
+        let look = net.look(a, steps);
+        let way = match self.way(net, a, &look) {
             Some(way) => way,
             None => return,
         };
         match way {
-            Way::Along => self.cross_along(a, look.from, look.to),
-            Way::Against => self.cross_against(a, look.from, look.to),
+            Way::Along => self.cross_along(net, a, look.from, look.to),
+            Way::Against => self.cross_against(net, a, look.from, look.to),
         }
     }
 
@@ -118,20 +117,26 @@ impl<'n> Search<'n> {
     /// This and the next three calls get the events at both ends, so that the rank of the other end alone says of most
     /// activities that labels may not cross.
     #[inline(always)]
-    pub fn visit_along_from<L: Ledger>(&mut self, a: u32, from: u32, to: u32, steps: &mut Steps<L>)
-        requires known { a < length self.old.net.now.network.arcs }
-        requires begins { from_of self.old.net.now.network.arcs a ≡ from }
-        requires ends { to_of self.old.net.now.network.arcs a ≡ to }
-        requires labelled { 0 < rank_of self.old.board from }
-        requires search { IsSearch self.old.net.now self.old.board }
-        requires room { HaveRoom self.old.board }
-        ensures net { self.new.net.now ≡ self.old.net.now }
+    pub fn visit_along_from<L: Ledger>(
+        &mut self,
+        net: &CrashNet<'_>,
+        a: u32,
+        from: u32,
+        to: u32,
+        steps: &mut Steps<L>,
+    )
+        requires known { a < length net.now.network.arcs }
+        requires begins { from_of net.now.network.arcs a ≡ from }
+        requires ends { to_of net.now.network.arcs a ≡ to }
+        requires labelled { 0 < rank_of self.old from }
+        requires search { IsSearch net.now self.old }
+        requires room { HaveRoom self.old }
         ensures counted { steps.new ≤ steps.old + 1 }
-        ensures visited { IsVisited self.old.net.now self.old.board self.new.board a }
+        ensures visited { IsVisited net.now self.old self.new a }
     {
-        self.count_look(a, steps);
-        if self.board.rank(to) == 0 {
-            self.cross_along(a, from, to);
+        self.count_look(net, a, steps);
+        if self.rank(to) == 0 {
+            self.cross_along(net, a, from, to);
         }
     }
 
@@ -140,24 +145,24 @@ impl<'n> Search<'n> {
     #[inline(always)]
     pub fn visit_against_from<L: Ledger>(
         &mut self,
+        net: &CrashNet<'_>,
         a: u32,
         from: u32,
         to: u32,
         steps: &mut Steps<L>,
     )
-        requires known { a < length self.old.net.now.network.arcs }
-        requires begins { from_of self.old.net.now.network.arcs a ≡ from }
-        requires ends { to_of self.old.net.now.network.arcs a ≡ to }
-        requires labelled { 0 < rank_of self.old.board to }
-        requires search { IsSearch self.old.net.now self.old.board }
-        requires room { HaveRoom self.old.board }
-        ensures net { self.new.net.now ≡ self.old.net.now }
+        requires known { a < length net.now.network.arcs }
+        requires begins { from_of net.now.network.arcs a ≡ from }
+        requires ends { to_of net.now.network.arcs a ≡ to }
+        requires labelled { 0 < rank_of self.old to }
+        requires search { IsSearch net.now self.old }
+        requires room { HaveRoom self.old }
         ensures counted { steps.new ≤ steps.old + 1 }
-        ensures visited { IsVisited self.old.net.now self.old.board self.new.board a }
+        ensures visited { IsVisited net.now self.old self.new a }
     {
-        self.count_look(a, steps);
-        if self.board.rank(from) == 0 && self.board.flow(a) > 0 {
-            self.cross_against(a, from, to);
+        self.count_look(net, a, steps);
+        if self.rank(from) == 0 && self.flow(a) > 0 {
+            self.cross_against(net, a, from, to);
         }
     }
 
@@ -166,28 +171,28 @@ impl<'n> Search<'n> {
     #[inline(always)]
     pub fn visit_along_to<L: Ledger>(
         &mut self,
+        net: &CrashNet<'_>,
         a: u32,
         from: u32,
         to: u32,
         steps: &mut Steps<L>,
     ) -> bool
-        requires known { a < length self.old.net.now.network.arcs }
-        requires begins { from_of self.old.net.now.network.arcs a ≡ from }
-        requires ends { to_of self.old.net.now.network.arcs a ≡ to }
-        requires unlabelled { rank_of self.old.board to ≡ 0 }
-        requires search { IsSearch self.old.net.now self.old.board }
-        requires room { HaveRoom self.old.board }
-        ensures net { self.new.net.now ≡ self.old.net.now }
+        requires known { a < length net.now.network.arcs }
+        requires begins { from_of net.now.network.arcs a ≡ from }
+        requires ends { to_of net.now.network.arcs a ≡ to }
+        requires unlabelled { rank_of self.old to ≡ 0 }
+        requires search { IsSearch net.now self.old }
+        requires room { HaveRoom self.old }
         ensures counted { steps.new ≤ steps.old + 1 }
-        ensures labelled { IsTrue result ↔ (0 < rank_of self.new.board to) }
-        ensures visited { IsVisited self.old.net.now self.old.board self.new.board a }
+        ensures labelled { IsTrue result ↔ (0 < rank_of self.new to) }
+        ensures visited { IsVisited net.now self.old self.new a }
     {
-        self.count_look(a, steps);
-        if self.board.rank(from) == 0 {
+        self.count_look(net, a, steps);
+        if self.rank(from) == 0 {
             return false;
         }
-        self.cross_along(a, from, to);
-        self.board.rank(to) > 0
+        self.cross_along(net, a, from, to);
+        self.rank(to) > 0
     }
 
     /// Visits an activity that begins at an event without a label: against it, if its other end has one and something
@@ -195,91 +200,88 @@ impl<'n> Search<'n> {
     #[inline(always)]
     pub fn visit_against_to<L: Ledger>(
         &mut self,
+        net: &CrashNet<'_>,
         a: u32,
         from: u32,
         to: u32,
         steps: &mut Steps<L>,
     ) -> bool
-        requires known { a < length self.old.net.now.network.arcs }
-        requires begins { from_of self.old.net.now.network.arcs a ≡ from }
-        requires ends { to_of self.old.net.now.network.arcs a ≡ to }
-        requires unlabelled { rank_of self.old.board from ≡ 0 }
-        requires search { IsSearch self.old.net.now self.old.board }
-        requires room { HaveRoom self.old.board }
-        ensures net { self.new.net.now ≡ self.old.net.now }
+        requires known { a < length net.now.network.arcs }
+        requires begins { from_of net.now.network.arcs a ≡ from }
+        requires ends { to_of net.now.network.arcs a ≡ to }
+        requires unlabelled { rank_of self.old from ≡ 0 }
+        requires search { IsSearch net.now self.old }
+        requires room { HaveRoom self.old }
         ensures counted { steps.new ≤ steps.old + 1 }
-        ensures labelled { IsTrue result ↔ (0 < rank_of self.new.board from) }
-        ensures visited { IsVisited self.old.net.now self.old.board self.new.board a }
+        ensures labelled { IsTrue result ↔ (0 < rank_of self.new from) }
+        ensures visited { IsVisited net.now self.old self.new a }
     {
-        self.count_look(a, steps);
-        if self.board.rank(to) == 0 || self.board.flow(a) == 0 {
+        self.count_look(net, a, steps);
+        if self.rank(to) == 0 || self.flow(a) == 0 {
             return false;
         }
-        self.cross_against(a, from, to);
-        self.board.rank(from) > 0
+        self.cross_against(net, a, from, to);
+        self.rank(from) > 0
     }
 
     // Looks at an activity that a link names, and uses nothing of what the look tells, so that a compiler leaves out
     // reading the activity's row.
     #[inline(always)]
-    fn count_look<L: Ledger>(&self, a: u32, steps: &mut Steps<L>)
-        requires known { a < length self.now.net.now.network.arcs }
+    fn count_look<L: Ledger>(&self, net: &CrashNet<'_>, a: u32, steps: &mut Steps<L>)
+        requires known { a < length net.now.network.arcs }
         ensures counted { steps.new ≡ steps.old + 1 }
     {
-        let _look = self.net.look(a, steps);
+        let _look = net.look(a, steps);
     }
 
     // Labels the event where an activity ends that labels may cross along it, or has the activity wait.
     #[inline(never)]
-    fn cross_along(&mut self, a: u32, from: u32, to: u32)
-        requires known { a < length self.old.net.now.network.arcs }
-        requires begins { from ≡ from_of self.old.net.now.network.arcs a }
-        requires ends { to ≡ to_of self.old.net.now.network.arcs a }
-        requires search { IsSearch self.old.net.now self.old.board }
-        requires room { HaveRoom self.old.board }
-        requires way { MayGoAlong self.old.net.now self.old.board a }
-        ensures net { self.new.net.now ≡ self.old.net.now }
-        ensures visited { IsVisited self.old.net.now self.old.board self.new.board a }
+    fn cross_along(&mut self, net: &CrashNet<'_>, a: u32, from: u32, to: u32)
+        requires known { a < length net.now.network.arcs }
+        requires begins { from ≡ from_of net.now.network.arcs a }
+        requires ends { to ≡ to_of net.now.network.arcs a }
+        requires search { IsSearch net.now self.old }
+        requires room { HaveRoom self.old }
+        requires way { MayGoAlong net.now self.old a }
+        ensures visited { IsVisited net.now self.old self.new a }
     {
-        let after = self.stops_along(a, from, to);
+        let after = self.stops_along(net, a, from, to);
         if after > 0 {
-            self.wait(a);
+            self.let_wait(net, a);
             return;
         }
         // One unit more fits. How many do is measured once the flow is raised here.
-        self.board.enter(to, a, false, from, 1);
+        self.enter(to, a, false, from, 1);
     }
 
     // Labels the event where an activity begins that labels may cross against it, or has the activity wait.
     #[inline(never)]
-    fn cross_against(&mut self, a: u32, from: u32, to: u32)
-        requires known { a < length self.old.net.now.network.arcs }
-        requires begins { from ≡ from_of self.old.net.now.network.arcs a }
-        requires ends { to ≡ to_of self.old.net.now.network.arcs a }
-        requires search { IsSearch self.old.net.now self.old.board }
-        requires room { HaveRoom self.old.board }
-        requires way { MayGoAgainst self.old.net.now self.old.board a }
-        ensures net { self.new.net.now ≡ self.old.net.now }
-        ensures visited { IsVisited self.old.net.now self.old.board self.new.board a }
+    fn cross_against(&mut self, net: &CrashNet<'_>, a: u32, from: u32, to: u32)
+        requires known { a < length net.now.network.arcs }
+        requires begins { from ≡ from_of net.now.network.arcs a }
+        requires ends { to ≡ to_of net.now.network.arcs a }
+        requires search { IsSearch net.now self.old }
+        requires room { HaveRoom self.old }
+        requires way { MayGoAgainst net.now self.old a }
+        ensures visited { IsVisited net.now self.old self.new a }
     {
-        let after = self.stops_against(a, from, to);
+        let after = self.stops_against(net, a, from, to);
         if after > 0 {
-            self.wait(a);
+            self.let_wait(net, a);
             return;
         }
-        self.board.enter(from, a, true, to, 1);
+        self.enter(from, a, true, to, 1);
     }
 
     // Has an activity wait that stops only after a fall.
     #[inline(always)]
-    fn wait(&mut self, a: u32)
-        requires known { a < length self.old.net.now.network.arcs }
-        requires search { IsSearch self.old.net.now self.old.board }
-        requires room { HaveRoom self.old.board }
-        requires later { StopsLater self.old.net.now self.old.board a }
-        ensures net { self.new.net.now ≡ self.old.net.now }
-        ensures visited { IsVisited self.old.net.now self.old.board self.new.board a }
+    fn let_wait(&mut self, net: &CrashNet<'_>, a: u32)
+        requires known { a < length net.now.network.arcs }
+        requires search { IsSearch net.now self.old }
+        requires room { HaveRoom self.old }
+        requires later { StopsLater net.now self.old a }
+        ensures visited { IsVisited net.now self.old self.new a }
     {
-        self.board.wait(a);
+        self.wait(a);
     }
 }

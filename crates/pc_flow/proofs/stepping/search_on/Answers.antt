@@ -10,8 +10,8 @@ use Rattle.pc_flow.proofs.stepping.search_on.Goals as goal
 
 pub returns-then-time-shortest-clause-counted : goal.returns-then-time-shortest-clause-counted
 returns-then-time-shortest-clause-counted g c =
-    let net = c.args.search.now.net.now in
-    let board = c.label.new.self.board in
+    let net = c.args.net.now in
+    let board = c.label.new.self in
     let labelled = c.label.ensures.labelled in
     let some : 0 < c.label.result.fall =
     stair-fall_positive net.network net.terms (knees_in net) c.net.ensures.priced (length_at net board) (time_of board) (flow_of board) (slope_at net board)
@@ -24,10 +24,10 @@ returns-then-time-shortest-clause-counted g c =
 
 pub returns-then-time-shortest-clause-searched : goal.returns-then-time-shortest-clause-searched
 returns-then-time-shortest-clause-searched g c =
-    let net = c.args.search.now.net.now in
+    let net = c.args.net.now in
     let end = rw c.net.ensures.network at c.end-end.ensures.end in
-    let above : c.args.shortest < length_at net c.args.search.now.board =
-    omega (arith, c.if-time-shortest.true, c.time.ensures, ap (time_of c.args.search.now.board) end) in
+    let above : c.args.shortest < length_at net c.args.board.now =
+    omega (arith, c.if-time-shortest.true, c.time.ensures, ap (time_of c.args.board.now) end) in
     record {
       above = λ higher. c.label.ensures.labelled;
       still = λ at. absurd (omega (arith, at, above));
@@ -37,10 +37,10 @@ returns-then-time-shortest-clause-searched g c =
 
 pub returns-else-time-shortest-clause-searched : goal.returns-else-time-shortest-clause-searched
 returns-else-time-shortest-clause-searched g c =
-    let net = c.args.search.now.net.now in
+    let net = c.args.net.now in
     let end = rw c.net.ensures.network at c.end-end.ensures.end in
-    let at : length_at net c.args.search.now.board ≤ c.args.shortest =
-    omega (arith, c.if-time-shortest.false, c.time.ensures, ap (time_of c.args.search.now.board) end) in
+    let at : length_at net c.args.board.now ≤ c.args.shortest =
+    omega (arith, c.if-time-shortest.false, c.time.ensures, ap (time_of c.args.board.now) end) in
     record {
       above = λ above. absurd (omega (arith, at, above));
       still = λ low. refl;

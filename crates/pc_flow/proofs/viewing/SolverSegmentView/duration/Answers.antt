@@ -14,7 +14,7 @@ overflow_sub-ends c =
       arith,
       begins,
       ends,
-      ap (time_of c.self.inside.search.board) from,
-      ap (time_of c.self.inside.search.board) to,
+      ap (time_of c.self.inside.board) from,
+      ap (time_of c.self.inside.board) to,
       on.between.search.stairs.ahead c.args.a known,
     )
