@@ -14,8 +14,8 @@ use Rattle.pc_model.proofs.Walks.OrderLaws.{walk_is_short, stands_in_order}
 use Rattle.pc_flow.specs.board.Sheets.{Sheet, kept_time}
 use Rattle.pc_flow.specs.inside.board.Moves.{SetsTime}
 use Rattle.pc_crash.specs.Terms.{AreWithinLimits}
-use Rattle.pc_flow.specs.declared.pace.Pace.{Pace}
-use Rattle.pc_flow.specs.declared.pace.Pace.TheVariants.{Crash, Normal}
+use Rattle.pc_flow.specs.declared.early.Pace.{Pace}
+use Rattle.pc_flow.specs.declared.early.Pace.TheVariants.{Crash, Normal}
 use Rattle.pc_flow.specs.inside.Paces.{durations_at, HasSmallTimes, AreEarlyBefore}
 
 module _ (net : Network) (lengths : List ℕ) (times : ℕ → ℕ) where

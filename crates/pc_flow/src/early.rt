@@ -1,13 +1,33 @@
 //! The times of the events on a board, from the durations of the activities.
-ghost use Rattle.std.specs.Prelude.{◌≡◌, ◌<◌, ◌≤◌, ℕ};
+ghost use Rattle.std.specs.Prelude.{◌≡◌, ◌<◌, length, slice_index, ◌≤◌, ℕ};
+ghost use Rattle.pc_flow.specs.inside.Paces.{durations_at, HasSmallTimes, AreEarlyBefore};
 ghost use Rattle.pc_model.specs.Network.{IsEarly};
 ghost use Rattle.pc_flow.specs.board.Sheets.{kept_time};
 ghost use Rattle.pc_flow.specs.inside.board.Labelling.{IsFor};
-ghost use Rattle.pc_flow.specs.inside.Paces.{durations_at, HasSmallTimes, AreEarlyBefore};
 
 use crate::board::Board;
-use crate::pace::Pace;
 use pc_crash::CrashNet;
+
+/// How fast the activities are done: each in its crash duration, or each in its normal one.
+#[derive(Clone, Copy, Debug, PartialEq, Eq)]
+pub(crate) enum Pace {
+    Crash,
+    Normal,
+}
+
+impl Pace {
+    /// The duration of an activity, in units.
+    pub(crate) fn duration(self, net: &CrashNet<'_>, a: u32) -> u64
+        requires { a < length net.now.network.arcs }
+        ensures { result ≡ slice_index (durations_at net.now.terms self) a }
+    {
+        let term = net.term(a);
+        match self {
+            Pace::Crash => term.crash,
+            Pace::Normal => term.normal,
+        }
+    }
+}
 
 /// The greatest length of a project, in units: no walk has more than 10,000 activities, each of at most 100,000 units.
 pub const MAX_LENGTH: u64 = 1_000_000_000;

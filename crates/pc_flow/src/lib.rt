@@ -7,12 +7,9 @@ mod early;
 mod lengths;
 pub mod look_laws;
 mod opening;
-mod pace;
 pub mod search;
 mod solver;
 pub mod stair;
-mod stepping;
-mod viewing;
 
 pub use early::MAX_LENGTH;
 pub use pc_crash::{CrashNet, SegmentView, Steps};

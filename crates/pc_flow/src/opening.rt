@@ -6,9 +6,8 @@ ghost use Rattle.pc_flow.specs.board.Sheets.{kept_time};
 ghost use Rattle.pc_flow.specs.inside.Openings.{IsOpened};
 
 use crate::board::Board;
-use crate::early::keep_early_times;
+use crate::early::{Pace, keep_early_times};
 use crate::lengths::keep_lengths;
-use crate::pace::Pace;
 use pc_cells::Region;
 use pc_crash::CrashNet;
 

@@ -1,20 +1,28 @@
-//! A solver, and what it gives away of itself.
-ghost use Rattle.std.specs.Prelude.{◌≡◌, ◌+◌, ◌*◌, ◌≤◌, true, false, length};
+//! A solver: one segment of the curve after another, and what it gives away of itself.
+ghost use Rattle.std.specs.Prelude.{◌≡◌, ◌+◌, ◌*◌, ◌≤◌, true, false, length, ◌<◌, ◌↔◌, IsTrue, IsFalse, ℕ};
 ghost use Rattle.pc_model.specs.declared.limits.TheConstants.{MAX_EVENTS, MAX_ACTIVITIES, MAX_PIECES};
 ghost use Rattle.pc_model.specs.Sums.{sum_to};
 ghost use Rattle.pc_model.specs.Schedule.{base_cost_of, IsAllNormalLength, IsAllCrashLength};
 ghost use Rattle.pc_flow.specs.declared.early.TheConstants.{MAX_LENGTH};
 ghost use Rattle.pc_cells.specs.inside.Spans.{free_of};
 ghost use Rattle.pc_flow.specs.search.Labelling.{slopes_in};
-ghost use Rattle.pc_flow.specs.Courses.{IsLevel, lower_of};
-ghost use Rattle.pc_flow.specs.inside.Courses.{IsOnCurve};
+ghost use Rattle.pc_flow.specs.Courses.{IsLevel, lower_of, IsSameCurve, IsFurther, most_looks};
+ghost use Rattle.pc_flow.specs.inside.Courses.{IsOnCurve, IsNext, HasEnded, present};
+ghost use Rattle.pc_flow.specs.inside.search.Growing.{AreListed};
+ghost use Rattle.pc_flow.specs.inside.search.Labelling.{IsBetween, MayFall};
+ghost use Rattle.pc_flow.specs.inside.Descents.{HasDescended, HasSearched};
+ghost use Rattle.pc_laws.specs.Stair.{stair_of, knee_flow, crash_flow};
+ghost use Rattle.pc_crash.specs.Priced.{knees_in};
 
 use crate::board::Board;
 use crate::early::MAX_LENGTH;
 use crate::opening::open_board;
+use crate::search::Labelling;
+use crate::stair::{beside, flow_at};
 use pc_cells::Region;
-use pc_crash::CrashNet;
+use pc_crash::{CrashNet, SegmentView, Steps};
 use std::marker::Model;
+use std::sync::ledger::Ledger;
 
 /// The segments of the time-cost curve of a network, one after another, from the all-normal length down to the
 /// all-crash length.
@@ -27,14 +35,14 @@ use std::marker::Model;
 ///
 /// Kelley 1961; Fulkerson 1961.
 pub struct Solver<'n> {
-    pub(crate) net: &'n CrashNet<'n>,
-    pub(crate) board: Board,
-    pub(crate) longest: u64,
-    pub(crate) shortest: u64,
-    pub(crate) cost: u64,
-    pub(crate) slope: u64,
-    pub(crate) fall: u64,
-    pub(crate) given: bool,
+    net: &'n CrashNet<'n>,
+    board: Board,
+    longest: u64,
+    shortest: u64,
+    cost: u64,
+    slope: u64,
+    fall: u64,
+    given: bool,
 }
 
 impl<'n> Drop for Solver<'n> {
@@ -131,6 +139,29 @@ impl<'n> Solver<'n> {
         }
     }
 
+    /// Goes on to the next segment, and returns whether there is one. At most four looks at each activity for each unit
+    /// by which the slope rises or the lower end comes down. Allocates nothing.
+    pub fn next_segment<L: Ledger>(&mut self, steps: &mut Steps<L>) -> bool
+        ensures ended { IsFalse result ↔ HasEnded self.old }
+        ensures unchanged { IsFalse result → self.new ≡ self.old }
+        ensures same { IsSameCurve self.old self.new }
+        ensures further { IsFurther self.old self.new }
+        ensures gentle { self.new.slope ≤ slopes_in self.new.net }
+        ensures next { IsTrue result → IsNext self.old self.new }
+        ensures counted { steps.new ≤ steps.old + most_looks self.old self.new }
+    {
+        if self.has_ended() {
+            return false;
+        }
+        descend(&mut self.board, self.net, self.fall);
+        let labelling = search_on(&mut self.board, self.net, self.shortest, steps);
+        self.cost += self.slope * self.fall;
+        self.slope += labelling.rise;
+        self.fall = labelling.fall;
+        self.given = true;
+        true
+    }
+
     /// Returns the network whose curve it is.
     pub fn net(&self) -> &'n CrashNet<'n>
         ensures { result.now ≡ self.now.net }
@@ -167,6 +198,20 @@ impl<'n> Solver<'n> {
         self.given
     }
 
+    /// Returns the sum of the flows along an activity.
+    ///
+    /// It determines them all: in order, each knee takes as much as it can, and what is left flows beyond them.
+    pub fn whole_flow(&self, a: u32) -> u64
+        requires present { self.now.given ≡ true }
+        requires activity { a < length self.now.net.network.arcs }
+        ensures at_knees { (k : ℕ) → k < (knees_in self.now.net).count a → (present self.now).flow a k
+            ≡ knee_flow (stair_of self.now.net.terms (knees_in self.now.net) a) result k }
+        ensures beside { (present self.now).beside a
+            ≡ crash_flow (stair_of self.now.net.terms (knees_in self.now.net) a) result }
+    {
+        self.board.flow(a)
+    }
+
     /// Returns the region as it was before.
     pub fn close(self) -> Region
         ensures { result ≡ self.entry.board.home }
@@ -182,6 +227,98 @@ impl<'n> Solver<'n> {
             given: _given,
         } = self;
         board.close()
+    }
+
+    // Whether a segment was given that comes down to the all-crash length.
+    fn has_ended(&self) -> bool
+        ensures { IsTrue result ↔ HasEnded self.now }
+    {
+        self.given && self.lower() == self.shortest
+    }
+}
+
+impl<'n> SegmentView for Solver<'n> {
+    ghost IsPresent = { λ solver. solver.given ≡ true };
+
+    ghost net = { λ solver. solver.net };
+
+    ghost segment = { present };
+
+    fn upper(&self) -> u64 {
+        self.board.time(self.net.net().end())
+    }
+
+    fn lower(&self) -> u64 {
+        self.upper() - self.fall
+    }
+
+    fn cost(&self) -> u64 {
+        self.cost
+    }
+
+    fn slope(&self) -> u64 {
+        self.slope
+    }
+
+    fn time(&self, e: u32) -> u64 {
+        self.board.time(e)
+    }
+
+    fn moves(&self, e: u32) -> bool {
+        self.fall > 0 && self.board.rank(e) == 0
+    }
+
+    fn duration(&self, a: u32) -> u64 {
+        let net = self.net;
+        let begins = self.time(net.net().from(a));
+        let ends = self.time(net.net().to(a));
+        net.term(a).normal.min(ends - begins)
+    }
+
+    fn flow(&self, a: u32, k: u32) -> u64 {
+        let knees = self.net.knees(a);
+        let flow = self.board.flow(a);
+        if k < knees.len() {
+            flow_at(knees.as_slice(), flow, k as usize)
+        } else {
+            beside(knees.as_slice(), flow)
+        }
+    }
+}
+
+// Has the events without a label fall to the lower end of the present segment, if it has one.
+fn descend(board: &mut Board, net: &CrashNet<'_>, fall: u64)
+    requires between { IsBetween net.now board.old }
+    requires listed { AreListed net.now board.old }
+    requires falls { 0 < fall → MayFall net.now board.old fall }
+    ensures { HasDescended net.now board.old board.new fall }
+{
+    if fall > 0 {
+        // The network is priced, so that no time falls below 0.
+        let _net = net.net();
+        board.fall(fall);
+    }
+}
+
+// Raises the flow and seeks the next fall, where the length is above the all-crash length.
+fn search_on<L: Ledger>(
+    board: &mut Board,
+    net: &CrashNet<'_>,
+    shortest: u64,
+    steps: &mut Steps<L>,
+) -> Labelling
+    requires between { IsBetween net.now board.old }
+    requires listed { AreListed net.now board.old }
+    requires shortest { IsAllCrashLength net.now.network net.now.terms shortest }
+    ensures counted { steps.new ≤ steps.old + 4 * length net.now.network.arcs * (result.rise + result.fall) }
+    ensures searched { HasSearched net.now board.old board.new shortest result.rise
+        result.fall }
+{
+    let end = net.net().end();
+    if board.time(end) > shortest {
+        board.label(net, steps)
+    } else {
+        Labelling { rise: 0, fall: 0 }
     }
 }
 

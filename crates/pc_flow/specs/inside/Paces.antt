@@ -5,8 +5,8 @@ use Rattle.pc_model.specs.declared.limits.TheConstants.{MAX_DURATION}
 use Rattle.pc_model.specs.Walk.{from_of, to_of}
 use Rattle.pc_model.specs.Network.{Network, IsInRange, IsSound, IsEarly}
 use Rattle.pc_model.specs.Schedule.{crashes, normals}
-use Rattle.pc_flow.specs.declared.pace.Pace.{Pace}
-use Rattle.pc_flow.specs.declared.pace.Pace.TheVariants.{Crash, Normal}
+use Rattle.pc_flow.specs.declared.early.Pace.{Pace}
+use Rattle.pc_flow.specs.declared.early.Pace.TheVariants.{Crash, Normal}
 use Rattle.pc_flow.specs.declared.early.TheConstants.{MAX_LENGTH}
 
 -- the durations of the activities

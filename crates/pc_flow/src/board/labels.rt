@@ -25,8 +25,7 @@ ghost use Rattle.pc_flow.specs.inside.board.Moves.{
   EntersAt,
 };
 
-use crate::board::board::Board;
-use crate::board::columns::Column;
+use crate::board::board::{Board, Column};
 
 impl Board {
     /// Returns how many events have a label.

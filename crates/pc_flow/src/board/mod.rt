@@ -6,9 +6,7 @@
 //! fall, and with them those that came from there.
 
 mod board;
-mod columns;
 mod labels;
-mod pruning;
 mod raising;
 mod waiting;
 

@@ -4,8 +4,7 @@ ghost use Rattle.std.specs.Prelude.{◌≡◌, ◌≢◌, ◌+◌, ◌<◌, ◌�
 ghost use Rattle.pc_flow.specs.inside.board.Sheets.{waiting_of, slot_of, due_of};
 ghost use Rattle.pc_flow.specs.inside.board.Moves.{WaitsAt, GoesAt, WaitsOnce};
 
-use crate::board::board::Board;
-use crate::board::columns::Column;
+use crate::board::board::{Board, Column};
 
 impl Board {
     /// Returns how many activities wait.

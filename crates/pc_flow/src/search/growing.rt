@@ -6,15 +6,10 @@ ghost use Rattle.pc_crash.specs.inside.Links.{activities_of, link_at};
 ghost use Rattle.pc_flow.specs.board.Sheets.{rank_of};
 ghost use Rattle.pc_flow.specs.inside.board.Labelling.{HaveRoom};
 ghost use Rattle.pc_flow.specs.inside.search.Searches.{IsSearch};
-ghost use Rattle.pc_flow.specs.inside.search.Growing.{
-  IsAt,
-  degree,
-  AreListed,
-  AreSettled,
-  GoesOn,
-  HasSettled,
-  HasGrown,
-};
+ghost use Rattle.pc_flow.specs.inside.search.Growing.{IsAt, degree, AreListed, AreSettled, GoesOn, HasSettled, HasGrown, IsAtLost, HasLookedAgain};
+ghost use Rattle.pc_model.specs.Sums.{sum_to};
+ghost use Rattle.pc_flow.specs.inside.board.Sheets.{lost_of};
+ghost use Rattle.pc_flow.specs.inside.board.Raising.{StandFirst};
 
 use crate::board::Board;
 use pc_crash::{CrashNet, Link, Steps};
@@ -121,5 +116,119 @@ impl Board {
             self.scan(net, e, steps);
         }
         each_activity_stands_once();
+    }
+
+    /// Visits the activities at an event without a label until it has one. At most one look for each.
+    #[inline(always)]
+    pub fn seek<L: Ledger>(&mut self, net: &CrashNet<'_>, e: u32, steps: &mut Steps<L>)
+        requires known { e < net.now.network.events }
+        requires unlabelled { rank_of self.old e ≡ 0 }
+        requires search { IsSearch net.now self.old }
+        requires room { HaveRoom self.old }
+        ensures counted { steps.new ≤ steps.old + degree net.now e }
+        ensures goes_on { GoesOn net.now (IsAt net.now e) self.old self.new }
+    {
+        self.seek_begun(net, e, net.out_links(e), steps);
+        if self.rank(e) == 0 {
+            self.seek_ended(net, e, net.in_links(e), steps);
+        }
+    }
+
+    // Visits these activities, which begin at an event without a label, until it has one.
+    #[inline(always)]
+    fn seek_begun<L: Ledger>(
+        &mut self,
+        net: &CrashNet<'_>,
+        e: u32,
+        links: &[Link],
+        steps: &mut Steps<L>,
+    )
+        requires known { (k : ℕ) → k < length links.now →
+            (link_at links.now k).activity < length net.now.network.arcs }
+        requires begin { (k : ℕ) → k < length links.now →
+            from_of net.now.network.arcs (link_at links.now k).activity ≡ e }
+        requires others { (k : ℕ) → k < length links.now →
+            to_of net.now.network.arcs (link_at links.now k).activity ≡ (link_at links.now k).other }
+        requires unlabelled { rank_of self.old e ≡ 0 }
+        requires search { IsSearch net.now self.old }
+        requires room { HaveRoom self.old }
+        ensures counted { steps.new ≤ steps.old + length links.now }
+        ensures goes_on { GoesOn net.now
+            (StandsBelow (activities_of links.now) (length links.now)) self.old self.new }
+    {
+        for link in links {
+            if self.visit_against_to(net, link.activity, e, link.other, steps) {
+                return;
+            }
+        }
+    }
+
+    // Visits these activities, which end at an event without a label, until it has one.
+    #[inline(always)]
+    fn seek_ended<L: Ledger>(
+        &mut self,
+        net: &CrashNet<'_>,
+        e: u32,
+        links: &[Link],
+        steps: &mut Steps<L>,
+    )
+        requires known { (k : ℕ) → k < length links.now →
+            (link_at links.now k).activity < length net.now.network.arcs }
+        requires end { (k : ℕ) → k < length links.now →
+            to_of net.now.network.arcs (link_at links.now k).activity ≡ e }
+        requires others { (k : ℕ) → k < length links.now →
+            from_of net.now.network.arcs (link_at links.now k).activity ≡ (link_at links.now k).other }
+        requires unlabelled { rank_of self.old e ≡ 0 }
+        requires search { IsSearch net.now self.old }
+        requires room { HaveRoom self.old }
+        ensures counted { steps.new ≤ steps.old + length links.now }
+        ensures goes_on { GoesOn net.now
+            (StandsBelow (activities_of links.now) (length links.now)) self.old self.new }
+    {
+        for link in links {
+            if self.visit_along_to(net, link.activity, link.other, e, steps) {
+                return;
+            }
+        }
+    }
+
+    /// Removes, after an augmentation, the labels whose steps have no residual capacity, and seeks new ones for the
+    /// events that lost theirs. If these are more than the others that were scanned, it scans the others again instead.
+    /// The first labels that stay are not touched. At most two looks for each activity.
+    pub fn look_again<L: Ledger>(&mut self, net: &CrashNet<'_>, standing: u32, steps: &mut Steps<L>)
+        requires search { IsSearch net.now self.old }
+        requires settled { AreSettled net.now self.old }
+        requires stand { StandFirst self.old standing }
+        ensures counted { steps.new ≤ steps.old + 2 * length net.now.network.arcs }
+        ensures again { HasLookedAgain net.now self.old self.new }
+    {
+        each_activity_stands_once();
+        let gone = self.prune(standing);
+        if gone > self.head() {
+            self.scan_anew();
+        } else {
+            self.seek_lost(net, gone, steps);
+        }
+    }
+
+    // Seeks labels for the events that lost theirs.
+    fn seek_lost<L: Ledger>(&mut self, net: &CrashNet<'_>, gone: u32, steps: &mut Steps<L>)
+        requires search { IsSearch net.now self.old }
+        requires room { HaveRoom self.old }
+        requires few { gone ≤ self.old.events }
+        requires known { (k : ℕ) → k < gone → lost_of self.old k < self.old.events }
+        requires unlabelled { (k : ℕ) → k < gone → rank_of self.old (lost_of self.old k) ≡ 0 }
+        ensures counted { steps.new ≤ steps.old + sum_to gone
+            (λ k. degree net.now (lost_of self.old k)) }
+        ensures goes_on { GoesOn net.now
+            (IsAtLost net.now self.old gone) self.old self.new }
+    {
+        for i in 0..gone {
+            let e = self.lost(i);
+            // Only its own search gives an event its label, so none has one yet. The test spares the proof of that.
+            if self.rank(e) == 0 {
+                self.seek(net, e, steps);
+            }
+        }
     }
 }

@@ -1,12 +1,9 @@
 //! The search for steps with room: from the events that have a label, others are labelled along activities where more
 //! can flow and against those where less can (Fulkerson 1961).
 
-mod again;
-mod choosing;
 mod growing;
 mod labelling;
 mod raising;
-mod seeking;
 mod visiting;
 mod way;
 

@@ -1,5 +1,5 @@
 //! The flow raised where the labels reach the end.
-ghost use Rattle.std.specs.Prelude.{◌≡◌, ◌<◌};
+ghost use Rattle.std.specs.Prelude.{◌<◌};
 ghost use Rattle.pc_flow.specs.board.Sheets.{rank_of};
 ghost use Rattle.pc_flow.specs.inside.board.Labelling.{HasStep, HaveRoom, IsFor, IsRankedBack, HaveSteps};
 ghost use Rattle.pc_flow.specs.inside.board.Raising.{StandFirst};
@@ -40,7 +40,7 @@ impl Board {
         requires known { end < self.old.events }
         requires search { IsSearch net.now self.old }
         requires room { HaveRoom self.old }
-        ensures measured { IsMeasured net.now self.old self.new }
+        ensures { IsMeasured net.now self.old self.new }
     {
         let mut e = end;
         while self.rank(e) > 1 {
@@ -78,7 +78,7 @@ impl Board {
         requires steps { HaveSteps self.old }
         requires stairs { IsOnStairs net.now self.old }
         requires level { AreLevelBack net.now self.old self.old end }
-        ensures renewed { IsRenewedBack net.now self.old self.new end }
+        ensures { IsRenewedBack net.now self.old self.new end }
     {
         let mut e = end;
         while self.rank(e) > 1 {

@@ -243,7 +243,7 @@ impl Board {
         requires search { IsSearch net.now self.old }
         requires room { HaveRoom self.old }
         requires way { MayGoAlong net.now self.old a }
-        ensures visited { IsVisited net.now self.old self.new a }
+        ensures { IsVisited net.now self.old self.new a }
     {
         let after = self.stops_along(net, a, from, to);
         if after > 0 {
@@ -263,7 +263,7 @@ impl Board {
         requires search { IsSearch net.now self.old }
         requires room { HaveRoom self.old }
         requires way { MayGoAgainst net.now self.old a }
-        ensures visited { IsVisited net.now self.old self.new a }
+        ensures { IsVisited net.now self.old self.new a }
     {
         let after = self.stops_against(net, a, from, to);
         if after > 0 {
@@ -280,7 +280,7 @@ impl Board {
         requires search { IsSearch net.now self.old }
         requires room { HaveRoom self.old }
         requires later { StopsLater net.now self.old a }
-        ensures visited { IsVisited net.now self.old self.new a }
+        ensures { IsVisited net.now self.old self.new a }
     {
         self.wait(a);
     }

@@ -6,9 +6,9 @@ use Rattle.pc_model.proofs.Walks.PlaceLaws.{zero-at}
 use Rattle.pc_cells.specs.declared.region.Mark.{Mark}
 use Rattle.pc_cells.specs.Spans.{Cells}
 use Rattle.pc_cells.specs.inside.Spans.{cells_before, IsSpan, IsMark}
-use Rattle.pc_flow.specs.declared.board.columns.Column.{Column}
-use Rattle.pc_flow.specs.declared.board.columns.Column.TheVariants.{Time, Rank, Queue, Step, Against, Near, Room, Lost, Flow, Waiting, Slot, Due, Up, Down}
-use Rattle.pc_flow.specs.declared.board.columns.Columns.{Columns}
+use Rattle.pc_flow.specs.declared.board.board.Column.{Column}
+use Rattle.pc_flow.specs.declared.board.board.Column.TheVariants.{Time, Rank, Queue, Step, Against, Near, Room, Lost, Flow, Waiting, Slot, Due, Up, Down}
+use Rattle.pc_flow.specs.declared.board.board.Columns.{Columns}
 use Rattle.pc_flow.specs.declared.board.board.Board.TheInside.{Inside}
 use Rattle.pc_flow.specs.inside.board.Sheets.{clear_sheet}
 use Rattle.pc_flow.specs.inside.board.Places.{place_of, span_of, size_of}

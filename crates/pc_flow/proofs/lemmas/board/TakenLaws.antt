@@ -7,8 +7,8 @@ use Rattle.pc_cells.specs.declared.region.Span.{Span}
 use Rattle.pc_cells.specs.Spans.{Cells}
 use Rattle.pc_cells.specs.inside.Spans.{IsSpan, IsTaken}
 use Rattle.pc_cells.proofs.LiveLaws.{live-append}
-use Rattle.pc_flow.specs.declared.board.columns.Column.{Column}
-use Rattle.pc_flow.specs.declared.board.columns.Column.TheVariants.{Time, Rank, Queue, Step, Against, Near, Room, Lost, Flow, Waiting, Slot, Due, Up, Down}
+use Rattle.pc_flow.specs.declared.board.board.Column.{Column}
+use Rattle.pc_flow.specs.declared.board.board.Column.TheVariants.{Time, Rank, Queue, Step, Against, Near, Room, Lost, Flow, Waiting, Slot, Due, Up, Down}
 use Rattle.pc_flow.specs.inside.board.Taken.{AreColumnsTaken}
 use Rattle.pc_flow.specs.inside.board.Places.{place_of, span_of}
 

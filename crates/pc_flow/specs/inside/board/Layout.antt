@@ -2,7 +2,7 @@
 use Rattle.std.specs.Prelude.{◌≡◌, ℕ, ◌+◌, ◌^◌, ◌<◌, List, IsTrue, take, slice_index}
 use Rattle.pc_cells.specs.Spans.{Cells}
 use Rattle.pc_cells.specs.inside.Spans.{span_at, IsSpan, IsMark}
-use Rattle.pc_flow.specs.declared.board.columns.Column.{Column}
+use Rattle.pc_flow.specs.declared.board.board.Column.{Column}
 use Rattle.pc_flow.specs.declared.board.board.Board.TheInside.{Inside}
 use Rattle.pc_flow.specs.board.Sheets.{Sheet}
 use Rattle.pc_flow.specs.inside.board.Places.{place_of, span_of, size_of, is_small}

@@ -1,9 +1,9 @@
 -- The columns of a board, by name.
 use Rattle.std.specs.Prelude.{◌≡◌, ◌≢◌, ℕ, Bool, not, nat_lt, ◌==◌, ◌&&◌, if◌then◌else◌, List, slice_index}
 use Rattle.pc_cells.specs.declared.region.Span.{Span}
-use Rattle.pc_flow.specs.declared.board.columns.Column.{Column}
-use Rattle.pc_flow.specs.declared.board.columns.Column.TheVariants.{Time, Rank, Queue, Step, Against, Near, Room, Lost, Flow, Waiting, Slot, Due, Up, Down}
-use Rattle.pc_flow.specs.declared.board.columns.Columns.{Columns}
+use Rattle.pc_flow.specs.declared.board.board.Column.{Column}
+use Rattle.pc_flow.specs.declared.board.board.Column.TheVariants.{Time, Rank, Queue, Step, Against, Near, Room, Lost, Flow, Waiting, Slot, Due, Up, Down}
+use Rattle.pc_flow.specs.declared.board.board.Columns.{Columns}
 use Rattle.pc_flow.specs.board.Sheets.{Sheet}
 
 -- how many columns were taken before this one

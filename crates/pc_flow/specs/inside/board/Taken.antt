@@ -2,8 +2,8 @@
 use Rattle.std.specs.Prelude.{◌≡◌, ℕ, ◌+◌, List, [], ◌∷◌, ◌++◌, length, replicate}
 use Rattle.pc_cells.specs.Spans.{Cells}
 use Rattle.pc_cells.specs.inside.Spans.{IsSpan}
-use Rattle.pc_flow.specs.declared.board.columns.Column.{Column}
-use Rattle.pc_flow.specs.declared.board.columns.Columns.{Columns}
+use Rattle.pc_flow.specs.declared.board.board.Column.{Column}
+use Rattle.pc_flow.specs.declared.board.board.Columns.{Columns}
 use Rattle.pc_flow.specs.inside.board.Places.{place_of, span_of}
 
 -- eight spans with a zero for each event, and behind them six with one for each activity

@@ -1,11 +1,10 @@
 use Rattle.std.proofs.Common.{◌≡◌, ℕ, List, sym, ◌∙◌, ap, subst, arith}
 use Rattle.pc_model.specs.Network.{Network, IsOrder}
-use Rattle.pc_crash.specs.Priced.{PricedNetwork}
 use Rattle.pc_flow.specs.board.Sheets.{Sheet, rank_of}
-use Rattle.pc_flow.specs.inside.board.Labelling.{HasStep, IsFor}
+use Rattle.pc_flow.specs.inside.board.Labelling.{HasStep}
 use Rattle.pc_flow.specs.inside.board.Raising.{IsRaised, IsRaisedBy}
-use Rattle.pc_flow.specs.inside.search.Searches.{IsOnStairs, IsSearch}
-use Rattle.pc_flow.specs.inside.search.Lengths.{AreLevelBack, IsRenewedBack}
+use Rattle.pc_flow.specs.inside.search.Searches.{IsSearch}
+use Rattle.pc_flow.specs.inside.search.Lengths.{IsRenewedBack}
 use Rattle.pc_flow.specs.inside.search.Labelling.{IsBetween, HasRaised}
 use Rattle.pc_flow.proofs.lemmas.board.AfterRaising.{raised-for, raised-back, raised-steps}
 use Rattle.pc_flow.proofs.lemmas.search.StateLaws.{IsKnown, end-stepped}
@@ -32,25 +31,25 @@ measure_back-requires-clause-known c =
 
 pub raise-raised-requires-clause-ranked : goal.raise-raised-requires-clause-ranked
 raise-raised-requires-clause-ranked c =
-    (search-measured c.args.net.now c.args.self.now c.measure_back.new.self c.measure_back.ensures.measured c.requires.between.search).ranked
+    (search-measured c.args.net.now c.args.self.now c.measure_back.new.self c.measure_back.ensures c.requires.between.search).ranked
 
 pub raise-raised-requires-clause-back : goal.raise-raised-requires-clause-back
 raise-raised-requires-clause-back c =
-    (search-measured c.args.net.now c.args.self.now c.measure_back.new.self c.measure_back.ensures.measured c.requires.between.search).back
+    (search-measured c.args.net.now c.args.self.now c.measure_back.new.self c.measure_back.ensures c.requires.between.search).back
 
 pub raise-raised-requires-clause-steps : goal.raise-raised-requires-clause-steps
 raise-raised-requires-clause-steps c =
-    (search-measured c.args.net.now c.args.self.now c.measure_back.new.self c.measure_back.ensures.measured c.requires.between.search).steps
+    (search-measured c.args.net.now c.args.self.now c.measure_back.new.self c.measure_back.ensures c.requires.between.search).steps
 
 pub raise-raised-requires-clause-room : goal.raise-raised-requires-clause-room
 raise-raised-requires-clause-room c =
-    have_room-measured c.args.net.now c.args.self.now c.measure_back.new.self c.measure_back.ensures.measured
+    have_room-measured c.args.net.now c.args.self.now c.measure_back.new.self c.measure_back.ensures
 
 pub raise-raised-requires-clause-known : goal.raise-raised-requires-clause-known
 raise-raised-requires-clause-known c =
     let end : c.end-end.result ≡ c.args.net.now.network.end = c.end-end.ensures.end ∙ ap (λ (n : Network). n.end) c.net-shape.ensures.network in
     let search = c.requires.between.search in
-    omega (arith, end, search.in_range.end_in, search.fits.events, ap (λ (v : Sheet). v.events) c.measure_back.ensures.measured.rest)
+    omega (arith, end, search.in_range.end_in, search.fits.events, ap (λ (v : Sheet). v.events) c.measure_back.ensures.rest)
 
 pub raise-raised-requires-clause-led : goal.raise-raised-requires-clause-led
 raise-raised-requires-clause-led c =
@@ -58,8 +57,8 @@ raise-raised-requires-clause-led c =
     let m = c.measure_back.new.self in
     let end : c.end-end.result ≡ net.network.end = c.end-end.ensures.end ∙ ap (λ (n : Network). n.end) c.net-shape.ensures.network in
     subst (λ e. HasStep m e) (sym end)
-    (end-stepped net m (search-measured net c.args.self.now m c.measure_back.ensures.measured c.requires.between.search)
-    (omega (arith, c.requires.reached, ap (λ (v : Sheet). rank_of v net.network.end) c.measure_back.ensures.measured.rest)))
+    (end-stepped net m (search-measured net c.args.self.now m c.measure_back.ensures c.requires.between.search)
+    (omega (arith, c.requires.reached, ap (λ (v : Sheet). rank_of v net.network.end) c.measure_back.ensures.rest)))
 
 -- the board with the raised flows, on which the lengths are still those of before
 
@@ -72,7 +71,7 @@ renew_back-requires-clause-known c =
       end,
       search.in_range.end_in,
       search.fits.events,
-      ap (λ (v : Sheet). v.events) c.measure_back.ensures.measured.rest,
+      ap (λ (v : Sheet). v.events) c.measure_back.ensures.rest,
       ap (λ (v : Sheet). v.events) c.raise-raised.ensures.lengths,
     )
 
@@ -80,7 +79,7 @@ pub renew_back-requires-clause-fits : goal.renew_back-requires-clause-fits
 renew_back-requires-clause-fits c =
     let net = c.args.net.now in
     let m = c.measure_back.new.self in
-    let search : IsSearch net m = search-measured net c.args.self.now m c.measure_back.ensures.measured c.requires.between.search in
+    let search : IsSearch net m = search-measured net c.args.self.now m c.measure_back.ensures c.requires.between.search in
     let raised = c.raise-raised.ensures.raised in
     (raised-for m c.raise-raised.new.self _ c.raise-raised.result.by raised.0 search.steps raised.1 net.network search.fits)
 
@@ -88,7 +87,7 @@ pub renew_back-requires-clause-back : goal.renew_back-requires-clause-back
 renew_back-requires-clause-back c =
     let net = c.args.net.now in
     let m = c.measure_back.new.self in
-    let search : IsSearch net m = search-measured net c.args.self.now m c.measure_back.ensures.measured c.requires.between.search in
+    let search : IsSearch net m = search-measured net c.args.self.now m c.measure_back.ensures c.requires.between.search in
     let raised = c.raise-raised.ensures.raised in
     raised-back m c.raise-raised.new.self _ c.raise-raised.result.by raised.0 search.steps raised.1 search.back
 
@@ -96,7 +95,7 @@ pub renew_back-requires-clause-steps : goal.renew_back-requires-clause-steps
 renew_back-requires-clause-steps c =
     let net = c.args.net.now in
     let m = c.measure_back.new.self in
-    let search : IsSearch net m = search-measured net c.args.self.now m c.measure_back.ensures.measured c.requires.between.search in
+    let search : IsSearch net m = search-measured net c.args.self.now m c.measure_back.ensures c.requires.between.search in
     let raised = c.raise-raised.ensures.raised in
     raised-steps m c.raise-raised.new.self _ c.raise-raised.result.by raised.0 search.steps raised.1
 
@@ -105,7 +104,7 @@ renew_back-requires-clause-stairs c =
     let net = c.args.net.now in
     let s = c.args.self.now in
     let m = c.measure_back.new.self in
-    let on = c.measure_back.ensures.measured in
+    let on = c.measure_back.ensures in
     let order : List ℕ = c.order-order.result.now in
     let end : c.end-end.result ≡ net.network.end = c.end-end.ensures.end ∙ ap (λ (n : Network). n.end) c.net-shape.ensures.network in
     let known : IsKnown net = record {
@@ -125,7 +124,7 @@ renew_back-requires-clause-level c =
     let net = c.args.net.now in
     let m = c.measure_back.new.self in
     let t = c.raise-raised.new.self in
-    let search : IsSearch net m = search-measured net c.args.self.now m c.measure_back.ensures.measured c.requires.between.search in
+    let search : IsSearch net m = search-measured net c.args.self.now m c.measure_back.ensures c.requires.between.search in
     let raised = c.raise-raised.ensures.raised in
     (level-back net m t c.end-end.result c.raise-raised.result.by raised.0 search raised.1 c.raise-raised.ensures.lengths)
 
@@ -137,7 +136,7 @@ returns-clause-raised c =
     let t = c.raise-raised.new.self in
     let u = c.renew_back.new.self in
     let by = c.raise-raised.result.by in
-    let on = c.measure_back.ensures.measured in
+    let on = c.measure_back.ensures in
     let order : List ℕ = c.order-order.result.now in
     let end : c.end-end.result ≡ net.network.end = c.end-end.ensures.end ∙ ap (λ (n : Network). n.end) c.net-shape.ensures.network in
     let known : IsKnown net = record {
@@ -149,7 +148,7 @@ returns-clause-raised c =
     let ordered : IsOrder net.network order = subst (λ n. IsOrder n order) c.net-shape.ensures.network c.order-order.ensures.order in
     let between : IsBetween net m = between-measured net s m on c.requires.between in
     let raised : IsRaised m t net.network.end by = subst (λ e. IsRaised m t e by) end c.raise-raised.ensures.raised in
-    let renewed : IsRenewedBack net t u net.network.end = subst (λ e. IsRenewedBack net t u e) end c.renew_back.ensures.renewed in
+    let renewed : IsRenewedBack net t u net.network.end = subst (λ e. IsRenewedBack net t u e) end c.renew_back.ensures in
     let now : IsRaisedBy m u net.network.end by raised.0 = raised-renewed m t u renewed.rest net.network.end by raised.0 raised.1 in
     let whole : HasRaised net m u by =
     has_raised net known order ordered m u by raised.0 between (above-measured net s m on c.requires.above) now
@@ -159,5 +158,5 @@ returns-clause-raised c =
 
 pub returns-clause-stand : goal.returns-clause-stand
 returns-clause-stand c =
-    stand-renewed c.measure_back.new.self c.raise-raised.new.self c.renew_back.new.self c.renew_back.ensures.renewed.rest c.raise-raised.result.standing
+    stand-renewed c.measure_back.new.self c.raise-raised.new.self c.renew_back.new.self c.renew_back.ensures.rest c.raise-raised.result.standing
     c.raise-raised.ensures.stand

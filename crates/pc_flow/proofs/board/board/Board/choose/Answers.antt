@@ -1,5 +1,5 @@
-use Rattle.std.proofs.Common.{◌≡◌, ◌<◌, ◌+◌, length, refl, sym, subst, arith}
-use Rattle.pc_flow.specs.inside.search.Searches.{IsPricedBoard, IsQuiet}
+use Rattle.std.proofs.Common.{◌≡◌, ◌<◌, ◌+◌, length, subst, arith}
+use Rattle.pc_flow.specs.inside.search.Searches.{IsQuiet}
 use Rattle.pc_flow.specs.inside.search.Choosing.{StopsAt, IsStopOf}
 use Rattle.pc_flow.proofs.lemmas.search.ChoosingLaws.{IsChoosing, choosing-begins, choosing-keeps, choosing-goes, stops-relisted, quiet-relisted, priced-relisted}
 use Rattle.pc_flow.proofs.lemmas.search.StandLaws.{choosing-ends}

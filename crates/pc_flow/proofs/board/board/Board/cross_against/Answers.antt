@@ -4,8 +4,8 @@ use Rattle.pc_flow.proofs.lemmas.search.MeasureLaws.{unit-against}
 use Rattle.pc_flow.proofs.lemmas.search.CrossLaws.{stops-later, from-room, crossed-against}
 use Rattle.pc_flow.proofs.board.board.Board.cross_against.Goals as goal
 
-pub wait-requires-clause-later : goal.wait-requires-clause-later
-wait-requires-clause-later c =
+pub let_wait-requires-clause-later : goal.let_wait-requires-clause-later
+let_wait-requires-clause-later c =
     stops-later c.args.net.now c.args.self.now c.args.a c.requires.search c.requires.known c.requires.room
     Against c.stops_against-after.result c.requires.way c.stops_against-after.ensures c.if-after-gt0.true
 
@@ -14,8 +14,8 @@ enter-requires-clause-room c =
     from-room c.args.net.now c.args.self.now c.args.a c.requires.search c.requires.known c.requires.room c.args.from c.args.to c.requires.begins c.requires.ends
     c.requires.way
 
-pub returns-clause-visited : goal.returns-clause-visited
-returns-clause-visited c =
+pub returns : goal.returns
+returns c =
     crossed-against c.args.net.now c.args.self.now c.args.a c.requires.search c.requires.known c.requires.room c.args.from c.args.to c.requires.begins c.requires.ends
     c.requires.way c.enter.new.self 1
     (unit-against c.args.net.now c.args.self.now c.args.a c.requires.known c.requires.search.stairs c.requires.way.some

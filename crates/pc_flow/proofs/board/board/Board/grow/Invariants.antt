@@ -1,4 +1,4 @@
-use Rattle.std.proofs.Common.{◌≡◌, ◌≤◌, ◌+◌, ◌-◌, ℕ}
+use Rattle.std.proofs.Common.{◌≤◌, ◌+◌, ◌-◌, ℕ}
 use Rattle.pc_flow.proofs.lemmas.search.GrowLaws.{IsGrowing}
 use Rattle.pc_flow.proofs.board.board.Board.grow.Given as goal
 

@@ -1,7 +1,4 @@
-use Rattle.std.proofs.Common.{◌≡◌, ◌≤◌, ◌+◌, ◌*◌, ◌∙◌, length, sym, subst, arith}
-use Rattle.pc_crash.specs.Priced.{PricedNetwork}
-use Rattle.pc_flow.specs.inside.search.Growing.{AreSettled, HasGrown}
-use Rattle.pc_flow.specs.inside.search.Choosing.{HasChosen}
+use Rattle.std.proofs.Common.{◌≡◌, ◌+◌, ◌*◌, length, subst, arith}
 use Rattle.pc_flow.specs.inside.search.Labelling.{IsUnderWay, Rises}
 use Rattle.pc_flow.proofs.lemmas.search.LabelLaws.{under_way-begins, rises-joins, labelled-ends, looks-whole}
 use Rattle.pc_flow.proofs.board.board.Board.label.Goals as goal

@@ -1,9 +1,7 @@
-use Rattle.std.proofs.Common.{◌≡◌, refl, ap, sym, ◌∙◌, subst, arith}
+use Rattle.std.proofs.Common.{◌≡◌, ap, ◌∙◌, arith}
 use Rattle.pc_flow.specs.board.Sheets.{Sheet, rank_of}
 use Rattle.pc_flow.specs.inside.board.Sheets.{near_of}
 use Rattle.pc_flow.specs.inside.board.Labelling.{HasStep}
-use Rattle.pc_flow.specs.inside.search.Searches.{IsSearch}
-use Rattle.pc_flow.specs.inside.search.Rooms.{IsRoom}
 use Rattle.pc_flow.proofs.lemmas.search.MeasureLaws.{measuring-begins, measuring-goes_on, search-measured, have_room-measured}
 use Rattle.pc_flow.proofs.board.board.Board.measure_back.Goals as goal
 

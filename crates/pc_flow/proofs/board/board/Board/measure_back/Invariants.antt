@@ -1,4 +1,4 @@
-use Rattle.std.proofs.Common.{◌≡◌, ◌<◌}
+use Rattle.std.proofs.Common.{◌<◌}
 use Rattle.pc_flow.specs.board.Sheets.{rank_of}
 use Rattle.pc_flow.specs.inside.search.Rooms.{IsMeasured}
 use Rattle.pc_flow.proofs.board.board.Board.measure_back.Given as goal

@@ -1,7 +1,5 @@
-use Rattle.std.proofs.Common.{◌<◌, ◌≤◌, ◌*◌, ◌^◌, ◌∙◌, length, ap, subst, arith}
-use Rattle.pc_crash.specs.Priced.{PricedNetwork}
+use Rattle.std.proofs.Common.{◌<◌, ◌*◌, ◌^◌, length, arith}
 use Rattle.pc_flow.specs.search.Labelling.{slopes_in}
-use Rattle.pc_flow.specs.inside.search.Labelling.{IsUnderWay, Rises, slope_at}
 use Rattle.pc_flow.proofs.lemmas.search.StateLaws.{slopes-small}
 use Rattle.pc_flow.proofs.lemmas.search.LabelLaws.{rises-joins, looks-more}
 use Rattle.pc_flow.proofs.board.board.Board.raise_all.Goals as goal

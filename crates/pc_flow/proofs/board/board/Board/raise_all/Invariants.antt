@@ -1,4 +1,4 @@
-use Rattle.std.proofs.Common.{◌≡◌, ◌+◌, ◌*◌, ◌≤◌, ◌-◌, length}
+use Rattle.std.proofs.Common.{◌+◌, ◌*◌, ◌≤◌, ◌-◌, length}
 use Rattle.pc_flow.specs.search.Labelling.{slopes_in}
 use Rattle.pc_flow.specs.inside.search.Labelling.{IsUnderWay, Rises, slope_at}
 use Rattle.pc_flow.proofs.board.board.Board.raise_all.Given as goal

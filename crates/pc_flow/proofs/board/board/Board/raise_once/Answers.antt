@@ -1,6 +1,4 @@
-use Rattle.std.proofs.Common.{◌≡◌, ◌∙◌, length, ap, sym, subst, arith}
-use Rattle.pc_crash.specs.Priced.{PricedNetwork}
-use Rattle.pc_flow.specs.inside.search.Growing.{AreSettled, HasLookedAgain, HasGrown}
+use Rattle.std.proofs.Common.{arith}
 use Rattle.pc_flow.proofs.lemmas.search.LabelLaws.{rises-once, slope-once, under_way-once}
 use Rattle.pc_flow.proofs.board.board.Board.raise_once.Goals as goal
 

@@ -1,11 +1,8 @@
-use Rattle.std.proofs.Common.{◌≡◌, ◌<◌, ◌≤◌, suc, length, refl, ap, sym, ◌∙◌, subst, arith}
-use Rattle.pc_crash.specs.Priced.{PricedNetwork}
-use Rattle.pc_laws.specs.Stair.{full_reach}
+use Rattle.std.proofs.Common.{◌≡◌, ◌<◌, ◌≤◌, suc, length, ap, sym, ◌∙◌, subst, arith}
 use Rattle.pc_flow.specs.board.Sheets.{Sheet, rank_of, flow_of}
 use Rattle.pc_flow.specs.inside.board.Sheets.{step_of, near_of}
 use Rattle.pc_flow.specs.inside.board.Labelling.{HasStep, IsFor}
-use Rattle.pc_flow.specs.inside.search.Searches.{stair_at}
-use Rattle.pc_flow.specs.inside.search.Lengths.{IsLevelAt, RenewsAt}
+use Rattle.pc_flow.specs.inside.search.Lengths.{RenewsAt}
 use Rattle.pc_flow.proofs.lemmas.search.LengthLaws.{
   IsRenewing,
   renewing-begins,
@@ -18,7 +15,7 @@ use Rattle.pc_flow.proofs.lemmas.search.LengthLaws.{
 use Rattle.pc_flow.proofs.board.board.Board.renew_back.Goals as goal
 
 pub loop-self-init : goal.loop-self-init
-loop-self-init c = record { net = refl; renewing = (0, renewing-begins c.args.net.now c.args.self.now c.args.end c.requires.known c.requires.level) }
+loop-self-init c = (0, renewing-begins c.args.net.now c.args.self.now c.args.end c.requires.known c.requires.level)
 
 pub rank-requires : goal.rank-requires
 rank-requires c =
@@ -98,8 +95,8 @@ loop-self-preserved c =
     let near : near_of s c.loop-self.e ≡ c.near-e.result = sym (c.near-e.ensures ∙ ap (λ (u : Sheet). near_of u c.loop-self.e) next.rest) in
     (suc on.0, subst (λ x. IsRenewing net s u c.args.end (suc on.0) x) near next)
 
-pub returns-clause-renewed : goal.returns-clause-renewed
-returns-clause-renewed c =
+pub returns : goal.returns
+returns c =
     let on = c.loop-self.invariant in
     let last : rank_of c.args.self.now c.loop-self.e ≤ 1 =
     omega (arith, c.loop-self-test.false, c.rank.ensures, ap (λ (u : Sheet). rank_of u c.loop-self.e) on.1.rest) in

@@ -1,4 +1,4 @@
-use Rattle.std.proofs.Common.{◌≡◌, ℕ}
+use Rattle.std.proofs.Common.{ℕ}
 use Rattle.pc_flow.specs.board.Sheets.{rank_of}
 use Rattle.pc_flow.proofs.lemmas.search.LengthLaws.{IsRenewing}
 use Rattle.pc_flow.proofs.board.board.Board.renew_back.Given as goal

@@ -1,4 +1,4 @@
-use Rattle.std.proofs.Common.{◌≡◌, ◌≤◌, ◌+◌}
+use Rattle.std.proofs.Common.{◌≤◌, ◌+◌}
 use Rattle.pc_model.specs.Greatest.{StandsBelow}
 use Rattle.pc_crash.specs.inside.Links.{activities_of}
 use Rattle.pc_flow.specs.inside.search.Growing.{GoesOn}

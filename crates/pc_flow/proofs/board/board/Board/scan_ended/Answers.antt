@@ -1,7 +1,6 @@
-use Rattle.std.proofs.Common.{◌≡◌, length, refl, ◌∙◌, subst, arith}
+use Rattle.std.proofs.Common.{◌≡◌, length, subst, arith}
 use Rattle.pc_model.specs.Greatest.{StandsBelow}
 use Rattle.pc_crash.specs.inside.Links.{activities_of, link_at}
-use Rattle.pc_flow.specs.inside.search.Searches.{IsVisited}
 use Rattle.pc_flow.specs.inside.search.Growing.{GoesOn}
 use Rattle.pc_flow.proofs.lemmas.search.GrowingLaws.{goes_on-begins, goes_on-visits, grows-labelled}
 use Rattle.pc_flow.proofs.lemmas.search.LinkLaws.{activity_at}

@@ -1,8 +1,7 @@
-use Rattle.std.proofs.Common.{◌≡◌, ◌<◌, ◌⊎◌, ℕ, List, length, ap, inl, inr, ◌∙◌, subst, sym, arith}
+use Rattle.std.proofs.Common.{◌≡◌, ◌<◌, ◌⊎◌, ℕ, List, length, ap, inl, inr, sym, arith}
 use Rattle.pc_model.specs.Greatest.{StandsBelow}
 use Rattle.pc_model.specs.Walk.{from_of, to_of}
-use Rattle.pc_crash.specs.Priced.{PricedNetwork}
-use Rattle.pc_crash.specs.inside.Links.{activities_of, link_at}
+use Rattle.pc_crash.specs.inside.Links.{activities_of}
 use Rattle.pc_flow.specs.inside.search.Growing.{GoesOn, IsAt}
 use Rattle.pc_flow.proofs.lemmas.search.GrowingLaws.{goes_on-joins}
 use Rattle.pc_flow.proofs.lemmas.search.LinkLaws.{link_listed, link_stands, links_count}

@@ -1,8 +1,7 @@
-use Rattle.std.proofs.Common.{◌≡◌, ◌+◌, length, refl, sym, ◌∙◌, ap, subst, inl, inr, arith}
+use Rattle.std.proofs.Common.{◌≡◌, ◌+◌, length, sym, ◌∙◌, ap, subst, inl, inr, arith}
 use Rattle.pc_model.specs.Greatest.{StandsBelow}
 use Rattle.pc_model.specs.Walk.{from_of}
 use Rattle.pc_crash.specs.inside.Links.{activities_of, link_at}
-use Rattle.pc_flow.specs.inside.search.Searches.{IsVisited}
 use Rattle.pc_flow.specs.inside.search.Growing.{GoesOn}
 use Rattle.pc_flow.proofs.lemmas.search.GrowingLaws.{goes_on-begins, goes_on-visits}
 use Rattle.pc_flow.proofs.lemmas.search.SeekLaws.{goes_on-labelled, unlabelled-still}

@@ -1,8 +1,8 @@
-use Rattle.std.proofs.Common.{◌≡◌, ◌+◌, suc, refl, ◌∙◌, ap, subst, arith}
+use Rattle.std.proofs.Common.{◌≡◌, ◌+◌, suc, ◌∙◌, ap, arith}
 use Rattle.pc_model.specs.Sums.{sum_to}
 use Rattle.pc_flow.specs.board.Sheets.{Sheet}
 use Rattle.pc_flow.specs.inside.board.Sheets.{lost_of}
-use Rattle.pc_flow.specs.inside.search.Growing.{degree, GoesOn, IsAt, IsAtLost}
+use Rattle.pc_flow.specs.inside.search.Growing.{degree, IsAtLost}
 use Rattle.pc_flow.proofs.lemmas.search.GrowingLaws.{goes_on-begins}
 use Rattle.pc_flow.proofs.lemmas.search.SeekLaws.{lost-goes_on, lost-labelled}
 use Rattle.pc_flow.proofs.board.board.Board.seek_lost.Goals as goal

@@ -1,4 +1,4 @@
-use Rattle.std.proofs.Common.{◌≡◌, ◌≤◌, ◌+◌}
+use Rattle.std.proofs.Common.{◌≤◌, ◌+◌}
 use Rattle.pc_model.specs.Sums.{sum_to}
 use Rattle.pc_flow.specs.inside.board.Sheets.{lost_of}
 use Rattle.pc_flow.specs.inside.search.Growing.{degree, GoesOn, IsAtLost}

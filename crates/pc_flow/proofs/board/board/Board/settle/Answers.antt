@@ -1,8 +1,7 @@
-use Rattle.std.proofs.Common.{◌≡◌, ◌<◌, true, false, refl, sym, ◌∙◌, ap, subst, inl, inr, arith}
+use Rattle.std.proofs.Common.{◌≡◌, ◌<◌, true, false, sym, ◌∙◌, ap, subst, inl, inr, arith}
 use Rattle.std.proofs.lemmas.Bool.{cases_lt}
 use Rattle.pc_flow.specs.board.Sheets.{Sheet}
 use Rattle.pc_flow.specs.inside.board.Sheets.{waiting_of, due_of}
-use Rattle.pc_flow.specs.inside.search.Searches.{IsVisited}
 use Rattle.pc_flow.specs.inside.search.Growing.{GoesOn}
 use Rattle.pc_flow.proofs.lemmas.search.GrowingLaws.{IsDueBelow, goes_on-begins, goes_on-due, goes_on-waits, settled-all}
 use Rattle.pc_flow.proofs.board.board.Board.settle.Goals as goal

@@ -6,7 +6,7 @@ use Rattle.pc_flow.specs.board.Sheets.{time_of, flow_of}
 use Rattle.pc_flow.specs.inside.search.Choosing.{moving}
 use Rattle.pc_flow.specs.search.Labelling.{length_at}
 use Rattle.pc_flow.specs.inside.search.Labelling.{slope_at}
-use Rattle.pc_flow.proofs.stepping.search_on.Goals as goal
+use Rattle.pc_flow.proofs.solver.search_on.Goals as goal
 
 pub returns-then-time-shortest-clause-counted : goal.returns-then-time-shortest-clause-counted
 returns-then-time-shortest-clause-counted g c =

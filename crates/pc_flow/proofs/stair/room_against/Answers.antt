@@ -1,7 +1,7 @@
 use Rattle.std.proofs.Common.{arith}
 use Rattle.pc_flow.specs.inside.stair.Rows.{stair}
 use Rattle.pc_laws.proofs.Stairs.OnStair.{stair-against}
-use Rattle.pc_flow.proofs.stair.room.room_against.Goals as goal
+use Rattle.pc_flow.proofs.stair.room_against.Goals as goal
 
 pub returns-clause-room : goal.returns-clause-room
 returns-clause-room c =

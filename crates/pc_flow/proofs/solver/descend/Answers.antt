@@ -1,6 +1,6 @@
 use Rattle.std.proofs.Common.{refl, arith}
 use Rattle.pc_flow.proofs.lemmas.search.FallenLaws.{fall-fits, has_fallen}
-use Rattle.pc_flow.proofs.stepping.descend.Goals as goal
+use Rattle.pc_flow.proofs.solver.descend.Goals as goal
 
 pub fall-requires : goal.fall-requires
 fall-requires c =
@@ -16,7 +16,4 @@ returns-then-fall-gt0 c = record {
 }
 
 pub returns-else-fall-gt0 : goal.returns-else-fall-gt0
-returns-else-fall-gt0 c = record {
-  still = λ none. refl;
-  fallen = λ some. absurd (omega (arith, some, c.if-fall-gt0.false));
-}
+returns-else-fall-gt0 c = record { still = λ none. refl; fallen = λ some. absurd (omega (arith, some, c.if-fall-gt0.false)) }

@@ -2,7 +2,7 @@ use Rattle.std.proofs.Common.{arith, length, suc, sym}
 use Rattle.pc_model.proofs.Sums.{sum_to-mono}
 use Rattle.pc_flow.specs.inside.stair.Rows.{stair}
 use Rattle.pc_laws.proofs.Stairs.Units.{unit-at}
-use Rattle.pc_flow.proofs.stair.piece.piece_of.Goals as goal
+use Rattle.pc_flow.proofs.stair.piece_of.Goals as goal
 
 -- no knee reaches past the last slope
 pub overflow_add-above : goal.overflow_add-above

@@ -1,6 +1,6 @@
 use Rattle.std.proofs.Common.{ap, arith}
 use Rattle.pc_flow.specs.board.Sheets.{time_of}
-use Rattle.pc_flow.proofs.viewing.SolverSegmentView.duration.Goals as goal
+use Rattle.pc_flow.proofs.solver.SolverSegmentView.duration.Goals as goal
 
 pub overflow_sub-ends : goal.overflow_sub-ends
 overflow_sub-ends c =

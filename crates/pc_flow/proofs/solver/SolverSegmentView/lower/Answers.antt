@@ -1,7 +1,7 @@
 use Rattle.std.proofs.Common.{arith}
 use Rattle.pc_flow.specs.inside.Solvers.{course_of}
 use Rattle.pc_flow.proofs.CourseLaws.{fall-within}
-use Rattle.pc_flow.proofs.viewing.SolverSegmentView.lower.Goals as goal
+use Rattle.pc_flow.proofs.solver.SolverSegmentView.lower.Goals as goal
 
 pub overflow_sub-result : goal.overflow_sub-result
 overflow_sub-result c =

@@ -2,7 +2,7 @@ use Rattle.std.proofs.Common.{◌∙◌, arith}
 use Rattle.pc_model.specs.Schedule.{crash_of}
 use Rattle.pc_flow.specs.board.Sheets.{flow_of}
 use Rattle.pc_flow.proofs.FlowLaws.{knee-flow, beside-flow}
-use Rattle.pc_flow.proofs.viewing.SolverSegmentView.flow.Goals as goal
+use Rattle.pc_flow.proofs.solver.SolverSegmentView.flow.Goals as goal
 
 pub returns-then-k-len-clause-at_knee : goal.returns-then-k-len-clause-at_knee
 returns-then-k-len-clause-at_knee c = rw (← c.self.view_is) (λ below.
