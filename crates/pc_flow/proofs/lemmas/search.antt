@@ -20,3 +20,4 @@ pub mod StateLaws
 pub mod StepLaws
 pub mod StopLaws
 pub mod VisitLaws
+pub mod WayLaws

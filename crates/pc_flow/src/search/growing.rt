@@ -1,10 +1,10 @@
 //! Labels that are given along steps with room, from event to event.
 ghost use Rattle.std.specs.Prelude.{◌≡◌, ◌+◌, ◌*◌, ◌<◌, ◌≤◌, ℕ, length};
 ghost use Rattle.pc_model.specs.Greatest.{StandsBelow};
-ghost use Rattle.pc_model.specs.Walk.{from_of, to_of};
-ghost use Rattle.pc_crash.specs.inside.Links.{activities_of, link_at};
+ghost use Rattle.pc_crash.specs.inside.Links.{activities_of};
 ghost use Rattle.pc_flow.specs.board.Sheets.{rank_of};
 ghost use Rattle.pc_flow.specs.inside.board.Labelling.{HaveRoom};
+ghost use Rattle.pc_flow.specs.inside.search.Ways.{near_in, far_in, AreLinks};
 ghost use Rattle.pc_flow.specs.inside.search.Searches.{IsSearch};
 ghost use Rattle.pc_flow.specs.inside.search.Growing.{IsAt, degree, AreListed, AreSettled, GoesOn, HasSettled, HasGrown, IsAtLost, HasLookedAgain};
 ghost use Rattle.pc_model.specs.Sums.{sum_to};
@@ -12,6 +12,7 @@ ghost use Rattle.pc_flow.specs.inside.board.Sheets.{lost_of};
 ghost use Rattle.pc_flow.specs.inside.board.Raising.{StandFirst};
 
 use crate::board::Board;
+use crate::search::way::Way;
 use pc_crash::{CrashNet, Link, Steps};
 use pc_net::each_activity_stands_once;
 use std::sync::ledger::Ledger;
@@ -28,25 +29,21 @@ impl Board {
         ensures counted { steps.new ≤ steps.old + degree net.now e }
         ensures goes_on { GoesOn net.now (IsAt net.now e) self.old self.new }
     {
-        self.scan_begun(net, e, net.out_links(e), steps);
-        self.scan_ended(net, e, net.in_links(e), steps);
+        self.scan_links(net, e, net.out_links(e), Way::Along, steps);
+        self.scan_links(net, e, net.in_links(e), Way::Against, steps);
     }
 
-    // Visits these activities, which begin at an event with a label.
+    // Visits these activities, at an event with a label, from there this way.
     #[inline(always)]
-    fn scan_begun<L: Ledger>(
+    fn scan_links<L: Ledger>(
         &mut self,
         net: &CrashNet<'_>,
         e: u32,
         links: &[Link],
+        way: Way,
         steps: &mut Steps<L>,
     )
-        requires known { (k : ℕ) → k < length links.now →
-            (link_at links.now k).activity < length net.now.network.arcs }
-        requires begin { (k : ℕ) → k < length links.now →
-            from_of net.now.network.arcs (link_at links.now k).activity ≡ e }
-        requires others { (k : ℕ) → k < length links.now →
-            to_of net.now.network.arcs (link_at links.now k).activity ≡ (link_at links.now k).other }
+        requires links { AreLinks net.now (near_in net.now way) (far_in net.now way) e links.now }
         requires labelled { 0 < rank_of self.old e }
         requires search { IsSearch net.now self.old }
         requires room { HaveRoom self.old }
@@ -55,34 +52,7 @@ impl Board {
             (StandsBelow (activities_of links.now) (length links.now)) self.old self.new }
     {
         for link in links {
-            self.visit_along_from(net, link.activity, e, link.other, steps);
-        }
-    }
-
-    // Visits these activities, which end at an event with a label.
-    #[inline(always)]
-    fn scan_ended<L: Ledger>(
-        &mut self,
-        net: &CrashNet<'_>,
-        e: u32,
-        links: &[Link],
-        steps: &mut Steps<L>,
-    )
-        requires known { (k : ℕ) → k < length links.now →
-            (link_at links.now k).activity < length net.now.network.arcs }
-        requires end { (k : ℕ) → k < length links.now →
-            to_of net.now.network.arcs (link_at links.now k).activity ≡ e }
-        requires others { (k : ℕ) → k < length links.now →
-            from_of net.now.network.arcs (link_at links.now k).activity ≡ (link_at links.now k).other }
-        requires labelled { 0 < rank_of self.old e }
-        requires search { IsSearch net.now self.old }
-        requires room { HaveRoom self.old }
-        ensures counted { steps.new ≤ steps.old + length links.now }
-        ensures goes_on { GoesOn net.now
-            (StandsBelow (activities_of links.now) (length links.now)) self.old self.new }
-    {
-        for link in links {
-            self.visit_against_from(net, link.activity, link.other, e, steps);
+            self.visit_from(net, link.activity, e, link.other, way, steps);
         }
     }
 
@@ -128,27 +98,23 @@ impl Board {
         ensures counted { steps.new ≤ steps.old + degree net.now e }
         ensures goes_on { GoesOn net.now (IsAt net.now e) self.old self.new }
     {
-        self.seek_begun(net, e, net.out_links(e), steps);
+        self.seek_links(net, e, net.out_links(e), Way::Against, steps);
         if self.rank(e) == 0 {
-            self.seek_ended(net, e, net.in_links(e), steps);
+            self.seek_links(net, e, net.in_links(e), Way::Along, steps);
         }
     }
 
-    // Visits these activities, which begin at an event without a label, until it has one.
+    // Visits these activities, at an event without a label, to it this way, until it has one.
     #[inline(always)]
-    fn seek_begun<L: Ledger>(
+    fn seek_links<L: Ledger>(
         &mut self,
         net: &CrashNet<'_>,
         e: u32,
         links: &[Link],
+        way: Way,
         steps: &mut Steps<L>,
     )
-        requires known { (k : ℕ) → k < length links.now →
-            (link_at links.now k).activity < length net.now.network.arcs }
-        requires begin { (k : ℕ) → k < length links.now →
-            from_of net.now.network.arcs (link_at links.now k).activity ≡ e }
-        requires others { (k : ℕ) → k < length links.now →
-            to_of net.now.network.arcs (link_at links.now k).activity ≡ (link_at links.now k).other }
+        requires links { AreLinks net.now (far_in net.now way) (near_in net.now way) e links.now }
         requires unlabelled { rank_of self.old e ≡ 0 }
         requires search { IsSearch net.now self.old }
         requires room { HaveRoom self.old }
@@ -157,36 +123,7 @@ impl Board {
             (StandsBelow (activities_of links.now) (length links.now)) self.old self.new }
     {
         for link in links {
-            if self.visit_against_to(net, link.activity, e, link.other, steps) {
-                return;
-            }
-        }
-    }
-
-    // Visits these activities, which end at an event without a label, until it has one.
-    #[inline(always)]
-    fn seek_ended<L: Ledger>(
-        &mut self,
-        net: &CrashNet<'_>,
-        e: u32,
-        links: &[Link],
-        steps: &mut Steps<L>,
-    )
-        requires known { (k : ℕ) → k < length links.now →
-            (link_at links.now k).activity < length net.now.network.arcs }
-        requires end { (k : ℕ) → k < length links.now →
-            to_of net.now.network.arcs (link_at links.now k).activity ≡ e }
-        requires others { (k : ℕ) → k < length links.now →
-            from_of net.now.network.arcs (link_at links.now k).activity ≡ (link_at links.now k).other }
-        requires unlabelled { rank_of self.old e ≡ 0 }
-        requires search { IsSearch net.now self.old }
-        requires room { HaveRoom self.old }
-        ensures counted { steps.new ≤ steps.old + length links.now }
-        ensures goes_on { GoesOn net.now
-            (StandsBelow (activities_of links.now) (length links.now)) self.old self.new }
-    {
-        for link in links {
-            if self.visit_along_to(net, link.activity, link.other, e, steps) {
+            if self.visit_to(net, link.activity, link.other, e, way, steps) {
                 return;
             }
         }

@@ -113,6 +113,7 @@ impl Board {
     {
         let look = net.look(a, steps);
         let way = self.way(net, a, &look)?;
-        Some(self.stop(net, a, &look, way))
+        let (near, far) = way.ends(look.from, look.to);
+        Some(self.stop(net, a, near, far, way))
     }
 }

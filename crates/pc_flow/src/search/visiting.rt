@@ -2,25 +2,13 @@
 ghost use Rattle.std.specs.Prelude.{◌≡◌, ◌+◌, ◌<◌, ◌≤◌, ◌↔◌, IsTrue, length};
 ghost use Rattle.pc_crash.specs.inside.Looks.{IsLookAt};
 ghost use Rattle.pc_model.specs.Network.{IsInRange};
-ghost use Rattle.pc_model.specs.Walk.{from_of, to_of};
 ghost use Rattle.pc_flow.specs.board.Sheets.{rank_of};
 ghost use Rattle.pc_flow.specs.inside.board.Labelling.{HaveRoom, IsFor};
-ghost use Rattle.pc_flow.specs.inside.search.Searches.{
-  IsSearch,
-  IsPricedBoard,
-  IsWay,
-  MayGoAlong,
-  MayGoAgainst,
-  StopsAlong,
-  StopsAgainst,
-  StopsAfter,
-  StopsLater,
-  IsVisited,
-};
+ghost use Rattle.pc_flow.specs.inside.search.Ways.{near_in, far_in, CanFlow};
+ghost use Rattle.pc_flow.specs.inside.search.Searches.{IsSearch, IsPricedBoard, IsWay, StopsAfter, IsVisited};
 
 use crate::board::Board;
 use crate::search::way::Way;
-use crate::stair::Knee;
 use pc_crash::{CrashNet, Look, Steps};
 use std::sync::ledger::Ledger;
 
@@ -45,47 +33,23 @@ impl Board {
         }
     }
 
-    /// Returns after how long a step of the times an activity stops that labels may cross this way.
+    /// Returns after how long a step of the times an activity stops that labels may cross this way, from the event
+    /// `near` to the event `far`.
     #[inline(always)]
-    pub fn stop(&self, net: &CrashNet<'_>, a: u32, look: &Look, way: Way) -> u64
+    pub fn stop(&self, net: &CrashNet<'_>, a: u32, near: u32, far: u32, way: Way) -> u64
         requires known { a < length net.now.network.arcs }
-        requires look { IsLookAt net.now a look.now }
+        requires near { near_in net.now way a ≡ near }
+        requires far { far_in net.now way a ≡ far }
         requires board { IsPricedBoard net.now self.now }
         requires way { IsWay net.now self.now a (Some way) }
         ensures { StopsAfter net.now self.now a way result }
     {
+        let rests = self.resting_time(near);
+        let falls = self.falling_time(far);
         match way {
-            Way::Along => self.stops_along(net, a, look.from, look.to),
-            Way::Against => self.stops_against(net, a, look.from, look.to),
+            Way::Along => falls - rests - self.up(a),
+            Way::Against => self.down(a) - (rests - falls),
         }
-    }
-
-    // After how long an activity stops that labels may cross along it.
-    #[inline(always)]
-    fn stops_along(&self, net: &CrashNet<'_>, a: u32, from: u32, to: u32) -> u64
-        requires known { a < length net.now.network.arcs }
-        requires begins { from ≡ from_of net.now.network.arcs a }
-        requires ends { to ≡ to_of net.now.network.arcs a }
-        requires board { IsPricedBoard net.now self.now }
-        requires way { MayGoAlong net.now self.now a }
-        ensures { StopsAlong net.now self.now a result }
-    {
-        let gap = self.falling_time(to) - self.resting_time(from);
-        gap - self.up(a)
-    }
-
-    // After how long an activity stops that labels may cross against it.
-    #[inline(always)]
-    fn stops_against(&self, net: &CrashNet<'_>, a: u32, from: u32, to: u32) -> u64
-        requires known { a < length net.now.network.arcs }
-        requires begins { from ≡ from_of net.now.network.arcs a }
-        requires ends { to ≡ to_of net.now.network.arcs a }
-        requires board { IsPricedBoard net.now self.now }
-        requires way { MayGoAgainst net.now self.now a }
-        ensures { StopsAgainst net.now self.now a result }
-    {
-        let gap = self.resting_time(to) - self.falling_time(from);
-        self.down(a) - gap
     }
 
     /// Labels the far event of an activity if its step has residual capacity, and otherwise lets the activity wait for
@@ -106,182 +70,100 @@ impl Board {
             Some(way) => way,
             None => return,
         };
-        match way {
-            Way::Along => self.cross_along(net, a, look.from, look.to),
-            Way::Against => self.cross_against(net, a, look.from, look.to),
-        }
+        let (near, far) = way.ends(look.from, look.to);
+        self.cross(net, a, near, far, way);
     }
 
-    /// Visits an activity that begins at an event with a label: along it, if its other end has none. One look.
+    /// Visits an activity from an event with a label: this way, if its other end has none and more can flow. One look.
     ///
-    /// This and the next three calls get the events at both ends, so that the rank of the other end alone says of most
-    /// activities that labels may not cross.
+    /// This and the next call get the events at both ends, so that the rank of the other end alone says of most
+    /// activities that labels may not cross. They use nothing of what the look tells, so that a compiler leaves out
+    /// reading the activity's row.
     #[inline(always)]
-    pub fn visit_along_from<L: Ledger>(
+    pub fn visit_from<L: Ledger>(
         &mut self,
         net: &CrashNet<'_>,
         a: u32,
-        from: u32,
-        to: u32,
+        near: u32,
+        far: u32,
+        way: Way,
         steps: &mut Steps<L>,
     )
         requires known { a < length net.now.network.arcs }
-        requires begins { from_of net.now.network.arcs a ≡ from }
-        requires ends { to_of net.now.network.arcs a ≡ to }
-        requires labelled { 0 < rank_of self.old from }
+        requires near { near_in net.now way a ≡ near }
+        requires far { far_in net.now way a ≡ far }
+        requires labelled { 0 < rank_of self.old near }
         requires search { IsSearch net.now self.old }
         requires room { HaveRoom self.old }
         ensures counted { steps.new ≤ steps.old + 1 }
         ensures visited { IsVisited net.now self.old self.new a }
-    {
-        self.count_look(net, a, steps);
-        if self.rank(to) == 0 {
-            self.cross_along(net, a, from, to);
-        }
-    }
-
-    /// Visits an activity that ends at an event with a label: against it, if its other end has none and something
-    /// flows. One look.
-    #[inline(always)]
-    pub fn visit_against_from<L: Ledger>(
-        &mut self,
-        net: &CrashNet<'_>,
-        a: u32,
-        from: u32,
-        to: u32,
-        steps: &mut Steps<L>,
-    )
-        requires known { a < length net.now.network.arcs }
-        requires begins { from_of net.now.network.arcs a ≡ from }
-        requires ends { to_of net.now.network.arcs a ≡ to }
-        requires labelled { 0 < rank_of self.old to }
-        requires search { IsSearch net.now self.old }
-        requires room { HaveRoom self.old }
-        ensures counted { steps.new ≤ steps.old + 1 }
-        ensures visited { IsVisited net.now self.old self.new a }
-    {
-        self.count_look(net, a, steps);
-        if self.rank(from) == 0 && self.flow(a) > 0 {
-            self.cross_against(net, a, from, to);
-        }
-    }
-
-    /// Visits an activity that ends at an event without a label: along it, if its other end has one. Returns whether
-    /// the event has a label then. One look.
-    #[inline(always)]
-    pub fn visit_along_to<L: Ledger>(
-        &mut self,
-        net: &CrashNet<'_>,
-        a: u32,
-        from: u32,
-        to: u32,
-        steps: &mut Steps<L>,
-    ) -> bool
-        requires known { a < length net.now.network.arcs }
-        requires begins { from_of net.now.network.arcs a ≡ from }
-        requires ends { to_of net.now.network.arcs a ≡ to }
-        requires unlabelled { rank_of self.old to ≡ 0 }
-        requires search { IsSearch net.now self.old }
-        requires room { HaveRoom self.old }
-        ensures counted { steps.new ≤ steps.old + 1 }
-        ensures labelled { IsTrue result ↔ (0 < rank_of self.new to) }
-        ensures visited { IsVisited net.now self.old self.new a }
-    {
-        self.count_look(net, a, steps);
-        if self.rank(from) == 0 {
-            return false;
-        }
-        self.cross_along(net, a, from, to);
-        self.rank(to) > 0
-    }
-
-    /// Visits an activity that begins at an event without a label: against it, if its other end has one and something
-    /// flows. Returns whether the event has a label then. One look.
-    #[inline(always)]
-    pub fn visit_against_to<L: Ledger>(
-        &mut self,
-        net: &CrashNet<'_>,
-        a: u32,
-        from: u32,
-        to: u32,
-        steps: &mut Steps<L>,
-    ) -> bool
-        requires known { a < length net.now.network.arcs }
-        requires begins { from_of net.now.network.arcs a ≡ from }
-        requires ends { to_of net.now.network.arcs a ≡ to }
-        requires unlabelled { rank_of self.old from ≡ 0 }
-        requires search { IsSearch net.now self.old }
-        requires room { HaveRoom self.old }
-        ensures counted { steps.new ≤ steps.old + 1 }
-        ensures labelled { IsTrue result ↔ (0 < rank_of self.new from) }
-        ensures visited { IsVisited net.now self.old self.new a }
-    {
-        self.count_look(net, a, steps);
-        if self.rank(to) == 0 || self.flow(a) == 0 {
-            return false;
-        }
-        self.cross_against(net, a, from, to);
-        self.rank(from) > 0
-    }
-
-    // Looks at an activity that a link names, and uses nothing of what the look tells, so that a compiler leaves out
-    // reading the activity's row.
-    #[inline(always)]
-    fn count_look<L: Ledger>(&self, net: &CrashNet<'_>, a: u32, steps: &mut Steps<L>)
-        requires known { a < length net.now.network.arcs }
-        ensures counted { steps.new ≡ steps.old + 1 }
     {
         let _look = net.look(a, steps);
+        if self.rank(far) == 0 && self.can_flow(a, way) {
+            self.cross(net, a, near, far, way);
+        }
     }
 
-    // Labels the event where an activity ends that labels may cross along it, or has the activity wait.
-    #[inline(never)]
-    fn cross_along(&mut self, net: &CrashNet<'_>, a: u32, from: u32, to: u32)
+    /// Visits an activity to an event without a label: this way, if its other end has one and more can flow. Returns
+    /// whether the event has a label then. One look.
+    #[inline(always)]
+    pub fn visit_to<L: Ledger>(
+        &mut self,
+        net: &CrashNet<'_>,
+        a: u32,
+        near: u32,
+        far: u32,
+        way: Way,
+        steps: &mut Steps<L>,
+    ) -> bool
         requires known { a < length net.now.network.arcs }
-        requires begins { from ≡ from_of net.now.network.arcs a }
-        requires ends { to ≡ to_of net.now.network.arcs a }
+        requires near { near_in net.now way a ≡ near }
+        requires far { far_in net.now way a ≡ far }
+        requires unlabelled { rank_of self.old far ≡ 0 }
         requires search { IsSearch net.now self.old }
         requires room { HaveRoom self.old }
-        requires way { MayGoAlong net.now self.old a }
+        ensures counted { steps.new ≤ steps.old + 1 }
+        ensures labelled { IsTrue result ↔ (0 < rank_of self.new far) }
+        ensures visited { IsVisited net.now self.old self.new a }
+    {
+        let _look = net.look(a, steps);
+        if self.rank(near) == 0 || !self.can_flow(a, way) {
+            return false;
+        }
+        self.cross(net, a, near, far, way);
+        self.rank(far) > 0
+    }
+
+    // Whether more can flow this way: along an activity always, and against it if something flows there.
+    #[inline(always)]
+    fn can_flow(&self, a: u32, way: Way) -> bool
+        requires { a < self.now.activities }
+        ensures { IsTrue result ↔ CanFlow self.now way a }
+    {
+        match way {
+            Way::Along => true,
+            Way::Against => self.flow(a) > 0,
+        }
+    }
+
+    // Labels the event to which a step leads that labels may take, or has its activity wait that stops only after a
+    // fall.
+    #[inline(never)]
+    fn cross(&mut self, net: &CrashNet<'_>, a: u32, near: u32, far: u32, way: Way)
+        requires known { a < length net.now.network.arcs }
+        requires near { near_in net.now way a ≡ near }
+        requires far { far_in net.now way a ≡ far }
+        requires search { IsSearch net.now self.old }
+        requires room { HaveRoom self.old }
+        requires way { IsWay net.now self.old a (Some way) }
         ensures { IsVisited net.now self.old self.new a }
     {
-        let after = self.stops_along(net, a, from, to);
+        let after = self.stop(net, a, near, far, way);
         if after > 0 {
-            self.let_wait(net, a);
+            self.wait(a);
             return;
         }
         // One unit more fits. How many do is measured once the flow is raised here.
-        self.enter(to, a, false, from, 1);
-    }
-
-    // Labels the event where an activity begins that labels may cross against it, or has the activity wait.
-    #[inline(never)]
-    fn cross_against(&mut self, net: &CrashNet<'_>, a: u32, from: u32, to: u32)
-        requires known { a < length net.now.network.arcs }
-        requires begins { from ≡ from_of net.now.network.arcs a }
-        requires ends { to ≡ to_of net.now.network.arcs a }
-        requires search { IsSearch net.now self.old }
-        requires room { HaveRoom self.old }
-        requires way { MayGoAgainst net.now self.old a }
-        ensures { IsVisited net.now self.old self.new a }
-    {
-        let after = self.stops_against(net, a, from, to);
-        if after > 0 {
-            self.let_wait(net, a);
-            return;
-        }
-        self.enter(from, a, true, to, 1);
-    }
-
-    // Has an activity wait that stops only after a fall.
-    #[inline(always)]
-    fn let_wait(&mut self, net: &CrashNet<'_>, a: u32)
-        requires known { a < length net.now.network.arcs }
-        requires search { IsSearch net.now self.old }
-        requires room { HaveRoom self.old }
-        requires later { StopsLater net.now self.old a }
-        ensures { IsVisited net.now self.old self.new a }
-    {
-        self.wait(a);
+        self.enter(far, a, way.is_against(), near, 1);
     }
 }

@@ -1,16 +1,20 @@
 -- An activity that labels may cross: it waits for a fall, or its far event enters.
-use Rattle.std.proofs.Common.{◌≡◌, ◌≢◌, ℕ, ◌<◌, ◌≤◌, Some, true, false, length, sym, ◌∙◌, ap, subst, inl, inr, arith}
+use Rattle.std.proofs.Common.{◌≡◌, ◌≢◌, ℕ, ◌+◌, ◌-◌, ◌^◌, ◌<◌, ◌≤◌, Some, true, false, length, sym, subst, inl, inr, arith}
 use Rattle.std.proofs.lemmas.Bool.{cases_eq}
 use Rattle.pc_model.specs.Walk.{from_of, to_of}
 use Rattle.pc_crash.specs.Priced.{PricedNetwork}
-use Rattle.pc_flow.specs.board.Sheets.{Sheet, kept_time, rank_of}
+use Rattle.pc_laws.specs.Stair.{IsOnStair}
+use Rattle.pc_flow.specs.board.Sheets.{Sheet, rank_of, flow_of}
 use Rattle.pc_flow.specs.inside.board.Sheets.{slot_of}
 use Rattle.pc_flow.specs.inside.board.Moves.{WaitsOnce, EntersAt}
 use Rattle.pc_flow.specs.inside.board.Labelling.{HaveRoom}
 use Rattle.pc_flow.proofs.lemmas.board.AfterEntering.{IsNewStep, queue-room}
 use Rattle.pc_flow.specs.declared.search.way.Way.{Way}
 use Rattle.pc_flow.specs.declared.search.way.Way.TheVariants.{Along, Against}
-use Rattle.pc_flow.specs.inside.search.Searches.{IsSearch, MayGoAlong, MayGoAgainst, IsWay, StopsAfter, HasRoomAlong, HasRoomAgainst, StopsLater, IsVisited}
+use Rattle.pc_flow.specs.inside.search.Ways.{near_in, far_in, goes_against}
+use Rattle.pc_flow.specs.inside.search.Searches.{stair_at, gap_at, IsSearch, IsWay, StopsAfter, HasRoomAlong, HasRoomAgainst, StopsLater, IsVisited}
+use Rattle.pc_flow.proofs.lemmas.search.MeasureLaws.{unit-along, unit-against}
+use Rattle.pc_flow.proofs.lemmas.search.WayLaws.{near-known, far-known, near-labelled, far-none}
 use Rattle.pc_flow.proofs.lemmas.search.VisitLaws.{visited-still, visited-waits}
 use Rattle.pc_flow.proofs.lemmas.search.EnterLaws.{visited-enters}
 
@@ -42,63 +46,60 @@ module _ (net : PricedNetwork) (s : Sheet) (a : ℕ) (search : IsSearch net s) (
             }))
       ]
 
-  module _ (from to : ℕ) (begins : from ≡ from_of net.network.arcs a) (ends : to ≡ to_of net.network.arcs a) where
-    pub from-known : from < s.events
-    from-known = omega (arith, begins, search.in_range.from_in a known, search.fits.events)
+  -- a flow on the staircase may be one unit more, or one less, where the activity stops now
+  abbrev pub HasUnit : Way → Type 0
+  HasUnit Along = HasRoomAlong net s a 1
+  HasUnit Against = HasRoomAgainst net s a 1
 
-    pub to-known : to < s.events
-    to-known = omega (arith, ends, search.in_range.to_in a known, search.fits.events)
+  unit : (way : Way) → IsWay net s a (Some way) → StopsAfter net s a way 0 → HasUnit way
+  unit Along may stops = unit-along net s a known search.stairs stops
+  unit Against may stops = unit-against net s a known search.stairs may.some stops
 
-    -- the event where it ends enters
-    module _ (may : MayGoAlong net s a) where
-      pub to-none : rank_of s to ≡ 0
-      to-none = ap (rank_of s) ends ∙ may.to
+  module _ (near far : ℕ) where
+    none : (way : Way) → far_in net way a ≡ far → IsWay net s a (Some way) → rank_of s far ≡ 0
+    none = far-none net s a near far
 
-      pub to-room : s.count < s.events
-      to-room = queue-room s to search.ranked to-known to-none
+    inside : (way : Way) → far_in net way a ≡ far → far < s.events
+    inside way ends = far-known net s a near far way search.in_range search.fits known ends
 
-      pub to-deep : s.fallen ≤ kept_time s to
-      to-deep = search.times.deep to to-known to-none
+    pub far-room : (way : Way) → far_in net way a ≡ far → IsWay net s a (Some way) → s.count < s.events
+    far-room way ends may = queue-room s far search.ranked (inside way ends) (none way ends may)
 
-      to-new : (units : ℕ) → HasRoomAlong net s a units → IsNewStep net.network s to a false from units
-      to-new units has = record {
-        unlabelled = to-none;
-        known = to-known;
-        near_known = from-known;
-        near_labelled = omega (arith, ap (rank_of s) begins, may.from);
-        activity = activity;
-        some = has.some;
-        along = λ is. (sym begins, sym ends, has.small);
-        back = λ is. cc;
-      }
+    -- the event to which the step leads enters
+    new : (way : Way) → near_in net way a ≡ near → far_in net way a ≡ far → IsWay net s a (Some way) → HasUnit way
+        → IsNewStep net.network s far a (goes_against way) near 1
+    new way begins ends may has = record {
+      unlabelled = none way ends may;
+      known = inside way ends;
+      near_known = near-known net s a near far way search.in_range search.fits known begins;
+      near_labelled = near-labelled net s a near far way begins may;
+      activity = activity;
+      some = omega arith;
+      along = along way begins ends has;
+      back = back way begins ends has;
+    } where
+      along : (w : Way) → near_in net w a ≡ near → far_in net w a ≡ far → HasUnit w → goes_against w ≡ false
+          → (from_of net.network.arcs a ≡ near) × (to_of net.network.arcs a ≡ far) × (flow_of s a + 1 < 2 ^ 64)
+      along Along starts leads one is = (starts, leads, one.small)
+      along Against starts leads one is = cc
 
-      pub crossed-along : (t : Sheet) (units : ℕ) → HasRoomAlong net s a units → EntersAt s t to a false from units → IsVisited net s t a
-      crossed-along t units has entered =
-          visited-enters net s t to a false from units search known (to-new units has) entered (λ is. has.on) (λ is. cc) room
+      back : (w : Way) → near_in net w a ≡ near → far_in net w a ≡ far → HasUnit w → goes_against w ≡ true
+          → (from_of net.network.arcs a ≡ far) × (to_of net.network.arcs a ≡ near) × (1 ≤ flow_of s a)
+      back Along starts leads one is = cc
+      back Against starts leads one is = (leads, starts, one.within)
 
-    -- the event where it begins enters
-    module _ (may : MayGoAgainst net s a) where
-      pub from-none : rank_of s from ≡ 0
-      from-none = ap (rank_of s) begins ∙ may.from
+    pub crossed : (way : Way) (t : Sheet) → near_in net way a ≡ near → far_in net way a ≡ far → IsWay net s a (Some way) → StopsAfter net s a way 0
+        → EntersAt s t far a (goes_against way) near 1 → IsVisited net s t a
+    crossed way t begins ends may stops entered =
+        visited-enters net s t far a (goes_against way) near 1 search known (new way begins ends may has) entered (along way has) (back way has) room
+      where
+        has : HasUnit way
+        has = unit way may stops
 
-      pub from-room : s.count < s.events
-      from-room = queue-room s from search.ranked from-known from-none
+        along : (w : Way) → HasUnit w → goes_against w ≡ false → IsOnStair (stair_at net a) (gap_at net s a) (flow_of s a + 1)
+        along Along one is = one.on
+        along Against one is = cc
 
-      pub from-deep : s.fallen ≤ kept_time s from
-      from-deep = search.times.deep from from-known from-none
-
-      from-new : (units : ℕ) → HasRoomAgainst net s a units → IsNewStep net.network s from a true to units
-      from-new units has = record {
-        unlabelled = from-none;
-        known = from-known;
-        near_known = to-known;
-        near_labelled = omega (arith, ap (rank_of s) ends, may.to);
-        activity = activity;
-        some = has.some;
-        along = λ is. cc;
-        back = λ is. (sym begins, sym ends, has.within);
-      }
-
-      pub crossed-against : (t : Sheet) (units : ℕ) → HasRoomAgainst net s a units → EntersAt s t from a true to units → IsVisited net s t a
-      crossed-against t units has entered =
-          visited-enters net s t from a true to units search known (from-new units has) entered (λ is. cc) (λ is. has.on) room
+        back : (w : Way) → HasUnit w → goes_against w ≡ true → IsOnStair (stair_at net a) (gap_at net s a) (flow_of s a - 1)
+        back Along one is = cc
+        back Against one is = one.on

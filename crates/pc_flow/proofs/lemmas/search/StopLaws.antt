@@ -1,14 +1,12 @@
--- When an activity stops and how far its flow may change then, in words of what was seen of it.
-use Rattle.std.proofs.Common.{◌≡◌, ℕ, List, ◌+◌, ◌-◌, ◌^◌, ◌<◌, ◌≤◌, length, sym, ◌∙◌, ap, subst, arith}
+-- How far the flow of an activity may change where it stops now, in words of what was seen of it.
+use Rattle.std.proofs.Common.{◌≡◌, ℕ, List, ◌+◌, ◌-◌, ◌^◌, ◌<◌, ◌≤◌, length, sym, ap, subst, arith}
 use Rattle.pc_model.specs.declared.Knee.{Knee}
-use Rattle.pc_model.specs.Walk.{from_of, to_of}
 use Rattle.pc_laws.specs.Stair.{Stair, IsFalling, IsSameStair, full_reach, unit_length, IsOnStair}
 use Rattle.pc_laws.proofs.Stairs.SameStair.{same-full_reach, same-unit, same-on_stair, on_same-stair, same-falling}
 use Rattle.pc_flow.specs.inside.stair.Rows.{stair}
 use Rattle.pc_crash.specs.Priced.{PricedNetwork}
-use Rattle.pc_flow.specs.board.Sheets.{Sheet, time_of, flow_of}
-use Rattle.pc_flow.specs.inside.board.Sheets.{up_of, down_of}
-use Rattle.pc_flow.specs.inside.search.Searches.{stair_at, gap_at, IsSeen, IsOnStairs, IsPricedBoard, StopsAlong, StopsAgainst, HasRoomAlong, HasRoomAgainst}
+use Rattle.pc_flow.specs.board.Sheets.{Sheet, flow_of}
+use Rattle.pc_flow.specs.inside.search.Searches.{stair_at, gap_at, IsSeen, IsOnStairs, StopsAlong, StopsAgainst, HasRoomAlong, HasRoomAgainst}
 
 module _ (net : PricedNetwork) (s : Sheet) (a crash : ℕ) (knees : List Knee) (known : a < length net.network.arcs)
     (seen : IsSeen net a crash knees)
@@ -50,25 +48,3 @@ module _ (net : PricedNetwork) (s : Sheet) (a crash : ℕ) (knees : List Knee) (
   } where
     seen-on : IsOnStair here (gap_at net s a) flow
     seen-on = subst (λ f. IsOnStair here (gap_at net s a) f) (sym is) (same-on_stair here (stair_at net a) same (gap_at net s a) (flow_of s a) (stairs.on a known))
-
--- the lengths that are kept, and the gap
-module _ (net : PricedNetwork) (s : Sheet) (a from to : ℕ) (known : a < length net.network.arcs) (begins : from ≡ from_of net.network.arcs a)
-    (ends : to ≡ to_of net.network.arcs a) (board : IsPricedBoard net s) where
-  -- the gap in words of what was seen
-  gap-seen : time_of s to - time_of s from ≡ gap_at net s a
-  gap-seen = ap (λ e. time_of s e - time_of s from) ends ∙ ap (λ e. time_of s (to_of net.network.arcs a) - time_of s e) begins
-
-  pub seen-ahead : time_of s from ≤ time_of s to
-  seen-ahead = omega (arith, board.stairs.ahead a known, ap (time_of s) begins, ap (time_of s) ends)
-
-  pub up-fits : up_of s a ≤ time_of s to - time_of s from
-  up-fits = omega (arith, gap-seen, (board.lengths a known).up, (board.stairs.on a known).next)
-
-  pub down-fits : 0 < flow_of s a → time_of s to - time_of s from ≤ down_of s a
-  down-fits flows = omega (arith, gap-seen, (board.lengths a known).down flows, (board.stairs.on a known).last flows)
-
-  pub after-along : (gap up : ℕ) → gap ≡ time_of s to - time_of s from → up ≡ up_of s a → StopsAlong net s a (gap - up)
-  after-along gap up is at = omega (arith, is, at, gap-seen, up-fits, (board.lengths a known).up)
-
-  pub after-against : (gap down : ℕ) → 0 < flow_of s a → gap ≡ time_of s to - time_of s from → down ≡ down_of s a → StopsAgainst net s a (down - gap)
-  after-against gap down flows is at = omega (arith, is, at, gap-seen, down-fits flows, (board.lengths a known).down flows)

@@ -4,7 +4,7 @@ use Rattle.pc_crash.specs.inside.Links.{activities_of, link_at}
 use Rattle.pc_flow.specs.inside.search.Growing.{GoesOn}
 use Rattle.pc_flow.proofs.lemmas.search.GrowingLaws.{goes_on-begins, goes_on-visits, grows-labelled}
 use Rattle.pc_flow.proofs.lemmas.search.LinkLaws.{activity_at}
-use Rattle.pc_flow.proofs.board.board.Board.scan_ended.Goals as goal
+use Rattle.pc_flow.proofs.board.board.Board.scan_links.Goals as goal
 
 pub loop-link-init : goal.loop-link-init
 loop-link-init g c = record {
@@ -13,17 +13,17 @@ loop-link-init g c = record {
       (λ a stands. omega (arith, stands.1));
 }
 
-pub visit_against_from-requires-clause-labelled : goal.visit_against_from-requires-clause-labelled
-visit_against_from-requires-clause-labelled g c =
+pub visit_from-requires-clause-labelled : goal.visit_from-requires-clause-labelled
+visit_from-requires-clause-labelled g c =
     grows-labelled c.args.self.now c.loop-link.self c.loop-link.invariant.goes_on.grows c.args.e c.requires.labelled
 
 pub loop-link-preserved : goal.loop-link-preserved
 loop-link-preserved g c =
     let on = c.loop-link.invariant in
     record {
-      counted = omega (arith, c.visit_against_from.ensures.counted, on.counted);
+      counted = omega (arith, c.visit_from.ensures.counted, on.counted);
       goes_on = goes_on-visits c.args.net.now (activities_of c.args.links.now) c.loop-link.link-index (link_at c.args.links.now c.loop-link.link-index).activity
-          c.args.self.now c.loop-link.self c.visit_against_from.new.self on.goes_on (activity_at c.args.links.now c.loop-link.link-index c.loop-link-test.true) c.visit_against_from.ensures.visited;
+          c.args.self.now c.loop-link.self c.visit_from.new.self on.goes_on (activity_at c.args.links.now c.loop-link.link-index c.loop-link-test.true) c.visit_from.ensures.visited;
     }
 
 pub returns-clause-goes_on : goal.returns-clause-goes_on

@@ -1,0 +1,39 @@
+-- The two ends of a step by its direction, and the links at an event.
+use Rattle.std.specs.Prelude.{◌≡◌, ◌<◌, ℕ, Bool, true, false, List, length}
+use Rattle.pc_model.specs.Walk.{from_of, to_of}
+use Rattle.pc_crash.specs.Priced.{PricedNetwork}
+use Rattle.pc_crash.specs.declared.linking.Link.{Link}
+use Rattle.pc_crash.specs.inside.Links.{link_at}
+use Rattle.pc_flow.specs.board.Sheets.{Sheet, flow_of}
+use Rattle.pc_flow.specs.declared.search.way.Way.{Way}
+use Rattle.pc_flow.specs.declared.search.way.Way.TheVariants.{Along, Against}
+
+-- from which event and to which one a step goes, where its activity begins and ends at these
+abbrev pub near_end : Way → ℕ → ℕ → ℕ
+near_end Along from to = from
+near_end Against from to = to
+
+abbrev pub far_end : Way → ℕ → ℕ → ℕ
+far_end Along from to = to
+far_end Against from to = from
+
+-- from which event and to which one a step of activity a goes
+abbrev pub near_in : PricedNetwork → Way → ℕ → ℕ
+near_in net way a = near_end way (from_of net.network.arcs a) (to_of net.network.arcs a)
+
+abbrev pub far_in : PricedNetwork → Way → ℕ → ℕ
+far_in net way a = far_end way (from_of net.network.arcs a) (to_of net.network.arcs a)
+
+abbrev pub goes_against : Way → Bool
+goes_against Along = false
+goes_against Against = true
+
+-- these links name activities at event e, and the events at their other ends
+pub record AreLinks (net : PricedNetwork) (one other : ℕ → ℕ) (e : ℕ) (links : List Link) : Type 0 where
+  pub known : (k : ℕ) → k < length links → (link_at links k).activity < length net.network.arcs
+  pub here : (k : ℕ) → k < length links → one (link_at links k).activity ≡ e
+  pub there : (k : ℕ) → k < length links → other (link_at links k).activity ≡ (link_at links k).other
+
+-- a step against an activity takes back what flows there
+abbrev pub CanFlow : Sheet → Way → ℕ → Type 0
+CanFlow s way a = way ≡ Against → 0 < flow_of s a
