@@ -28,10 +28,6 @@ module _ (net : Network) (lengths : List ℕ) (times : ℕ → ℕ) where
     pub above : (j : ℕ) → j < k → brought (slice_index items j) ≤ n
     pub attained : ((j : ℕ) × (j < k) × (brought (slice_index items j) ≡ n)) ⊎ ((n ≡ 0) × (k ≡ 0))
 
-  -- before the first of them n is 0
-  pub arrival-none : (items : List ℕ) → IsArrivalOf items 0 0
-  arrival-none items = record { above = λ j lower. absurd (omega arith); attained = inr (refl, refl) }
-
   -- one of them more, which brings m: the greater of n and m
   pub arrival-more : (items : List ℕ) (k n m : ℕ) → IsArrivalOf items k n → m ≡ brought (slice_index items k) → IsArrivalOf items (k + 1) (max n m)
   arrival-more items k n m so_far is = record {

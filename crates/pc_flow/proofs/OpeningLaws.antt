@@ -38,10 +38,7 @@ use Rattle.pc_flow.specs.Courses.{Course, IsLevel}
 use Rattle.pc_flow.specs.inside.Courses.{IsOnCourse}
 use Rattle.pc_flow.specs.inside.Openings.{IsOpened}
 
--- a sound network has events and activities
-pub some-events : (net : Network) → IsInRange net → 0 < net.events
-some-events net range = omega (arith, range.start_in)
-
+-- a sound network has activities
 pub some-activities : (net : Network) → IsInRange net → IsSound net → 0 < length net.arcs
 some-activities net range sound = let (walk, walked) = sound.reached net.end range.end_in in some walk walked
   where

@@ -112,19 +112,6 @@ module _ (s t : Sheet) (i kept gone seen : ℕ) (ranked : IsRanked s) (back : Is
   pub next-same : queue_of t i ≡ next
   next-same = sorted.queue_off i (omega arith)
 
-  pub next-known : queue_of t i < t.events
-  next-known = omega (arith, next-same, known, ap (λ (u : Sheet). u.events) pruning.rest)
-
-  pub next-near : near_of t (queue_of t i) < t.events
-  next-near =
-      omega (
-        arith,
-        ap (near_of t) next-same,
-        ap (λ (u : Sheet). near_of u next) pruning.rest,
-        near-known,
-        ap (λ (u : Sheet). u.events) pruning.rest,
-      )
-
   -- the board t with the next event's fate, in a word for each thing that is kept
   other-labelled : (e : ℕ) → (rank_of s e ≡ 0) ⊎ (i + 1 < rank_of s e) → e ≢ next
   other-labelled e (inl none) same = omega (arith, none, rank-next, ap (rank_of s) same)

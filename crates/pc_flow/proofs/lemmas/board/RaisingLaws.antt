@@ -221,23 +221,11 @@ module _ (s t : Sheet) (e by k x : ℕ) (back : IsRankedBack s) (steps : HaveSte
   against-same : against_of t x ≡ against_of s x
   against-same = ap (λ (u : Sheet). against_of u x) raising.rest
 
-  pub raising-rank : (f : ℕ) → rank_of t f ≡ rank_of s f
-  raising-rank f = ap (λ (u : Sheet). rank_of u f) raising.rest
-
-  pub raising-near : near_of t x ≡ near_of s x
-  raising-near = ap (λ (u : Sheet). near_of u x) raising.rest
-
   room-same : room_of t x ≡ room_of s x
   room-same = raising.room_off x off
 
   flow-same : flow_of t (step_of s x) ≡ flow_of s (step_of s x)
   flow-same = raising.flow_off (step_of s x) step-off
-
-  pub raising-known : x < t.events
-  raising-known = omega (arith, known, ap (λ (u : Sheet). u.events) raising.rest)
-
-  pub raising-step : step_of t x < t.activities
-  raising-step = omega (arith, steps.known x known has, step-same, ap (λ (u : Sheet). u.activities) raising.rest)
 
   -- there is room for the raising
   module _ (m : ℕ) (least : IsLeastRoom s e by m) where

@@ -185,12 +185,6 @@ module _ (net : PricedNetwork) (s u : Sheet) (gone : ℕ) (search : IsSearch net
     once j k before below same =
         omega (arith, search.ranked.placed j (omega arith), search.ranked.placed k below, ap (rank_of s) same)
 
-  pub lost-known : (k : ℕ) → k < gone → lost_of u k < u.events
-  lost-known k below = omega (arith, sorted.lost_range k below, events-same)
-
-  pub lost-few : gone ≤ u.events
-  lost-few = omega (arith, sorted.split, search.ranked.few, events-same)
-
   -- all are scanned anew
   pub again-anew : HasLookedAgain net s (headed u 0)
   again-anew = record {

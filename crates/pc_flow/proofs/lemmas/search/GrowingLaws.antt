@@ -20,9 +20,6 @@ module _ (s t : Sheet) (grows : Grows s t) where
   pub grows-events : t.events ≡ s.events
   grows-events = ap (λ (v : Sheet). v.events) grows.rest
 
-  pub grows-activities : t.activities ≡ s.activities
-  grows-activities = ap (λ (v : Sheet). v.activities) grows.rest
-
   pub grows-head : t.head ≡ s.head
   grows-head = ap (λ (v : Sheet). v.head) grows.rest
 

@@ -1,5 +1,5 @@
 -- A labelling: what each of its parts changes, and that they make a whole one.
-use Rattle.std.proofs.Common.{◌≡◌, ℕ, ◌+◌, ◌-◌, ◌*◌, ◌^◌, ◌<◌, ◌≤◌, refl, sym, ◌∙◌, ap, subst, arith}
+use Rattle.std.proofs.Common.{◌≡◌, ℕ, ◌+◌, ◌-◌, ◌*◌, ◌^◌, ◌<◌, ◌≤◌, sym, ◌∙◌, ap, subst, arith}
 use Rattle.std.proofs.Math.Nat.{mul-add, mul-le-mul_left}
 use Rattle.pc_model.specs.Cost.{IsPriced}
 use Rattle.pc_laws.specs.Steps.{IsStairOptimal}
@@ -49,9 +49,6 @@ module _ (net : PricedNetwork) (s t : Sheet) (search : IsSearch net s) (is : IsR
   flows : flow_of t ≡ flow_of s
   flows = ap (λ (v : Sheet). flow_of v) is.rest
 
-  length-relabelled : length_at net t ≡ length_at net s
-  length-relabelled = is.time net.network.end (omega (arith, search.in_range.end_in, search.fits.events))
-
   pub slope-relabelled : slope_at net t ≡ slope_at net s
   slope-relabelled = ap (λ (v : Sheet). slope_at net v) is.rest
 
@@ -70,9 +67,6 @@ module _ (net : PricedNetwork) (s t : Sheet) (search : IsSearch net s) (is : IsR
   }
 
 -- raisings one after the other
-
-pub rises-none : (net : PricedNetwork) (s : Sheet) → Rises net s s 0
-rises-none net s = record { rest = refl; time = λ e known. refl; slope = omega arith }
 
 pub rises-joins : (net : PricedNetwork) (s t u : Sheet) (x y : ℕ) → Rises net s t x → Rises net t u y → Rises net s u (x + y)
 rises-joins net s t u x y first second = record {

@@ -1,5 +1,5 @@
 -- The steps of a search: both ends of their activities have labels.
-use Rattle.std.proofs.Common.{ℕ, ◌<◌, length, inl, inr, ap, arith}
+use Rattle.std.proofs.Common.{ℕ, ◌<◌, inl, inr, ap, arith}
 use Rattle.std.proofs.lemmas.Bool.{cases_lt}
 use Rattle.pc_model.specs.Walk.{from_of, to_of}
 use Rattle.pc_crash.specs.Priced.{PricedNetwork}
@@ -22,6 +22,3 @@ module _ (net : PricedNetwork) (s : Sheet) (search : IsSearch net s) (f : ℕ) (
         | inl some ↦ omega (arith, ap (rank_of s) (search.joined.against_to f known has some), search.back.labelled f known has)
         | inr none ↦ omega (arith, ap (rank_of s) (search.joined.along_to f known has (omega arith)), has)
       ]
-
-  pub step-activity : step_of s f < length net.network.arcs
-  step-activity = omega (arith, search.steps.known f known has, search.fits.activities)

@@ -81,7 +81,7 @@ renew_back-requires-clause-fits c =
     let m = c.measure_back.new.self in
     let search : IsSearch net m = search-measured net c.args.self.now m c.measure_back.ensures c.requires.between.search in
     let raised = c.raise-raised.ensures.raised in
-    (raised-for m c.raise-raised.new.self _ c.raise-raised.result.by raised.0 search.steps raised.1 net.network search.fits)
+    raised-for m c.raise-raised.new.self _ c.raise-raised.result.by raised.0 search.steps raised.1 net.network search.fits
 
 pub renew_back-requires-clause-back : goal.renew_back-requires-clause-back
 renew_back-requires-clause-back c =
@@ -116,8 +116,8 @@ renew_back-requires-clause-stairs c =
     let ordered : IsOrder net.network order = subst (λ n. IsOrder n order) c.net-shape.ensures.network c.order-order.ensures.order in
     let raised : IsRaised m c.raise-raised.new.self net.network.end c.raise-raised.result.by =
     subst (λ e. IsRaised m c.raise-raised.new.self e c.raise-raised.result.by) end c.raise-raised.ensures.raised in
-    (stairs-raised net known order ordered m c.raise-raised.new.self c.raise-raised.result.by raised.0
-    (between-measured net s m on c.requires.between) (above-measured net s m on c.requires.above) raised.1)
+    stairs-raised net known order ordered m c.raise-raised.new.self c.raise-raised.result.by raised.0
+    (between-measured net s m on c.requires.between) (above-measured net s m on c.requires.above) raised.1
 
 pub renew_back-requires-clause-level : goal.renew_back-requires-clause-level
 renew_back-requires-clause-level c =
@@ -126,7 +126,7 @@ renew_back-requires-clause-level c =
     let t = c.raise-raised.new.self in
     let search : IsSearch net m = search-measured net c.args.self.now m c.measure_back.ensures c.requires.between.search in
     let raised = c.raise-raised.ensures.raised in
-    (level-back net m t c.end-end.result c.raise-raised.result.by raised.0 search raised.1 c.raise-raised.ensures.lengths)
+    level-back net m t c.end-end.result c.raise-raised.result.by raised.0 search raised.1 c.raise-raised.ensures.lengths
 
 pub returns-clause-raised : goal.returns-clause-raised
 returns-clause-raised c =

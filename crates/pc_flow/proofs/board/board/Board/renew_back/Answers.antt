@@ -41,8 +41,8 @@ renew_step-requires-clause-known c =
 pub renew_step-requires-clause-fits : goal.renew_step-requires-clause-fits
 renew_step-requires-clause-fits c =
     let on = c.loop-self.invariant in
-    (subst (λ s. IsFor c.args.net.now.network s) (sym on.1.rest)
-    (record { events = c.requires.fits.events; activities = c.requires.fits.activities }))
+    subst (λ s. IsFor c.args.net.now.network s) (sym on.1.rest)
+    (record { events = c.requires.fits.events; activities = c.requires.fits.activities })
 
 pub renew_step-requires-clause-reach : goal.renew_step-requires-clause-reach
 renew_step-requires-clause-reach c =
