@@ -1,20 +1,21 @@
 -- The line of an event that comes again with another time or another bit.
-use Rattle.std.proofs.Common.{◌≡◌, ℕ, ◌+◌, ◌-◌, ◌<◌, ◌≤◌, Bool, List, [], ◌∷◌, ◌++◌, length, take, drop, Some, sym, ap, subst, ◌∙◌, arith, append_assoc, length-append, length-take-le}
+use Rattle.std.proofs.Common.{◌≡◌, ℕ, ◌+◌, ◌-◌, ◌≤◌, Bool, List, ◌∷◌, ◌++◌, length, take, drop, Some, sym, ap, subst, ◌∙◌, arith, append_assoc, length-append}
 use Rattle.std.specs.Prelude.{codes}
 use Rattle.std.specs.Fmt.{decimal}
 use Rattle.std.proofs.Math.Seq.{take-append_seam}
 use Rattle.std.proofs.lemmas.Bool.Decides.{nat_tests}
-use Rattle.std.proofs.lemmas.List.{take-append-drop, take-append-le, take_all, length-drop}
+use Rattle.std.proofs.lemmas.List.{take-append-drop, length-drop}
 use Rattle.pc_cert.specs.declared.line.CertLine.{CertLine}
 use Rattle.pc_cert.specs.declared.line.CertLine.TheVariants.{Event}
 use Rattle.pc_text.specs.Fields.{run_len, spaced, IsCode}
 use Rattle.pc_cert.specs.Lines.{IsWritable, spelling, IsSmall}
 use Rattle.pc_cert.specs.inside.Fields.{bit_text}
 use Rattle.pc_cert.specs.inside.Reading.{line_of}
-use Rattle.pc_cert.specs.inside.Known.{AreCells, IsAgain, IsEventFront}
+use Rattle.pc_cert.specs.inside.Known.{IsAgain, IsEventFront}
 use Rattle.pc_text.proofs.FieldLemmas.{run_len-before}
-use Rattle.pc_cert.proofs.LineLaws.{line_takes, line_again}
+use Rattle.pc_cert.proofs.LineLaws.{line_again}
 use Rattle.pc_cert.proofs.LineLengths.{spelling_lacks_end}
+use Rattle.pc_cert.proofs.NumberLemmas.{rest_is}
 
 -- what stands behind the code, with the end of the line
 abbrev behind_code : ℕ → Bool → List ℕ → List ℕ
@@ -34,26 +35,6 @@ front_of code tail =
 pub short_code : (code : List ℕ) → IsCode code → length code + 6 ≤ 32
 short_code code is = grind (arith, nat_tests)
 
--- the bytes that are kept of an event's line begin as each line of the event does
-pub event_front : (code cells : List ℕ) (time len : ℕ) (moves : Bool) → AreCells cells len (Some (Event code time moves)) → 0 < len → IsEventFront code cells
-event_front code cells time len moves are some =
-    let kept = are.kept some in
-    let read = line_takes kept.text (Event code time moves) kept.read in
-    let front = codes "EVENT" ++ 32 ∷ code in
-    let whole : take len cells ≡ front ++ behind_code time moves [] =
-    kept.whole ∙ ap (λ t. t ++ 10 ∷ []) (read.0) ∙ spelled_behind code [] time moves in
-    let long : length (take len cells) ≡ len = length-take-le len cells (omega (arith, are.within, are.room)) in
-    let within : length code + 6 ≤ length (take len cells) = omega (arith, ap length whole, length-append front (behind_code time moves [])) in
-    record {
-      room = omega (arith, are.room);
-      short = short_code code ((read.1).0);
-      same =
-          ap (take (length code + 6)) (sym (take-append-drop len cells))
-          ∙ take-append-le (length code + 6) (take len cells) (drop len cells) within
-          ∙ ap (take (length code + 6)) whole
-          ∙ front_of code (behind_code time moves []);
-    }
-
 -- a line and its end at the front of a piece
 spelled_again : (line : CertLine) (piece more : List ℕ) (used : ℕ) → IsWritable line → piece ≡ spelling line ++ 10 ∷ more → used + length more ≡ length piece → IsAgain (Some line) piece used
 spelled_again line piece more used fits whole long =
@@ -65,10 +46,6 @@ spelled_again line piece more used fits whole long =
       ends = omega (arith, run, ap length whole, length-append (spelling line) (10 ∷ more));
       read = ap line_of before ∙ line_again line fits;
     }
-
--- a slice up to the end is all that is left
-pub rest_is : (n : ℕ) (piece : List ℕ) → take (length piece - n) (drop n piece) ≡ drop n piece
-rest_is n piece = take_all (length piece - n) (drop n piece) (omega (arith, length-drop n piece))
 
 -- behind the front of an event's line stands a time, and what stands behind the line is a part of the piece
 pub record IsReadBehind (n : ℕ) (piece rest more : List ℕ) (time : ℕ) : Type 0 where

@@ -2,9 +2,7 @@
 use Rattle.std.proofs.Common.{◌≡◌, ℕ, Bool, true, false, cond, List, ◌⊎◌, inl, inr, Some, None, refl, ap, ◌∙◌, arith}
 use Rattle.std.proofs.lemmas.Slice.Eq.{bytes_eq-Decides}
 use Rattle.std.specs.Prelude.{codes, bytes_eq}
-use Rattle.std.specs.Char.{is_ascii_digit}
-use Rattle.std.specs.Fmt.{decimal}
-use Rattle.pc_text.specs.Fields.{spaced, Lacks}
+use Rattle.pc_text.specs.Fields.{spaced}
 use Rattle.pc_text.proofs.FieldLemmas.{IsBehind, field_by_takes, field_by_again}
 use Rattle.pc_cert.specs.inside.Fields.{bit_text, bit_of, bit_field}
 

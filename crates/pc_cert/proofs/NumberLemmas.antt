@@ -1,12 +1,8 @@
 -- The digits at the front of bytes, and the number that they spell.
-use Rattle.std.proofs.Common.{◌≡◌, ℕ, ◌+◌, ◌-◌, ◌*◌, ◌^◌, ◌<◌, ◌≤◌, true, List, [], ◌∷◌, ◌++◌, length, take, get_or, refl, sym, ap, ◌∙◌, arith, zero, suc, Some, subst}
-use Rattle.std.proofs.lemmas.List.{take_more}
+use Rattle.std.proofs.Common.{◌≡◌, ℕ, ◌+◌, ◌-◌, ◌*◌, ◌^◌, ◌<◌, ◌≤◌, true, List, [], ◌∷◌, ◌++◌, length, take, drop, get_or, refl, sym, ap, ◌∙◌, arith, subst}
+use Rattle.std.proofs.lemmas.List.{take_more, take-append-drop, take_all, length-drop}
 use Rattle.std.proofs.lemmas.List.Folds.{list_all-append}
-use Rattle.std.proofs.Math.Nat.{pow-le-pow_right}
 use Rattle.std.proofs.lemmas.Bool.Decides.{nat_tests}
-use Rattle.std.proofs.lemmas.Option.{cond_some}
-use Rattle.std.proofs.lemmas.Str.Parse.{digits_value_short}
-use Rattle.std.proofs.lemmas.Fmt.{digits_decimal, digits_value-decimal, decimal-digits_value, length-decimal-le, decimal_nonempty, first_decimal, decimal_digit}
 use Rattle.std.specs.List.{list_all}
 use Rattle.std.specs.Char.{is_ascii_digit}
 use Rattle.std.specs.Fmt.{decimal}
@@ -14,6 +10,7 @@ use Rattle.pc_text.specs.Number.{value_after}
 use Rattle.pc_text.specs.inside.Number.{is_unpadded, Spells}
 use Rattle.pc_text.proofs.NumberLemmas.{IsLimit, spelled}
 use Rattle.pc_cert.specs.inside.Number.{AreDigitsAt}
+use Rattle.pc_cert.specs.inside.Lines.{IsNumberAt}
 use Rattle.pc_cert.specs.declared.number.TheConstants.{MAX_DIGITS}
 
 -- numbers of so many digits can be read
@@ -59,3 +56,21 @@ digits_spell bytes number count are plain =
       digits = digits;
       plain = grind (arith, nat_tests);
     }))
+
+-- a slice up to the end is all that is left
+pub rest_is : (n : ℕ) (piece : List ℕ) → take (length piece - n) (drop n piece) ≡ drop n piece
+rest_is n piece = take_all (length piece - n) (drop n piece) (omega (arith, length-drop n piece))
+
+-- the bytes behind a space
+pub behind_space : (bytes : List ℕ) → 0 < length bytes → get_or bytes 0 0 ≡ 32 → bytes ≡ 32 ∷ take (length bytes - 1) (drop 1 bytes)
+behind_space [] some is = absurd (omega arith)
+behind_space (b ∷ bs) some is = ap (λ x. x ∷ bs) is ∙ ap (λ t. 32 ∷ t) (sym (rest_is 1 (b ∷ bs)))
+
+-- behind a space stand digits that are not padded, and the rest
+pub number_is : (bytes rest behind : List ℕ) (number count : ℕ) → bytes ≡ 32 ∷ rest → AreDigitsAt rest number count → is_unpadded 18 (take count rest) ≡ true →
+    behind ≡ take (length rest - count) (drop count rest) → IsNumberAt bytes number behind
+number_is bytes rest behind number count spaced_is are plain is =
+    let spells = digits_spell rest number count are plain in
+    let whole : rest ≡ decimal number ++ behind =
+    sym (take-append-drop count rest) ∙ ap (λ word. word ++ drop count rest) (spells.1) ∙ ap (λ t. decimal number ++ t) (sym (is ∙ rest_is count rest)) in
+    record { text = spaced_is ∙ ap (λ t. 32 ∷ t) whole; small = spells.0 }

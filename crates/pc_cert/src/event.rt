@@ -1,9 +1,9 @@
-//! The line of an event that occurs again with another time or another bit.
+//! The lines of one event: how each of them begins, and reading one by this beginning.
 ghost use Rattle.std.specs.Prelude.{◌≡◌, ◌≤◌, ◌∷◌, IfSome, Some, length};
 ghost use Rattle.pc_cert.specs.declared.line.CertLine.TheVariants.{Event};
 ghost use Rattle.pc_text.specs.Fields.{spaced};
 ghost use Rattle.pc_cert.specs.inside.Fields.{bit_text};
-ghost use Rattle.pc_cert.specs.inside.Known.{IsAgain, IsEventFront};
+ghost use Rattle.pc_cert.specs.inside.Known.{IsAgain, IsFrontOf};
 
 use crate::front::{WIDTH, begin_same, begins};
 use crate::number::{MAX_DIGITS, number_at, number_within};
@@ -11,6 +11,9 @@ use pc_text::Code;
 
 /// How many bytes of an event's line are before its code.
 pub const EVENT_NAMED: usize = 6;
+
+/// The most bytes that are read: those of the beginning, a space and a number, and three more.
+const LOOKED_AT: usize = WIDTH + MAX_DIGITS + 4;
 
 /// What an event's line says of the event, and how many bytes the line has, with its end.
 #[derive(Clone, Copy)]
@@ -20,44 +23,63 @@ pub struct EventSaid {
     pub used: usize,
 }
 
-/// The most bytes that are read: those of the beginning, a space and a number, and three more.
-const LOOKED_AT: usize = WIDTH + MAX_DIGITS + 4;
-
-/// Reads the line at the beginning of the piece. Returns `None` if it is not a line of this event.
+/// The beginning of each line of one event: its word, a space and the code.
 ///
-/// The known bytes begin as each line of the event does. So the word and the code are compared, not read.
-#[inline(always)]
-pub(crate) fn event_at(code: &Code, known: &[u8], piece: &[u8]) -> Option<EventSaid>
-    requires { IsEventFront code.now known.now }
-    ensures { IfSome result (λ said. IsAgain (Some (Event code.now said.time said.moves)) piece.now said.used) }
-{
-    if piece.len() < LOOKED_AT {
-        return event_to_end(code, known, piece);
-    }
-    let front = code.bytes().len() + EVENT_NAMED;
-    if !begin_same(piece, known, front) {
-        return None;
-    }
-    let (time, rest) = number_within(&piece[front..])?;
-    let (moves, rest) = bit_within(rest)?;
-    let used = piece.len() - rest.len();
-    Some(EventSaid { time, moves, used })
+/// With it, one comparison finds whether a line is one of the event; then only the time and the bit are read.
+#[derive(Clone, Copy)]
+pub struct EventFront {
+    pub(crate) code: Code,
+    pub(crate) cells: [u8; WIDTH],
 }
 
-/// Does the same if the piece is short.
-#[inline(never)]
-fn event_to_end(code: &Code, known: &[u8], piece: &[u8]) -> Option<EventSaid>
-    requires { IsEventFront code.now known.now }
-    ensures { IfSome result (λ said. IsAgain (Some (Event code.now said.time said.moves)) piece.now said.used) }
-{
-    let front = code.bytes().len() + EVENT_NAMED;
-    if !begins(piece, known, front) {
-        return None;
+impl EventFront {
+    /// Returns the beginning of the lines of the event with this code.
+    pub fn of(code: Code) -> EventFront
+        ensures { IsFrontOf code result }
+    {
+        let end = EVENT_NAMED + code.bytes().len();
+        let mut cells = [0; WIDTH];
+        cells[..EVENT_NAMED].copy_from_slice(b"EVENT ".as_slice());
+        cells[EVENT_NAMED..end].copy_from_slice(code.bytes());
+        EventFront { code, cells }
     }
-    let (time, rest) = number_at(&piece[front..])?;
-    let (moves, rest) = last_bit(rest)?;
-    let used = piece.len() - rest.len();
-    Some(EventSaid { time, moves, used })
+
+    /// Reads the line at the beginning of the piece. Returns `None` if it is not a line of this event.
+    #[inline(always)]
+    pub(crate) fn said(&self, piece: &[u8]) -> Option<EventSaid>
+        requires { IsFrontOf self.now.code self.now }
+        ensures { IfSome result (λ said. IsAgain
+            (Some (Event self.now.code said.time said.moves)) piece.now said.used) }
+    {
+        if piece.len() < LOOKED_AT {
+            return self.said_to_end(piece);
+        }
+        let front = self.code.bytes().len() + EVENT_NAMED;
+        if !begin_same(piece, &self.cells, front) {
+            return None;
+        }
+        let (time, rest) = number_within(&piece[front..])?;
+        let (moves, rest) = bit_within(rest)?;
+        let used = piece.len() - rest.len();
+        Some(EventSaid { time, moves, used })
+    }
+
+    /// Does the same if the piece is short.
+    #[inline(never)]
+    fn said_to_end(&self, piece: &[u8]) -> Option<EventSaid>
+        requires { IsFrontOf self.now.code self.now }
+        ensures { IfSome result (λ said. IsAgain
+            (Some (Event self.now.code said.time said.moves)) piece.now said.used) }
+    {
+        let front = self.code.bytes().len() + EVENT_NAMED;
+        if !begins(piece, &self.cells, front) {
+            return None;
+        }
+        let (time, rest) = number_at(&piece[front..])?;
+        let (moves, rest) = last_bit(rest)?;
+        let used = piece.len() - rest.len();
+        Some(EventSaid { time, moves, used })
+    }
 }
 
 /// Reads a space, a bit and the end of a line. Returns the bit and the bytes after the end.

@@ -1,36 +1,69 @@
-//! A line that was read before, and occurs again in most segments.
-ghost use Rattle.std.specs.Prelude.{◌≡◌, ◌<◌, IsSome, None, Some, length};
+//! A line that was read, and its bytes.
+ghost use Rattle.std.specs.Prelude.{◌≡◌, ◌<◌, IsSome, None, Option, Some, length};
 ghost use Rattle.std.specs.Option.{option_map};
+ghost use Rattle.pc_cert.specs.declared.line.CertLine.{CertLine};
 ghost use Rattle.pc_cert.specs.inside.Reading.{line_of};
-ghost use Rattle.pc_cert.specs.inside.Known.{IsAgain, IsTextOf};
+ghost use Rattle.pc_cert.specs.inside.Known.{HasText, IsAgain, IsTextOf};
 
-use crate::event::event_at;
 use crate::front::begins;
 use crate::line::CertLine;
-use crate::line_text::{LineText, ROOM};
 use std::marker::Model;
 
-/// The line that was read last, and its bytes with its end.
+/// The most bytes of a line and its end that are kept: a longer line is read again each time.
+const ROOM: usize = 64;
+
+/// The bytes of a line and its end, if they are kept.
 ///
-/// Most lines of a segment are those of the segment before. Read the lines at one place of all segments through one
-/// `KnownLine`: a line that occurs again is compared with these bytes, and neither searched for its end nor read. Of an
-/// event that occurs again with another time, only that time and the bit are read.
+/// A caller that keeps them next to what it found in the line need not read the line when it occurs again.
+#[derive(Clone, Copy)]
+pub struct LineText {
+    // the bytes, and how many there are: 0 if they are not kept
+    pub(crate) cells: [u8; ROOM],
+    pub(crate) len: usize,
+}
+
+impl LineText {
+    /// Returns one that keeps no bytes.
+    pub fn new() -> LineText
+        ensures none { HasText result → ⊥ }
+        ensures text { (line : Option CertLine) → IsTextOf line result }
+    {
+        LineText {
+            cells: [0; ROOM],
+            len: 0,
+        }
+    }
+
+    /// Returns how many bytes at the beginning of the piece are the line and its end, or 0 if it does not occur there.
+    #[inline(always)]
+    pub fn again(&self, piece: &[u8]) -> usize
+        requires { (line : Option CertLine) × IsTextOf line self.now }
+        ensures kept { 0 < result → HasText self.now }
+        ensures again { (line : Option CertLine) → IsTextOf line self.now → 0 < result → IsAgain line piece.now result }
+    {
+        if 0 < self.len && begins(piece, &self.cells, self.len) {
+            self.len
+        } else {
+            0
+        }
+    }
+}
+
+/// The line that was read last, and its bytes with its end.
 #[derive(Drop)]
 pub struct KnownLine {
-    // the bytes of the line and its end, and how many there are: 0 if they are not kept
-    cells: [u8; ROOM],
-    len: usize,
+    text: LineText,
     line: Option<CertLine>,
 }
 
 impl Model for KnownLine {
-    ghost use Rattle.pc_cert.specs.inside.Known.{Known, AreCells};
+    ghost use Rattle.pc_cert.specs.inside.Known.{Known, IsTextOf};
 
     ghost Value = { Known };
 
     ghost view = { λ s. record { line = s.line } };
 
-    ghost invariant = { λ s. AreCells s.cells s.len s.line };
+    ghost invariant = { λ s. IsTextOf s.line s.text };
 }
 
 impl KnownLine {
@@ -39,9 +72,18 @@ impl KnownLine {
         ensures { result.line ≡ None }
     {
         KnownLine {
-            cells: [0; ROOM],
-            len: 0,
+            text: LineText::new(),
             line: None,
+        }
+    }
+
+    /// Returns one that knows this line, without its bytes.
+    pub fn of(line: CertLine) -> KnownLine
+        ensures { result.line ≡ Some line }
+    {
+        KnownLine {
+            text: LineText::new(),
+            line: Some(line),
         }
     }
 
@@ -52,25 +94,11 @@ impl KnownLine {
         self.line.as_ref()
     }
 
-    /// Returns one that knows this line, without its bytes.
-    pub fn of(line: CertLine) -> KnownLine
-        ensures { result.line ≡ Some line }
-    {
-        KnownLine {
-            cells: [0; ROOM],
-            len: 0,
-            line: Some(line),
-        }
-    }
-
     /// Returns the bytes of the line and its end, if they are kept.
     pub fn text(&self) -> LineText
         ensures { IsTextOf self.now.line result }
     {
-        LineText {
-            cells: self.cells,
-            len: self.len,
-        }
+        self.text
     }
 
     /// Reads a line, which is known from then on. Returns `None` if the bytes are no line.
@@ -78,20 +106,12 @@ impl KnownLine {
         ensures value { result ≡ line_of bytes.now }
         ensures known { self.new.line ≡ line_of bytes.now }
     {
-        self.learn(bytes);
-        self.line
-    }
-
-    /// Reads a line, which is known from then on.
-    pub(crate) fn learn(&mut self, bytes: &[u8])
-        ensures { self.new.line ≡ line_of bytes.now }
-    {
-        let line = CertLine::read(bytes);
-        self.len = 0;
-        self.line = line;
-        if line.is_some() && bytes.len() < ROOM {
+        self.text.len = 0;
+        self.line = CertLine::read(bytes);
+        if self.line.is_some() && bytes.len() < ROOM {
             self.keep(bytes);
         }
+        self.line
     }
 
     fn keep(&mut self, bytes: &[u8])
@@ -101,63 +121,15 @@ impl KnownLine {
         ensures { self.new ≡ self.old }
     {
         let end = bytes.len();
-        self.cells[..end].copy_from_slice(bytes);
-        self.cells[end] = b'\n';
-        self.len = end + 1;
+        self.text.cells[..end].copy_from_slice(bytes);
+        self.text.cells[end] = b'\n';
+        self.text.len = end + 1;
     }
 
     pub(crate) fn forget(&mut self)
         ensures { self.new.line ≡ None }
     {
-        self.len = 0;
+        self.text.len = 0;
         self.line = None;
-    }
-
-    /// Returns how many bytes at the beginning of the piece are a line and its end, if it is the known line, or one of
-    /// the same event with another time or bit; it is known from then on. Returns 0 otherwise.
-    pub(crate) fn meet(&mut self, piece: &[u8]) -> usize
-        ensures { 0 < result → IsAgain self.new.line piece.now result }
-    {
-        let used = self.again(piece);
-        if 0 < used {
-            return used;
-        }
-        self.renew(piece)
-    }
-
-    /// Does what `meet` does, if the line is not the known one.
-    fn renew(&mut self, piece: &[u8]) -> usize
-        ensures { 0 < result → IsAgain self.new.line piece.now result }
-    {
-        if self.len == 0 {
-            return 0;
-        }
-        let Some(line) = &mut self.line else {
-            return 0;
-        };
-        let CertLine::Event { code, time, moves } = line else {
-            return 0;
-        };
-        let Some(said) = event_at(code, &self.cells, piece) else {
-            return 0;
-        };
-        *time = said.time;
-        *moves = said.moves;
-        self.len = 0;
-        if said.used <= ROOM {
-            self.keep(&piece[..said.used - 1]);
-        }
-        said.used
-    }
-
-    /// Returns how many bytes at the beginning of the piece are the known line and its end, or 0.
-    fn again(&self, piece: &[u8]) -> usize
-        ensures { 0 < result → IsAgain self.now.line piece.now result }
-    {
-        if begins(piece, &self.cells, self.len) {
-            self.len
-        } else {
-            0
-        }
     }
 }

@@ -1,7 +1,7 @@
 //! The numbers of a certificate, which may be longer than those of a deck.
 ghost use Rattle.std.specs.Prelude.{◌+◌, ◌<◌, ◌≤◌, IfSome, length};
 ghost use Rattle.pc_cert.specs.inside.Number.{AreDigitsAt};
-ghost use Rattle.pc_cert.specs.inside.Lines.{IsNumberAt, IsNumeralAt};
+ghost use Rattle.pc_cert.specs.inside.Lines.{IsNumberAt};
 
 use pc_text::is_unpadded;
 
@@ -21,22 +21,15 @@ const GREATEST_DIGIT: u64 = 9;
 pub(crate) fn number_at(bytes: &[u8]) -> Option<(u64, &[u8])>
     ensures { IfSome result (λ parts. IsNumberAt bytes.now parts.0 parts.1.now) }
 {
-    match bytes {
-        [b' ', rest @ ..] => numeral_at(rest),
-        _ => None,
-    }
-}
-
-/// Reads a number. Returns it and the bytes after it.
-#[inline(always)]
-fn numeral_at(bytes: &[u8]) -> Option<(u64, &[u8])>
-    ensures { IfSome result (λ parts. IsNumeralAt bytes.now parts.0 parts.1.now) }
-{
-    let (number, end) = digits_at(bytes);
-    if !is_unpadded(&bytes[..end], MAX_DIGITS) {
+    let (first, rest) = bytes.split_first()?;
+    if *first != b' ' {
         return None;
     }
-    Some((number, &bytes[end..]))
+    let (number, end) = digits_at(rest);
+    if !is_unpadded(&rest[..end], MAX_DIGITS) {
+        return None;
+    }
+    Some((number, &rest[end..]))
 }
 
 /// Does what `number_at` does, if there are at least as many bytes as are read.
@@ -49,21 +42,12 @@ pub(crate) fn number_within(bytes: &[u8]) -> Option<(u64, &[u8])>
     if bytes[0] != b' ' {
         return None;
     }
-    numeral_within(&bytes[1..])
-}
-
-/// Does what `numeral_at` does, if there are at least as many bytes as are read.
-#[inline(always)]
-fn numeral_within(bytes: &[u8]) -> Option<(u64, &[u8])>
-    requires { MAX_DIGITS ≤ length bytes.now }
-    ensures number { IfSome result (λ parts. IsNumeralAt bytes.now parts.0 parts.1.now) }
-    ensures left { IfSome result (λ parts. length bytes.now ≤ length parts.1.now + MAX_DIGITS) }
-{
-    let (number, end) = digits_within(bytes);
-    if !is_unpadded(&bytes[..end], MAX_DIGITS) {
+    let rest = &bytes[1..];
+    let (number, end) = digits_within(rest);
+    if !is_unpadded(&rest[..end], MAX_DIGITS) {
         return None;
     }
-    Some((number, &bytes[end..]))
+    Some((number, &rest[end..]))
 }
 
 /// Reads at most 18 digits. Returns their value, and how many there are.

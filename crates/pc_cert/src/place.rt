@@ -29,11 +29,10 @@ ghost use Rattle.pc_cert.specs.declared.place.Place.TheVariants.{
 ghost use Rattle.pc_cert.specs.inside.Known.{HasText, IsAgain, IsFrontOf, IsTextOf};
 ghost use Rattle.pc_cert.specs.Grammar.{next};
 
-use crate::event::EventSaid;
-use crate::event_front::EventFront;
+use crate::event::{EventFront, EventSaid};
 use crate::flows::Flows;
+use crate::known::LineText;
 use crate::line::CertLine;
-use crate::line_text::LineText;
 
 /// What the first line says about the lines that follow: the version, and the numbers of events and of activities.
 #[derive(Clone, Copy)]
@@ -101,24 +100,12 @@ impl Place {
         ensures stays { result ≡ false → next self.old line.now ≡ None }
         ensures same { result ≡ false → self.new ≡ self.old }
     {
-        match (&mut *self, line) {
-            (Place::InSegment { events, .. }, CertLine::Event { .. }) if 0 < *events => {
-                *events -= 1;
-                true
-            }
-            (
-                Place::InSegment {
-                    shape,
-                    events,
-                    activities,
-                },
-                CertLine::Act { flows, .. },
-            ) if *events == 0 && 0 < *activities && takes_flows(*shape, flows) => {
-                *activities -= 1;
-                true
-            }
-            _ => self.jump_behind(line),
-        }
+        let is_row = match line {
+            CertLine::Event { .. } => self.go_behind_event(),
+            CertLine::Act { flows, .. } => self.go_behind_act(flows),
+            _ => false,
+        };
+        is_row || self.jump_behind(line)
     }
 
     /// Goes on after an activity's line with these flows if one is allowed here, and returns whether it is.

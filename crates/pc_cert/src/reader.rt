@@ -125,10 +125,8 @@ impl CertReader {
         }
     }
 
-    /// Does what `feed` does, but leaves the line in `known`: the line that ended, or none if no line ended. Returns
-    /// how many bytes were used.
-    ///
-    /// A line that occurs again is not copied, and its end is not searched for.
+    /// Does what `feed` does, but leaves the line in `known`, with its bytes: the line that ended, or none if no line
+    /// ended. Returns how many bytes were used.
     ///
     /// # Errors
     ///
@@ -150,12 +148,6 @@ impl CertReader {
     {
         if let Some(malformed) = self.malformed {
             return Err(malformed);
-        }
-        if self.held == 0 {
-            let used = known.meet(piece);
-            if 0 < used {
-                return self.pass(known, used);
-            }
         }
         let end = line_len(piece);
         if MAX_LINE - self.held <= end {
@@ -240,10 +232,10 @@ impl CertReader {
         ensures short { length self.new.held < MAX_LINE }
     {
         if self.held == 0 {
-            known.learn(piece);
+            known.read(piece);
         } else {
             self.hold(piece);
-            known.learn(&self.cells[..self.held]);
+            known.read(&self.cells[..self.held]);
         }
     }
 

@@ -1,9 +1,19 @@
 //! Reading a line: its first word says which it is, and its fields are read one after the other.
 ghost use Rattle.std.specs.Prelude.{◌≡◌};
-ghost use Rattle.pc_cert.specs.inside.Reading.{line_of, line_with, head_of, step_of, segment_of, event_of};
+ghost use Rattle.std.specs.Option.{option_map};
+ghost use Rattle.pc_cert.specs.inside.Fields.{bit_field, bit_of};
+ghost use Rattle.pc_cert.specs.inside.Reading.{
+  line_of,
+  line_with,
+  head_of,
+  step_of,
+  segment_of,
+  event_of,
+  act_of,
+  flows_of,
+};
 
-use crate::act::act_of;
-use crate::field::bit_field;
+use crate::flows::{Flows, MAX_FLOWS};
 use crate::line::CertLine;
 use crate::number::MAX_DIGITS;
 use pc_text::{Code, alone, field, number_field, run_len};
@@ -103,4 +113,61 @@ fn event_of(fields: &[u8]) -> Option<CertLine>
     let (time, rest) = number_field(rest, MAX_DIGITS)?;
     let (moves, rest) = bit_field(rest)?;
     alone(rest, CertLine::Event { code, time, moves })
+}
+
+/// Reads a space and a bit, `0` or `1`. Returns the bit and the bytes after it.
+#[tactic(auto, unfolding(crate::specs::inside::Fields::bit_field, pc_text::specs::Fields::field_by))]
+pub(crate) fn bit_field(bytes: &[u8]) -> Option<(bool, &[u8])>
+    ensures { option_map (λ parts. (parts.0, parts.1.now)) result ≡ bit_field bytes.now }
+{
+    let (word, rest) = field(bytes)?;
+    let bit = bit_of(word)?;
+    Some((bit, rest))
+}
+
+fn bit_of(word: &[u8]) -> Option<bool>
+    ensures { result ≡ bit_of word.now }
+{
+    if word == b"0".as_slice() {
+        Some(false)
+    } else if word == b"1".as_slice() {
+        Some(true)
+    } else {
+        None
+    }
+}
+
+#[tactic(auto, unfolding(crate::specs::inside::Reading::act_of, pc_text::specs::Fields::field_by))]
+pub(crate) fn act_of(fields: &[u8]) -> Option<CertLine>
+    ensures { result ≡ act_of fields.now }
+{
+    let (word, rest) = field(fields)?;
+    let code = Code::read(word)?;
+    let (duration, rest) = number_field(rest, MAX_DIGITS)?;
+    let flows = flows_of(rest)?;
+    if flows.as_slice().len() < 2 {
+        return None;
+    }
+    Some(CertLine::Act {
+        code,
+        duration,
+        flows,
+    })
+}
+
+/// Reads the fields as flows. Returns `None` if one is not a number, or if there are more than six.
+fn flows_of(fields: &[u8]) -> Option<Flows>
+    ensures { result ≡ flows_of fields.now }
+{
+    let mut flows = Flows::new();
+    let mut rest = fields;
+    while !rest.is_empty() {
+        if flows.as_slice().len() == MAX_FLOWS {
+            return None;
+        }
+        let (flow, behind) = number_field(rest, MAX_DIGITS)?;
+        flows.push(flow);
+        rest = behind;
+    }
+    Some(flows)
 }

@@ -1,16 +1,15 @@
 //! The lines of a segment.
 ghost use Rattle.std.specs.Prelude.{◌≡◌, ℕ, ◌<◌, [], ◌∷◌, length};
 ghost use Rattle.pc_edges.specs.inside.page.Puts.{Puts};
-ghost use Rattle.pc_text.specs.Fields.{IsCode, spaced};
+ghost use Rattle.pc_text.specs.Fields.{IsCode};
 ghost use Rattle.pc_model.specs.Codes.{text_at};
 ghost use Rattle.pc_cert.specs.Lines.{numbers};
 ghost use Rattle.pc_cert.specs.Text.{text_of, AreWritable};
 ghost use Rattle.pc_cert.specs.Listed.{listed};
 ghost use Rattle.pc_cert.specs.Document.{ends_line, event_line, act_line, flows_along, segment_lines};
 ghost use Rattle.pc_cert.specs.Document.{HasSmallNumbers};
-ghost use Rattle.pc_cert.specs.inside.Fields.{bit_text};
 
-use crate::words::{put_code, put_number};
+use crate::words::{put_bit, put_code, put_number};
 use pc_crash::{CrashNet, SegmentView};
 use pc_edges::Sink;
 use pc_edges::page::Page;
@@ -83,16 +82,6 @@ fn put_event<O: Sink, V: SegmentView>(
     put_number(page, sink, view.time(e));
     put_bit(page, sink, view.moves(e));
     page.put(sink, b"\n");
-}
-
-fn put_bit<O: Sink>(page: &mut Page, sink: &mut O, bit: bool)
-    ensures { Puts O.taken O.faults page.old sink.old page.new sink.new (spaced (bit_text bit) []) }
-{
-    if bit {
-        page.put(sink, b" 1");
-    } else {
-        page.put(sink, b" 0");
-    }
 }
 
 fn put_acts<O: Sink, V: SegmentView>(page: &mut Page, sink: &mut O, net: &CrashNet<'_>, view: &V)

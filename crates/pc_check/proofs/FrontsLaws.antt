@@ -5,7 +5,7 @@ use Rattle.std.proofs.Math.Seq.{get_or-append_seam}
 use Rattle.std.proofs.lemmas.Bool.{cases_eq}
 use Rattle.pc_model.specs.Codes.{text_at}
 use Rattle.pc_crash.specs.Priced.{PricedNetwork}
-use Rattle.pc_cert.specs.declared.event_front.EventFront.{EventFront}
+use Rattle.pc_cert.specs.declared.event.EventFront.{EventFront}
 use Rattle.pc_cert.specs.inside.Known.{IsFrontOf, IsEventFront}
 use Rattle.pc_check.specs.inside.Fronts.{front_at}
 

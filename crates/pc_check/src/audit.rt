@@ -28,7 +28,7 @@ ghost use Rattle.pc_edges.specs.declared.loading.TheConstants.{STREAM_ROOM};
 ghost use Rattle.pc_check.specs.OwnLines.{KeepsToOwnLines};
 
 use crate::checker::{Checker, Fail, Verdict};
-use pc_cert::{CertReader, KnownLines};
+use pc_cert::{CertReader, KnownLine};
 use pc_crash::CrashNet;
 use pc_edges::{STREAM_ROOM, Source};
 use std::alloc::{AllocError, Global};
@@ -36,14 +36,12 @@ use std::marker::Model;
 use thiserror::Error;
 
 /// A reader of a certificate's text with a checker of its lines.
-///
-/// It also keeps the lines of one segment, so that a line that comes again in the next segment is compared and not
-/// parsed.
 #[derive(Drop)]
 pub struct Audit<'n> {
     reader: CertReader,
     checker: Checker<'n>,
-    known: KnownLines,
+    /// the line that was read last
+    known: KnownLine,
 }
 
 impl<'n> Model for Audit<'n> {
@@ -67,12 +65,10 @@ impl<'n> Audit<'n> {
         ensures net { IfOk result (λ audit. audit.checker.net ≡ net.now) }
         ensures left { IfOk result (λ audit. bytes_left audit ≤ most_bytes net.now) }
     {
-        let rows = net.net().events() as usize + net.net().activities() as usize;
         Ok(Audit {
             reader: CertReader::begin(),
             checker: Checker::begin(alloc, net)?,
-            // a segment has two lines beside those of its events and activities
-            known: KnownLines::build(alloc, rows + 2)?,
+            known: KnownLine::new(),
         })
     }
 
@@ -100,7 +96,7 @@ impl<'n> Audit<'n> {
         None
     }
 
-    /// Uses the piece up to the end of one line, or of some that come again.
+    /// Uses the piece up to the end of one line, or of several rows.
     #[inline(always)]
     fn step(&mut self, piece: &[u8]) -> Result<usize, Fail>
         requires { MayUse piece.now self.old }
@@ -110,16 +106,15 @@ impl<'n> Audit<'n> {
         if 0 < used {
             return Ok(used);
         }
-        self.step_anew(piece)
+        self.take_line(piece)
     }
 
-    /// As `step`, of any line.
-    fn step_anew(&mut self, piece: &[u8]) -> Result<usize, Fail>
+    /// Uses the piece up to the end of one line, of any kind.
+    fn take_line(&mut self, piece: &[u8]) -> Result<usize, Fail>
         requires { MayUse piece.now self.old }
         ensures { HasUsed piece.now self.old self.new result }
     {
-        let known = self.known.here();
-        let used = match self.reader.feed_known(piece, known) {
+        let used = match self.reader.feed_known(piece, &mut self.known) {
             Ok(used) => used,
             Err(malformed) => {
                 return Err(Fail {
@@ -128,13 +123,13 @@ impl<'n> Audit<'n> {
                 });
             }
         };
-        match known.line() {
+        match self.known.line() {
             None => Ok(used),
-            Some(line) => match self.checker.take_known(known, line, self.reader.place()) {
-                None => {
-                    self.known.go_on();
-                    Ok(used)
-                }
+            Some(line) => match self
+                .checker
+                .take_known(&self.known, line, self.reader.place())
+            {
+                None => Ok(used),
                 Some(fail) => Err(fail),
             },
         }

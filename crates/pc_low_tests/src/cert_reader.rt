@@ -2,7 +2,7 @@
 ghost use Rattle.std.specs.Prelude.{◌≤◌};
 
 use crate::cases::expect_ok_none;
-use pc_cert::{CertLine, CertReader, Fed, KnownLine, KnownLines, LineText, Place};
+use pc_cert::{CertLine, CertReader, Fed, KnownLine, LineText, Place};
 use std::alloc::{AllocError, Global};
 
 const HEAD: &[u8] = b"CERT 1 E1 3 3\nNORMAL\nSTEP A\nSTEP B\nCRASH\nSTEP A\nSTEP B\n";
@@ -23,11 +23,11 @@ pub(crate) fn joined(alloc: Global, parts: &[&[u8]]) -> Result<Vec<u8>, AllocErr
 }
 
 // How many lines a text gives that comes in pulls of so many bytes, and which one is malformed or missing; 0 for none.
-// The lines are read through what is known of those one round before.
-fn read(text: &[u8], pull: usize, known: &mut KnownLines) -> (u64, u64)
+fn read(text: &[u8], pull: usize) -> (u64, u64)
     requires { pull ≤ 4096 }
 {
     let mut reader = CertReader::begin();
+    let mut known = KnownLine::new();
     let mut at = 0usize;
     let mut left = pull;
     let mut lines = 0u64;
@@ -36,7 +36,7 @@ fn read(text: &[u8], pull: usize, known: &mut KnownLines) -> (u64, u64)
             break;
         }
         let size = left.min(text.len() - at);
-        match reader.feed_known(&text[at..at + size], known.here()) {
+        match reader.feed_known(&text[at..at + size], &mut known) {
             Err(malformed) => return (lines, malformed.line),
             Ok(used) => {
                 at += used;
@@ -44,8 +44,7 @@ fn read(text: &[u8], pull: usize, known: &mut KnownLines) -> (u64, u64)
                 if left == 0 {
                     left = pull;
                 }
-                if known.here().line().is_some() {
-                    known.go_on();
+                if known.line().is_some() {
                     lines = lines.saturating_add(1);
                 }
             }
@@ -86,8 +85,7 @@ fn is_read(
     requires { pull ≤ 4096 }
 {
     let text = joined(alloc, parts)?;
-    let mut known = KnownLines::build(alloc, 8)?;
-    Ok(read(&text, pull, &mut known) == found)
+    Ok(read(&text, pull) == found)
 }
 
 // The first of these texts that is read otherwise in pulls of so many bytes, or none.

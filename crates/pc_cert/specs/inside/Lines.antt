@@ -1,13 +1,8 @@
 -- The lines of a certificate, and how each is spelled.
 -- Here is what no clause of a top call and no law reaches.
-use Rattle.std.specs.Prelude.{◌≡◌, ℕ, List, ◌++◌, decimal}
+use Rattle.std.specs.Prelude.{◌≡◌, ℕ, List, decimal}
 use Rattle.pc_text.specs.Fields.{spaced}
 use Rattle.pc_cert.specs.Lines.{IsSmall}
-
--- the bytes begin with the decimal form of a number of at most 18 digits, behind which are the rest
-pub record IsNumeralAt (bytes : List ℕ) (n : ℕ) (rest : List ℕ) : Type 0 where
-  pub text : bytes ≡ decimal n ++ rest
-  pub small : IsSmall n
 
 -- the bytes begin with a space and the decimal form of a number of at most 18 digits, behind which are the rest
 pub record IsNumberAt (bytes : List ℕ) (n : ℕ) (rest : List ℕ) : Type 0 where

@@ -2,7 +2,7 @@
 use Rattle.std.specs.Prelude.{◌≡◌, ℕ, ◌<◌, List, [], length, slice_index_or}
 use Rattle.pc_model.specs.Codes.{text_at}
 use Rattle.pc_crash.specs.Priced.{PricedNetwork}
-use Rattle.pc_cert.specs.declared.event_front.EventFront.{EventFront}
+use Rattle.pc_cert.specs.declared.event.EventFront.{EventFront}
 use Rattle.pc_cert.specs.inside.Known.{IsFrontOf}
 
 -- how the lines of event e begin

@@ -6,6 +6,6 @@ use Rattle.pc_cert.proofs.known.KnownLine.keep.Goals as goal
 
 pub invariant_of-self : goal.invariant_of-self
 invariant_of-self c =
-    kept_cells c.self.inside.line c.args.bytes.now c.copy_from_slice.new.self c.self.inside.cells c.copy_from_slice.ensures.after c.self.invariant.room c.requires.short
+    kept_cells c.self.inside.line c.args.bytes.now c.copy_from_slice.new.self c.self.inside.text.cells c.copy_from_slice.ensures.after c.self.invariant.room c.requires.short
     (subst (λ (k : Known). IsSome k.line) (sym c.self.view_is) c.requires.some)
     (ap (λ (k : Known). k.line) c.self.view_is ∙ c.requires.line)

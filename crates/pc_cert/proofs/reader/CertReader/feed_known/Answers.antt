@@ -1,17 +1,9 @@
-use Rattle.std.proofs.Common.{◌≡◌, ◌+◌, ◌<◌, [], ◌++◌, None, sym, ap, subst, ◌∙◌, arith, append-nil, length, take, length-take-le}
+use Rattle.std.proofs.Common.{◌≡◌, ◌+◌, ◌<◌, ◌++◌, None, sym, ap, subst, ◌∙◌, arith, append-nil, length, take, length-take-le}
 use Rattle.pc_text.specs.Fields.{run_len}
 use Rattle.pc_cert.specs.inside.Reading.{line_of}
 use Rattle.pc_cert.specs.inside.Reader.{Reading, HasPassed}
 use Rattle.pc_cert.proofs.ReaderLaws.{none_from, going, holds, too_long, passed}
 use Rattle.pc_cert.proofs.reader.CertReader.feed_known.Goals as goal
-
-pub returns-then-used-gt0-clause-stands : goal.returns-then-used-gt0-clause-stands
-returns-then-used-gt0-clause-stands c =
-    let none : c.args.self.now.malformed ≡ None = ap (λ r. r.malformed) (sym c.self.view_is) ∙ none_from c.self.inside.malformed c.in_default.not-Some in
-    let empty : c.args.self.now.held ≡ [] = ap (λ (r : Reading). r.held) (sym c.self.view_is) ∙ ap (λ n. take n c.self.inside.cells) c.if-self-eq0.true in
-    let is = c.meet-used.ensures c.if-used-gt0.true in
-    passed c.args.self.now c.pass.new.self c.args.self.now.held c.meet-used.new.self.line c.args.piece.now c.meet-used.result c.pass.result none is.ends (omega (arith, is.ends, is.within))
-    (ap (λ held. line_of (held ++ take (run_len 10 c.args.piece.now) c.args.piece.now)) empty ∙ is.read) c.pass.ensures
 
 pub returns-then-self-end-clause-stands : goal.returns-then-self-end-clause-stands
 returns-then-self-end-clause-stands c = λ lines text h.
@@ -32,7 +24,7 @@ pub returns-clause-stands : goal.returns-clause-stands
 returns-clause-stands c =
     let none : c.args.self.now.malformed ≡ None = ap (λ r. r.malformed) (sym c.self.view_is) ∙ none_from c.self.inside.malformed c.in_default.not-Some in
     let less : run_len 10 c.args.piece.now < length c.args.piece.now = omega (arith, c.line_len-end.ensures.value, c.line_len-end.ensures.within, c.if-end-piece.false) in
-    passed c.args.self.now c.pass-2.new.self c.learn.new.self.held c.learn.new.known.line c.args.piece.now
-    (c.line_len-end.result + 1) c.pass-2.result none (ap (λ n. n + 1) c.line_len-end.ensures.value) less
+    passed c.args.self.now c.pass.new.self c.learn.new.self.held c.learn.new.known.line c.args.piece.now
+    (c.line_len-end.result + 1) c.pass.result none (ap (λ n. n + 1) c.line_len-end.ensures.value) less
     (ap (λ n. line_of (c.args.self.now.held ++ take n c.args.piece.now)) (sym c.line_len-end.ensures.value) ∙ sym c.learn.ensures.line)
-    (subst (λ (r : Reading). HasPassed c.learn.new.known.line (c.line_len-end.result + 1) r c.pass-2.new.self c.pass-2.result) c.learn.ensures.rest c.pass-2.ensures)
+    (subst (λ (r : Reading). HasPassed c.learn.new.known.line (c.line_len-end.result + 1) r c.pass.new.self c.pass.result) c.learn.ensures.rest c.pass.ensures)

@@ -4,12 +4,6 @@ use Rattle.pc_check.specs.inside.Auditing.{Auditing, HasRead, IsGoing, bytes_lef
 use Rattle.pc_check.proofs.BeginLaws.{left_at_start}
 use Rattle.pc_check.proofs.audit.Audit.build.Goals as goal
 
-pub overflow_add-rows : goal.overflow_add-rows
-overflow_add-rows c = omega (arith, c.events.ensures.limit, c.activities.ensures.limit)
-
-pub overflow_add-rows-2 : goal.overflow_add-rows-2
-overflow_add-rows-2 c = omega (arith, c.events.ensures.limit, c.activities.ensures.limit)
-
 pub returns-clause-read : goal.returns-clause-read
 returns-clause-read c = record { lines = []; read = c.begin.ensures.stands; checked = c.in_ok-begin.ensures.stands }
 

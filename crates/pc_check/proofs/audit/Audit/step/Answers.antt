@@ -43,8 +43,8 @@ returns-then-used-gt0 c =
       left = search rules;
     }
 
-pub step_anew-requires : goal.step_anew-requires
-step_anew-requires c =
+pub take_line-requires : goal.take_line-requires
+take_line-requires c =
     let audit_of : Reading → Checking → Auditing = λ r k. record { reader = r; checker = k } in
     let nothing : c.take_rows-used.result ≡ 0 = omega (arith, c.if-used-gt0.false) in
     let same : audit_of c.take_rows-used.new.reader c.take_rows-used.new.self ≡ c.args.self.now =
@@ -57,4 +57,4 @@ returns c =
     let nothing : c.take_rows-used.result ≡ 0 = omega (arith, c.if-used-gt0.false) in
     let same : audit_of c.take_rows-used.new.reader c.take_rows-used.new.self ≡ c.args.self.now =
     ap (λ r. audit_of r c.take_rows-used.new.self) (c.take_rows-used.ensures.same_reader nothing) ∙ ap (audit_of c.self.inside.reader) (c.take_rows-used.ensures.same nothing) ∙ c.self.view_is in
-    subst (λ (a : Auditing). HasUsed c.args.piece.now a c.step_anew.new.self c.step_anew.result) same c.step_anew.ensures
+    subst (λ (a : Auditing). HasUsed c.args.piece.now a c.take_line.new.self c.take_line.result) same c.take_line.ensures

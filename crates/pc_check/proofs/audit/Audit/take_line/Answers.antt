@@ -6,7 +6,7 @@ use Rattle.pc_cert.specs.inside.Reader.{StandsFor}
 use Rattle.pc_check.specs.Texts.{IsFailing}
 use Rattle.pc_check.specs.inside.Auditing.{Auditing, HasRead, IsGoing, bytes_left}
 use Rattle.pc_check.proofs.AuditLaws.{malformed_fails, may_feed, may_take, line_fails, less_behind_piece, less_behind_line}
-use Rattle.pc_check.proofs.audit.Audit.step_anew.Goals as goal
+use Rattle.pc_check.proofs.audit.Audit.take_line.Goals as goal
 
 pub returns-in-Err : goal.returns-in-Err
 returns-in-Err c =

@@ -1,6 +1,6 @@
 use Rattle.std.proofs.Common.{◌-◌, length}
 use Rattle.pc_cert.proofs.FlowsLemmas.{IsReadingFlows}
-use Rattle.pc_cert.proofs.act.flows_of.Given as goal
+use Rattle.pc_cert.proofs.reading.flows_of.Given as goal
 
 abbrev pub invariant-loop-rest : goal.invariant-loop-rest
 invariant-loop-rest l = IsReadingFlows l.fields l.flows l.rest

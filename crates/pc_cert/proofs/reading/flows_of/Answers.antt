@@ -1,6 +1,6 @@
 use Rattle.std.proofs.Common.{◌≢◌, ◌<◌, length, sym, arith}
 use Rattle.pc_cert.proofs.FlowsLemmas.{begun, more}
-use Rattle.pc_cert.proofs.act.flows_of.Goals as goal
+use Rattle.pc_cert.proofs.reading.flows_of.Goals as goal
 
 pub loop-rest-preserved : goal.loop-rest-preserved
 loop-rest-preserved c =
