@@ -3,17 +3,12 @@ ghost use Rattle.std.specs.Prelude.{◌≡◌, ◌+◌, ◌*◌, ◌≤◌, leng
 ghost use Rattle.pc_cells.specs.inside.Spans.{free_of};
 ghost use Rattle.pc_certify.specs.inside.Certificate.{TookCertificate, TookFrontOfOne};
 
-use crate::last_lines::LastLines;
-use crate::walks::Walks;
-use crate::writing::write;
+use crate::certificate::Certificate;
 use pc_cells::Region;
 use pc_crash::CrashNet;
 use pc_edges::page::{PAGE_ROOM, Page};
 use pc_edges::{Failed, Sink};
-use pc_flow::Solver;
 use std::alloc::Global;
-use std::marker::Brand;
-use std::sync::ledger::Blank;
 use thiserror::Error;
 
 /// The reason why a certificate was not written, or not completely.
@@ -68,25 +63,14 @@ pub fn certify<O: Sink>(
         → TookFrontOfOne net.now (O.taken sink.old) (O.taken sink.new) (O.faults sink.old) (O.faults sink.new) }
     ensures no_memory { IsErrOf result CertifyError.OutOfMemory → sink.new ≡ sink.old }
 {
-    let Ok(walks) = Walks::build(alloc, net) else {
-        return Err(CertifyError::OutOfMemory);
-    };
-    let Ok(mut lines) = LastLines::build(alloc, net) else {
+    let Ok(certificate) = Certificate::build(alloc, net, region) else {
         return Err(CertifyError::OutOfMemory);
     };
     let Ok(mut page) = Page::with_capacity(alloc, PAGE_ROOM) else {
         return Err(CertifyError::OutOfMemory);
     };
-    let mut solver = Solver::begin(region, net);
-    match write::<O, Brand>(
-        &mut page,
-        sink,
-        net,
-        &walks,
-        &mut lines,
-        &mut solver,
-        Blank::new(1),
-    ) {
+    certificate.put_on(&mut page, sink, net);
+    match page.finish(sink) {
         Ok(()) => Ok(()),
         Err(Failed) => Err(CertifyError::WriteFault),
     }

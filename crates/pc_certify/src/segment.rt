@@ -2,6 +2,8 @@
 ghost use Rattle.std.specs.Prelude.{◌≡◌, ℕ, ◌<◌, [], ◌∷◌, length};
 ghost use Rattle.pc_edges.specs.inside.page.Puts.{Puts, desk};
 ghost use Rattle.pc_text.specs.Fields.{IsCode};
+ghost use Rattle.pc_laws.specs.Stair.{stair_of, knee_flow, crash_flow};
+ghost use Rattle.pc_crash.specs.Priced.{knees_in};
 ghost use Rattle.pc_cert.specs.Text.{text_of, AreWritable};
 ghost use Rattle.pc_model.specs.Codes.{text_at};
 ghost use Rattle.pc_cert.specs.Listed.{listed};
@@ -10,13 +12,35 @@ ghost use Rattle.pc_cert.specs.Document.{HasSmallNumbers};
 ghost use Rattle.pc_certify.specs.inside.Gathers.{Gathers};
 ghost use Rattle.pc_certify.specs.inside.Spelled.{AreEventsSpelled, AreActsSpelled, SpellsAct, filled_along};
 
-use crate::filled_view::FilledView;
 use crate::gathered::Gathered;
 use crate::last_lines::{ActRow, EventRow, LastLines};
 use pc_cert::put_ends;
-use pc_crash::CrashNet;
+use pc_crash::{CrashNet, SegmentView};
 use pc_edges::Sink;
 use pc_edges::page::Page;
+use pc_flow::Solver;
+
+/// A segment in which the flow along each activity fills its knees in order.
+///
+/// A writer that kept the sum of an activity's flows sees by one comparison that they are the same again.
+pub trait FilledView: SegmentView {
+    /// Returns the sum of the flows along an activity. In order, each knee takes as much of it as it can, and what is
+    /// left flows beyond them.
+    fn whole(&self, a: u32) -> u64
+        requires present { Self.IsPresent self.now }
+        requires activity { a < length (Self.net self.now).network.arcs }
+        ensures at_knees { (k : ℕ) → k < (knees_in (Self.net self.now)).count a
+            → (Self.segment self.now).flow a k ≡ knee_flow
+            (stair_of (Self.net self.now).terms (knees_in (Self.net self.now)) a) result k }
+        ensures beside { (Self.segment self.now).beside a
+            ≡ crash_flow (stair_of (Self.net self.now).terms (knees_in (Self.net self.now)) a) result };
+}
+
+impl<'n> FilledView for Solver<'n> {
+    fn whole(&self, a: u32) -> u64 {
+        self.whole_flow(a)
+    }
+}
 
 /// Puts the lines of a segment on a page, as [`pc_cert::put_segment`] does, but by the lines of the segment that was
 /// put last: a line that says the same again is not formatted again. Linear in events, activities and pieces.

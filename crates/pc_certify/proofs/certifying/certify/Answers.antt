@@ -1,14 +1,11 @@
-use Rattle.std.proofs.Common.{refl, arith}
 use Rattle.pc_certify.proofs.certifying.certify.Goals as goal
 
-pub write-requires-clause-blank : goal.write-requires-clause-blank
-write-requires-clause-blank g c = record { same_name = refl; same_parts = refl; some = omega (arith, c.new.ensures) }
+pub returns-in-Ok-finish-clause-done : goal.returns-in-Ok-finish-clause-done
+returns-in-Ok-finish-clause-done g c =
+    let (text, is, put) = c.put_on.ensures in
+    (text, is, (c.in-Ok-finish.ensures.text _ text c.in-Ok-with_capacity.ensures put).ok)
 
-pub write-requires-clause-solver : goal.write-requires-clause-solver
-write-requires-clause-solver g c =
-    let begun = c.begin-solver.ensures in
-    record {
-      along = record { same_net = begun.net; longest = begun.longest; shortest = begun.shortest };
-      none = begun.given;
-      top = omega (arith, begun.level.upper, begun.level.fall);
-    }
+pub returns-clause-fault : goal.returns-clause-fault
+returns-clause-fault g c = λ fault.
+    let (text, is, put) = c.put_on.ensures in
+    (text, is, (c.in-Err.ensures.text _ text c.in-Ok-with_capacity.ensures put).err)

@@ -6,7 +6,7 @@ use Rattle.pc_cert.specs.Document.{segment_lines}
 use Rattle.pc_certify.proofs.CertifiedLaws.{text_begins, text_goes_on, walk_known}
 use Rattle.pc_flow.specs.inside.Courses.{present, HasEnded}
 use Rattle.pc_certify.proofs.DescentLaws.{given-none, given-more, given-all, come-less, small-next}
-use Rattle.pc_certify.proofs.writing.put_segments.Goals as goal
+use Rattle.pc_certify.proofs.certificate.put_segments.Goals as goal
 
 pub put_head-requires-clause-normal : goal.put_head-requires-clause-normal
 put_head-requires-clause-normal g c = rw c.path.ensures (walk_known _ _ _ _ c.requires.walks.at_normal.through.leads)

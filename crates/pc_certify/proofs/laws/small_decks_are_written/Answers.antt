@@ -1,6 +1,6 @@
 use Rattle.std.proofs.Common.{refl, arith}
 use Rattle.std.specs.Fmt.{digits}
-use Rattle.pc_certify.proofs.worked.small_decks_are_written.Goals as goal
+use Rattle.pc_certify.proofs.laws.small_decks_are_written.Goals as goal
 
 pub returns : goal.returns
 unfolding digits

@@ -2,7 +2,7 @@ use Rattle.std.proofs.Common.{ap, subst, arith}
 use Rattle.pc_model.specs.Network.{Network, IsOrder}
 use Rattle.pc_certify.proofs.CertifiedLaws.{certified, text_certified, all_same, curve}
 use Rattle.pc_certify.proofs.SmallLaws.{IsSized, small_segments}
-use Rattle.pc_certify.proofs.certified.written_is_certified.Goals as goal
+use Rattle.pc_certify.proofs.laws.written_is_certified.Goals as goal
 
 pub returns : goal.returns
 returns c =

@@ -1,6 +1,6 @@
 use Rattle.pc_cert.specs.Document.{document_lines}
 use Rattle.pc_certify.proofs.CertifiedLaws.{document_fits}
-use Rattle.pc_certify.proofs.texts.written_fits.Goals as goal
+use Rattle.pc_certify.proofs.laws.written_fits.Goals as goal
 
 pub returns : goal.returns
 returns c = record {

@@ -1,4 +1,0 @@
-use Rattle.pc_certify.proofs.certifying.certify.Given as goal
-
-abbrev pub ghosts-write : goal.ghosts-write
-ghosts-write g a = record { name = a.blank.name; parts = a.blank.parts }
