@@ -22,6 +22,15 @@ sum_to-le zero f g below = omega arith
 sum_to-le (suc n) f g below =
     omega (arith, sum_to-le n f g (λ a h. below a (omega arith)), below n (omega arith))
 
+-- the first n terms, and m more
+pub sum_to-split : (n m : ℕ) (f : ℕ → ℕ) → sum_to (n + m) f ≡ sum_to n f + sum_to m (λ a. f (n + a))
+sum_to-split n zero f =
+    let none : n + 0 ≡ n = omega arith in
+    omega (arith, ap (λ (k : ℕ). sum_to k f) none)
+sum_to-split n (suc m) f =
+    let next : n + suc m ≡ suc (n + m) = omega arith in
+    omega (arith, sum_to-split n m f, ap (λ (k : ℕ). sum_to k f) next)
+
 -- a sum of so many terms, none above a bound
 pub sum_to-most : (n most : ℕ) (f : ℕ → ℕ) → ((k : ℕ) → k < n → f k ≤ most) → sum_to n f ≤ n * most
 sum_to-most zero most f below = omega arith

@@ -1,6 +1,6 @@
 mod GreatestLaws
 mod TimesLaws
-mod EstimateLaws
+pub mod EstimateLaws
 mod LateLaws
 mod PickedLaws
 pub mod PickedWalks

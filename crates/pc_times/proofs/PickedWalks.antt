@@ -1,17 +1,9 @@
--- There is one picked walk.
-use Rattle.std.proofs.Common.{◌≡◌, ℕ, List, [], ◌∷◌, refl, sym, ◌∙◌, subst, ⊎_elim, arith}
-use Rattle.std.proofs.lemmas.Bool.{cases_eq, cases_lt}
-use Rattle.pc_model.specs.Greatest.{IsFirst}
+-- There is one picked walk, and its activities are the network's.
+use Rattle.std.proofs.Common.{◌≡◌, ℕ, ◌<◌, zero, suc, List, [], ◌∷◌, length, slice_index, refl, sym, ◌∙◌, subst, arith}
 use Rattle.pc_model.specs.Walk.{to_of}
 use Rattle.pc_model.specs.Network.{Network, IsSound}
+use Rattle.pc_model.proofs.Walks.WalkLaws.{first_unique}
 use Rattle.pc_times.specs.Picked.{IsPickedFrom, IsPickedWalk}
-
--- there is one first number
-pub first_unique : (P : ℕ → Type 0) (a b : ℕ) → IsFirst P a → IsFirst P b → a ≡ b
-first_unique P a b first_a first_b =
-    ⊎_elim (λ same. same)
-    (λ other. absurd (⊎_elim (λ lower. first_b.first a lower first_a.holds) (λ no_lower. first_a.first b (omega arith) first_b.holds) (cases_lt a b)))
-    (cases_eq a b)
 
 -- from an event on there is one picked walk
 pub picked_from_unique : (net : Network) (lengths : List ℕ) → IsSound net → (e : ℕ) (walk other : List ℕ) → IsPickedFrom net lengths e walk → IsPickedFrom net lengths e other → walk ≡ other
@@ -30,3 +22,10 @@ picked_from_unique net lengths sound e (a ∷ walk) (b ∷ other) picked picked_
 pub picked_walk_unique : (net : Network) (lengths walk other : List ℕ) → IsSound net → IsPickedWalk net lengths walk → IsPickedWalk net lengths other → walk ≡ other
 picked_walk_unique net lengths walk other sound picked picked_other =
     picked_from_unique net lengths sound net.start walk other picked picked_other
+
+-- the activities of a picked walk are activities of the network
+pub picked_from_known : (net : Network) (lengths : List ℕ) (e : ℕ) (walk : List ℕ) (i : ℕ) → IsPickedFrom net lengths e walk → i < length walk → slice_index walk i < length net.arcs
+picked_from_known net lengths e [] i picked below = absurd (omega (arith, below))
+picked_from_known net lengths e (a ∷ walk) zero picked below = picked.0.holds.0
+picked_from_known net lengths e (a ∷ walk) (suc i) picked below =
+    picked_from_known net lengths (to_of net.arcs a) walk i picked.1 (omega (arith, below))

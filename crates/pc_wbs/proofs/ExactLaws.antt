@@ -3,7 +3,7 @@ use Rattle.std.proofs.Common.{◌≡◌, ◌≢◌, ℕ, zero, suc, ◌+◌, ◌
 use Rattle.std.specs.Prelude.{slice_index}
 use Rattle.std.proofs.lemmas.Bool.{cases_order}
 use Rattle.std.proofs.lemmas.Grind.{same_number_lists}
-use Rattle.pc_model.specs.Greatest.{IsFirst}
+use Rattle.pc_model.proofs.Walks.WalkLaws.{first_unique}
 use Rattle.pc_wbs.specs.declared.tree.ItemRow.{ItemRow}
 use Rattle.pc_wbs.specs.declared.error.TreeError.{TreeError}
 use Rattle.pc_wbs.specs.declared.error.TreeError.TheVariants.{NoTop, SecondTop, Loop, TooDeep, OutOfMemory}
@@ -11,10 +11,6 @@ use Rattle.pc_wbs.specs.Climb.{parent_of, IsOnlyTop, HasLevel, IsTree}
 use Rattle.pc_wbs.specs.Refusal.{IsSecondTop, IsLoopFrom, IsLooped, IsTooDeep, IsTreeError}
 use Rattle.pc_wbs.proofs.ClimbLaws.{HasLevel-same}
 use Rattle.pc_wbs.proofs.OrderLaws.{HasNoLoop-tree}
-
-IsFirst-same : (P : ℕ → Type 0) (x y : ℕ) → IsFirst P x → IsFirst P y → x ≡ y
-IsFirst-same P x y h g =
-    ⊎_elim (λ same. same) (λ apart. ⊎_elim (λ lt. absurd (g.first x lt h.holds)) (λ gt. absurd (h.first y gt g.holds)) apart) (cases_order x y)
 
 not_second : (rows : List ItemRow) (x y : ℕ) → IsSecondTop rows x → IsSecondTop rows y → x < y → ⊥
 not_second rows x y h g lt =
@@ -96,7 +92,7 @@ IsRefusal-same rows (SecondTop item) (TooDeep other level) he hf h g = absurd (t
 IsRefusal-same rows (Loop loop) NoTop he hf h g = absurd (g h.0.0 h.0.1.is_top.0 h.0.1.is_top.1)
 IsRefusal-same rows (Loop loop) (SecondTop item) he hf h g = absurd (two_tops rows h.0.0 item h.0.1 g)
 IsRefusal-same rows (Loop loop) (Loop other) he hf h g =
-    let same = IsFirst-same (IsLooped rows) h.1.0 g.1.0 h.1.1.0 g.1.1.0 in
+    let same = first_unique (IsLooped rows) h.1.0 g.1.0 h.1.1.0 g.1.1.0 in
     let moved : IsLoopFrom rows h.1.0 other = rw same g.1.1.1 in
     ap (λ l. Loop l) (IsLoopFrom-same rows h.1.0 loop other h.1.1.1 moved)
 IsRefusal-same rows (Loop loop) (TooDeep item level) he hf h g = absurd (g.1 h.1.0 h.1.1.0.holds)
@@ -104,7 +100,7 @@ IsRefusal-same rows (TooDeep item level) NoTop he hf h g = absurd (g h.0.0 h.0.1
 IsRefusal-same rows (TooDeep item level) (SecondTop other) he hf h g = absurd (two_tops rows h.0.0 other h.0.1 g)
 IsRefusal-same rows (TooDeep item level) (Loop loop) he hf h g = absurd (h.1 g.1.0 g.1.1.0.holds)
 IsRefusal-same rows (TooDeep item level) (TooDeep other deep) he hf h g =
-    let same : item ≡ other = IsFirst-same (IsTooDeep rows) item other h.2 g.2 in
+    let same : item ≡ other = first_unique (IsTooDeep rows) item other h.2 g.2 in
     let moved : HasLevel rows item deep = rw same g.3 in
     let levels : level ≡ deep = HasLevel-same rows item level deep h.3 moved in
     ap (λ n. TooDeep n level) same ∙ ap (λ n. TooDeep other n) levels

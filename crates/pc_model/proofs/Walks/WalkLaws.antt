@@ -1,7 +1,8 @@
 -- The basic laws of walks: how they are joined and split, the sums over them, and what bounds both.
 use Rattle.std.proofs.Common.{◌≡◌, ℕ, ◌+◌, ◌*◌, ◌<◌, ◌≤◌, zero, suc, List, [], ◌∷◌, ◌++◌, length, slice_index, take, drop, refl, sym, ap, subst, ◌⊎◌, inl, inr, ⊎_elim, arith}
+use Rattle.std.proofs.lemmas.Bool.{cases_order}
 use Rattle.pc_model.specs.declared.Arc.{Arc}
-use Rattle.pc_model.specs.Greatest.{IsGreatest}
+use Rattle.pc_model.specs.Greatest.{IsGreatest, IsFirst}
 use Rattle.pc_model.specs.Walk.{from_of, to_of, IsWalk, walk_sum}
 
 -- a walk and, from where it ends, another are one walk
@@ -60,6 +61,11 @@ times_bound_walk arcs lengths times fits e f (a ∷ walk) walked =
 -- there is one greatest number at most
 pub greatest_unique : (P : ℕ → Type 0) (m n : ℕ) → IsGreatest P m → IsGreatest P n → m ≡ n
 greatest_unique P m n by_m by_n = omega (arith, by_m.bound n by_n.attained, by_n.bound m by_m.attained)
+
+-- there is one first number at most
+pub first_unique : (P : ℕ → Type 0) (a b : ℕ) → IsFirst P a → IsFirst P b → a ≡ b
+first_unique P a b first_a first_b =
+    ⊎_elim (λ same. same) (λ apart. ⊎_elim (λ lt. absurd (first_b.first a lt first_a.holds)) (λ gt. absurd (first_a.first b gt first_b.holds)) apart) (cases_order a b)
 
 -- where no activity is longer than a limit, a walk's sum is at most the limit for each of its activities
 pub walk_sum-bound : (arcs : List Arc) (lengths : List ℕ) (limit : ℕ) → ((a : ℕ) → a < length arcs → slice_index lengths a ≤ limit) →
