@@ -1,18 +1,9 @@
-use Rattle.std.proofs.Common.{◌≡◌, ℕ, ◌<◌, List, length, slice_index, slice_index_or, sym, ◌∙◌, ap, subst, arith}
+use Rattle.std.proofs.Common.{◌≡◌, slice_index, sym, ◌∙◌, ap, arith}
 use Rattle.std.proofs.lemmas.List.{get_or_read}
-use Rattle.pc_model.specs.inside.Greatest.{IsListed}
-use Rattle.pc_model.specs.Network.{Network}
-use Rattle.pc_model.specs.Walk.{from_of}
+use Rattle.pc_net.proofs.SideLaws.{listed_where_read}
 use Rattle.pc_net.proofs.LabelLaws.{IsSpreading-skip, IsSpreading-push, IsSpreading-end}
 use Rattle.pc_net.proofs.components.cross.Goals as goal
 use Rattle.pc_net.proofs.components.cross.Goals.{then-index-eq0+in_ok-push, else-index-eq0}
-
--- the activities listed at the event that was read are those at this place
-leaving : (net : Network) (reached : List ℕ) (at event : ℕ) (xs : List ℕ) → at < length reached → event ≡ slice_index_or reached at event →
-    IsListed (λ a. from_of net.arcs a ≡ event) (length net.arcs) xs →
-    IsListed (λ a. from_of net.arcs a ≡ slice_index reached at) (length net.arcs) xs
-leaving net reached at event xs queued read listed =
-    subst (λ (e : ℕ). IsListed (λ a. from_of net.arcs a ≡ e) (length net.arcs) xs) (get_or_read reached at event queued read 0) listed
 
 pub loop-a-preserved : goal.loop-a-preserved
 loop-a-preserved c =
@@ -35,5 +26,5 @@ loop-a-preserved c =
 pub returns : goal.returns
 returns c =
     let net = c.args.graph.now in
-    let listed = leaving net c.args.reached.now.items c.args.at _ _ c.requires.queued c.index.ensures c.out_arcs-a-items.ensures.listed in
+    let listed = listed_where_read net c.args.reached.now.items c.args.at _ _ c.requires.queued c.index.ensures c.out_arcs-a-items.ensures.listed in
     record { spread = IsSpreading-end net c.args.label c.loop-a.reached.items c.loop-a.labels.items c.args.at _ _ c.loop-a.a-index listed c.loop-a.invariant (omega (arith, c.loop-a-test.false)) }

@@ -1,23 +1,14 @@
-use Rattle.std.proofs.Common.{◌≡◌, ℕ, ◌<◌, ◌-◌, List, length, slice_index, slice_index_or, slice_set, refl, sym, ◌∙◌, subst, arith}
+use Rattle.std.proofs.Common.{◌≡◌, ◌<◌, ◌-◌, length, slice_index, slice_set, refl, sym, ◌∙◌, arith}
 use Rattle.std.proofs.lemmas.List.{get_or_read, get_or-set_same, length-set}
-use Rattle.pc_model.specs.inside.Greatest.{IsListed}
-use Rattle.pc_model.specs.Network.{Network}
-use Rattle.pc_model.specs.Walk.{from_of}
+use Rattle.pc_net.proofs.SideLaws.{listed_where_read}
 use Rattle.pc_net.proofs.QueueLaws.{IsCrossing-entered, IsCrossing-cross, IsCrossing-push, IsQueue-next}
 use Rattle.pc_net.proofs.ordering.cross.Goals as goal
 use Rattle.pc_net.proofs.ordering.cross.Goals.{then-index-eq0+in_ok-push, else-index-eq0}
 
--- the activities listed at the event that was read are those at this place of the queue
-leaving : (net : Network) (order : List ℕ) (at event : ℕ) (xs : List ℕ) → at < length order → event ≡ slice_index_or order at event →
-    IsListed (λ a. from_of net.arcs a ≡ event) (length net.arcs) xs →
-    IsListed (λ a. from_of net.arcs a ≡ slice_index order at) (length net.arcs) xs
-leaving net order at event xs queued read listed =
-    subst (λ (e : ℕ). IsListed (λ a. from_of net.arcs a ≡ e) (length net.arcs) xs) (get_or_read order at event queued read 0) listed
-
 pub overflow_sub-index_mut : goal.overflow_sub-index_mut
 overflow_sub-index_mut c =
     let net = c.args.graph.now in
-    let listed = leaving net c.args.order.now.items c.args.at _ _ (omega (arith, c.args.order.now.ok.0)) c.index.ensures c.out_arcs-a-items.ensures.listed in
+    let listed = listed_where_read net c.args.order.now.items c.args.at _ _ (omega (arith, c.args.order.now.ok.0)) c.index.ensures c.out_arcs-a-items.ensures.listed in
     let missing = c.loop-a.missing.items in
     let next = c.to-next.result in
     let read : c.index_mut.result.now
@@ -33,7 +24,7 @@ overflow_sub-index_mut c =
 pub loop-a-preserved : goal.loop-a-preserved
 loop-a-preserved c =
     let net = c.args.graph.now in
-    let listed = leaving net c.args.order.now.items c.args.at _ _ (omega (arith, c.args.order.now.ok.0)) c.index.ensures c.out_arcs-a-items.ensures.listed in
+    let listed = listed_where_read net c.args.order.now.items c.args.at _ _ (omega (arith, c.args.order.now.ok.0)) c.index.ensures c.out_arcs-a-items.ensures.listed in
     let missing = c.loop-a.missing.items in
     let a = slice_index c.out_arcs-a-items.result.now c.loop-a.a-index in
     let next = c.to-next.result in
@@ -55,5 +46,5 @@ loop-a-preserved c =
 pub returns : goal.returns
 returns c =
     let net = c.args.graph.now in
-    let listed = leaving net c.args.order.now.items c.args.at _ _ (omega (arith, c.args.order.now.ok.0)) c.index.ensures c.out_arcs-a-items.ensures.listed in
+    let listed = listed_where_read net c.args.order.now.items c.args.at _ _ (omega (arith, c.args.order.now.ok.0)) c.index.ensures c.out_arcs-a-items.ensures.listed in
     record { queue = IsQueue-next net c.loop-a.order.items c.loop-a.missing.items c.args.at _ _ c.loop-a.a-index listed c.loop-a.invariant (omega (arith, c.loop-a-test.false)) }
