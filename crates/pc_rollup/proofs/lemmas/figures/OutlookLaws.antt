@@ -7,7 +7,7 @@ use Rattle.std.proofs.lemmas.Int.{ints}
 use Rattle.std.proofs.lemmas.List.{get_or-map}
 use Rattle.pc_model.specs.declared.limits.TheConstants.{MAX_COST}
 use Rattle.pc_model.specs.Sums.{sum_to}
-use Rattle.pc_model.proofs.Sums.{sum_to-le, sum_to-most}
+use Rattle.pc_model.proofs.Sums.{sum_to-le, sum_to-most, sum_to-split}
 use Rattle.pc_wbs.specs.declared.tree.ItemRow.{ItemRow}
 use Rattle.pc_wbs.specs.Climb.{AreInRange, IsBelow, IsLeaf, IsTree}
 use Rattle.pc_wbs.proofs.OrderLaws.{IsBelow-top}
@@ -61,14 +61,6 @@ split_sum P n (suc m) f t is =
         (s, (u +ℤ f (n + m), (first, inl (p, (u, (second, refl))), omega (arith, ints))))
     of_last before (inr (none, over)) =
         let (s, (u, (first, second, sum))) = before t over in (s, (u, (first, inr (none, second), sum)))
-
-split_count : (n m : ℕ) (f : ℕ → ℕ) → sum_to (n + m) f ≡ sum_to n f + sum_to m (λ a. f (n + a))
-split_count n zero f =
-    let none : n + 0 ≡ n = omega arith in
-    omega (arith, ap (λ (k : ℕ). sum_to k f) none)
-split_count n (suc m) f =
-    let next : n + suc m ≡ suc (n + m) = omega arith in
-    omega (arith, split_count n m f, ap (λ (k : ℕ). sum_to k f) next)
 
 -- sums of functions that agree on the numbers that count
 pub IsSumOver-on : (P : ℕ → Type 0) (n : ℕ) (f g : ℕ → ℤ) (t : ℤ) → ((x : ℕ) → x < n → P x → f x ≡ g x) → IsSumOver P n f t → IsSumOver P n g t
@@ -165,7 +157,7 @@ module _ (marks : List Bool) (places : List ℕ) (cost : ℕ → ℕ) (accounts 
       (rest_small (mark_at marks (item_of accounts k)) (entry_at entries k) (small.each k (omega arith)) c)) in
       let high = sum_to-le (length places) (λ a. size (added (n + a))) cost
       (λ a lt. subst (λ (o : OutlookAmounts). size o ≤ cost a) (sym (joined_high n account_adds activity_adds a)) (cost_small a c)) in
-      omega (arith, split_count n (length places) (λ k. size (added k)), low, high, small.few)
+      omega (arith, sum_to-split n (length places) (λ k. size (added k)), low, high, small.few)
 
   module _ (tree : List ItemRow) (on_tree : AreOnTree tree accounts) (stand : StandOnLeaves tree places) where
     pub known : (k : ℕ) → k < length accounts + length places → place_added k < length tree

@@ -1,6 +1,7 @@
-use Rattle.std.proofs.Common.{ℕ, List, ℤ, length, sym, subst, ◌≡◌, Result, Ok, Err, IfOk}
+use Rattle.std.proofs.Common.{ℕ, List, ℤ, length, sym, subst, ◌≡◌}
 use Rattle.pc_rollup.specs.inside.Totals.{AreAmountsOf}
 use Rattle.pc_rollup.proofs.PlacedLaws.{amounts_at_leaves, totals_are}
+use Rattle.pc_rollup.proofs.lemmas.figures.PushLaws.{if_answered}
 use Rattle.pc_rollup.proofs.totals.totals_of.Goals as goal
 
 -- the amounts as they are lent
@@ -13,11 +14,6 @@ rollup-requires-clause-at_leaves c =
     (lent c.len.result (length c.args.tree.now) c.in_ok-amounts.amounts.items c.deref.result.now
     (λ n xs. AreAmountsOf n c.args.placed.now (length c.args.placed.now) xs) c.len.ensures.len c.deref.ensures.value
     c.in_ok-amounts.ensures.amounts)
-
--- what follows from an answer follows where there is one
-if_answered : {T E : Type 0} (r : Result T E) (P Q : T → Type 0) → ((v : T) → P v → Q v) → IfOk r P → IfOk r Q
-if_answered (Ok v) P Q follows is = follows v is
-if_answered (Err e) P Q follows is = is
 
 pub returns-clause-totals : goal.returns-clause-totals
 returns-clause-totals c =
