@@ -1,12 +1,11 @@
 -- What a session's region keeps when numbers in its spans change.
-use Rattle.std.proofs.Common.{◌≡◌, ℕ, ◌-◌, ◌*◌, ◌^◌, ◌<◌, ◌≤◌, List, length, set, sym, ◌∙◌, ap, subst, arith}
+use Rattle.std.proofs.Common.{◌≡◌, ℕ, ◌-◌, ◌<◌, ◌≤◌, List, length, set, sym, ◌∙◌, ap, subst, arith}
 use Rattle.std.specs.Prelude.{Some, unwrap_or}
-use Rattle.std.proofs.Math.Nat.{mul-le-mul, pow-le-pow_left}
 use Rattle.std.proofs.lemmas.List.{length-set}
 use Rattle.pc_cells.specs.Spans.{Cells}
 use Rattle.pc_cells.specs.inside.Spans.{free_of, with_span}
 use Rattle.pc_model.specs.Network.{Network}
-use Rattle.pc_model.specs.declared.limits.TheConstants.{MAX_DURATION, MAX_UNIT_DAYS, MAX_VARIANCE}
+use Rattle.pc_model.specs.declared.limits.TheConstants.{MAX_VARIANCE}
 use Rattle.pc_times.specs.declared.TheConstants.{MAX_ACTIVITY_LENGTH}
 use Rattle.pc_whatif.specs.declared.trials.SessionRegion.TheInside.{Inside}
 use Rattle.pc_whatif.specs.declared.trials.Spans.{Spans}
@@ -109,11 +108,3 @@ module _ (spans : Spans) (r0 r1 r2 : Cells) (a x v : ℕ) (are : AreSet spans r0
         small_tails = whole.small_tails;
       } in
       subst IsWhole (sym (kept-both path_len)) same
-
--- a variance is no greater than that of the widest estimates in the longest unit
-pub variance-small : (opt pess unit : ℕ) → pess ≤ MAX_DURATION → unit ≤ MAX_UNIT_DAYS → (pess - opt) ^ 2 * unit ^ 2 ≤ MAX_VARIANCE
-variance-small opt pess unit most few =
-    let range : pess - opt ≤ 100000 = omega arith in
-    let square : (pess - opt) ^ 2 ≤ 100000 ^ 2 = pow-le-pow_left range 2 in
-    let units : unit ^ 2 ≤ 7 ^ 2 = pow-le-pow_left few 2 in
-    mul-le-mul square units

@@ -1,12 +1,11 @@
 -- The report of event times, written from what is in a session's region.
-use Rattle.std.proofs.Common.{◌≡◌, ℕ, zero, suc, ◌^◌, ◌<◌, ◌≤◌, List, [], ◌∷◌, length, to_z, of_z, w64, refl, sym, ◌∙◌, ap, arith}
+use Rattle.std.proofs.Common.{◌≡◌, ℕ, ◌^◌, ◌<◌, ◌≤◌, List, length, to_z, of_z, w64, refl, sym, ◌∙◌, ap, arith}
 use Rattle.std.specs.Prelude.{ℤ, pos, ◌-ℤ◌, ◌≤ℤ◌, unsigned_abs, slice_index, slice_index_or}
 use Rattle.std.proofs.lemmas.Int.{ints, to_z-of_z}
 use Rattle.std.proofs.lemmas.List.{length-map, length-take, get_or-map}
 use Rattle.pc_model.specs.Network.{Network}
-use Rattle.pc_model.specs.Walk.{to_of}
 use Rattle.pc_model.specs.declared.limits.TheConstants.{MAX_EVENTS, MAX_VARIANCE}
-use Rattle.pc_times.specs.Picked.{IsPickedFrom}
+use Rattle.pc_times.proofs.PickedWalks.{picked_from_known}
 use Rattle.pc_times.specs.declared.TheConstants.{MAX_ACTIVITY_LENGTH, MAX_TIME}
 use Rattle.pc_project.specs.Project.{Project, Heading}
 use Rattle.pc_reports.specs.Times.{Times, IsTimes, end_to_meet}
@@ -16,16 +15,9 @@ use Rattle.pc_whatif.specs.inside.trials.SessionRegion.{SessionRegion, IsChanged
 use Rattle.pc_whatif.specs.inside.trials.Laid.{AreAtMost}
 use Rattle.pc_whatif.specs.inside.trials.Shown.{late_by}
 
--- the activities of a picked walk are activities of the network
-picked_from-known : (net : Network) (lengths : List ℕ) (e : ℕ) (walk : List ℕ) (i : ℕ) → IsPickedFrom net lengths e walk → i < length walk → slice_index walk i < length net.arcs
-picked_from-known net lengths e [] i picked below = absurd (omega (arith, below))
-picked_from-known net lengths e (a ∷ walk) zero picked below = picked.0.holds.0
-picked_from-known net lengths e (a ∷ walk) (suc i) picked below =
-    picked_from-known net lengths (to_of net.arcs a) walk i picked.1 (omega (arith, below))
-
 -- those of the path that stands there
 pub path-known : (net : Network) (r : SessionRegion) (k : ℕ) → IsStanding net r → k < length (path_in r) → slice_index (path_in r) k < length net.arcs
-path-known net r k standing below = picked_from-known net r.expected net.start (path_in r) k standing.path below
+path-known net r k standing below = picked_from_known net r.expected net.start (path_in r) k standing.path below
 
 -- what is shown where the end is to be met at that time
 abbrev pub shown_by : SessionRegion → ℤ → Shown

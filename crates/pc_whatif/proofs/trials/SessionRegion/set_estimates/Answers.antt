@@ -1,7 +1,8 @@
 use Rattle.std.proofs.Common.{◌≡◌, length, refl, sym, ap, subst, ◌∙◌, arith}
 use Rattle.pc_whatif.specs.inside.trials.Laid.{IsLaidIn, IsWhole, kept_in, list_of, region_of}
 use Rattle.pc_whatif.specs.inside.trials.SessionRegion.{SessionRegion, expected_by}
-use Rattle.pc_whatif.proofs.lemmas.trials.KeptLaws.{with_numbers, AreSet, region-found, laid-set, laid-both, kept-both, early-both, whole-both, variance-small}
+use Rattle.pc_times.proofs.EstimateLaws.{variance_small}
+use Rattle.pc_whatif.proofs.lemmas.trials.KeptLaws.{with_numbers, AreSet, region-found, laid-set, laid-both, kept-both, early-both, whole-both}
 use Rattle.pc_whatif.proofs.trials.SessionRegion.set_estimates.Goals as goal
 use Rattle.pc_whatif.proofs.trials.SessionRegion.set_estimates.Goals.{After-set-2}
 
@@ -32,7 +33,7 @@ invariant_of-self c =
       whole = whole-both c.self.inside.spans r0 c.set.new.self r2 c.args.a x v (are_set c) c.self.inside.path_len whole
           (omega (arith, c.requires.activity, ap (λ r. length r.expected) c.self.view_is, ap (λ region. length (list_of region 0)) same))
           c.expected_sixths-expected.ensures.limit
-          (omega (arith, c.variance_36-variance.ensures, variance-small c.args.estimates.now.optimistic c.args.estimates.now.pessimistic c.args.unit_days c.requires.limit c.requires.unit));
+          (omega (arith, c.variance_36-variance.ensures, variance_small c.args.estimates.now.optimistic c.args.estimates.now.pessimistic c.args.unit_days c.requires.limit c.requires.unit));
       room = c.self.invariant.room ∙ ap (λ region. length (list_of region 2)) same
           ∙ sym (early-both c.self.inside.spans r0 c.set.new.self r2 c.args.a x v (are_set c));
     }
