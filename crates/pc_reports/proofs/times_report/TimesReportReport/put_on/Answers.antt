@@ -1,9 +1,9 @@
-use Rattle.std.proofs.Common.{pos, ap, subst, sym, ◌∙◌, arith}
+use Rattle.std.proofs.Common.{pos, ap, subst, arith}
 use Rattle.pc_edges.proofs.lemmas.page.PageLaws.{Adds-as}
 use Rattle.pc_reports.specs.Times.{Times, IsTimes}
 use Rattle.pc_reports.specs.inside.Times.{AreSmall}
 use Rattle.pc_reports.specs.TimesText.{times_text}
-use Rattle.pc_reports.proofs.PathLaws.{picked_from_known}
+use Rattle.pc_times.proofs.PickedWalks.{picked_from_known}
 use Rattle.pc_reports.proofs.times_report.TimesReportReport.put_on.Goals as goal
 
 pub put_times-requires : goal.put_times-requires
