@@ -1,8 +1,8 @@
 -- The project of a deck whose cards make one is planned.
-use Rattle.std.proofs.Common.{◌≡◌, ◌<◌, ◌≤◌, ◌+◌, ◌-◌, ◌*◌, ◌^◌, ℕ, List, [], Option, Some, None, length, get_or, map, refl, sym, ap, ◌∙◌, inl, inr, arith}
+use Rattle.std.proofs.Common.{◌≡◌, ◌<◌, ◌≤◌, ◌+◌, ◌-◌, ◌*◌, ℕ, List, [], Option, Some, None, length, get_or, map, refl, sym, ap, ◌∙◌, inl, inr, arith}
 use Rattle.std.specs.Prelude.{All, slice_index}
 use Rattle.std.specs.Option.{ForSome}
-use Rattle.std.proofs.Math.Nat.{mul-le-mul, pow-le-pow_left}
+use Rattle.std.proofs.Math.Nat.{mul-le-mul}
 use Rattle.std.proofs.lemmas.Bool.{cases_lt}
 use Rattle.std.proofs.lemmas.List.{get_or-map, length-map}
 use Rattle.std.proofs.lemmas.List.Elements.{All-from_get_or}
@@ -14,6 +14,7 @@ use Rattle.pc_model.specs.Schedule.{AreTerms, term_at}
 use Rattle.pc_crash.specs.Priced.{ArePiecesWithinLimits, piece_at}
 use Rattle.pc_crash.specs.Terms.{AreWithinLimits}
 use Rattle.pc_accounts.specs.declared.book.Entry.{Entry}
+use Rattle.pc_times.proofs.EstimateLaws.{variance_small}
 use Rattle.pc_times.specs.Times.{AreLengths}
 use Rattle.pc_times.specs.declared.forecasts.ActState.{ActState}
 use Rattle.pc_deck.specs.declared.kinds.act.ActCard.{ActCard}
@@ -50,14 +51,6 @@ expected_small : (opt likely pess unit : ℕ) → opt ≤ likely → likely ≤ 
 expected_small opt likely pess unit low high most few =
     let times : opt + 4 * likely + pess ≤ 600000 = omega arith in
     mul-le-mul times few
-
--- a variance is no greater than that of the widest estimates in the longest unit
-variance_small : (opt pess unit : ℕ) → pess ≤ MAX_DURATION → unit ≤ MAX_UNIT_DAYS → (pess - opt) ^ 2 * unit ^ 2 ≤ MAX_VARIANCE
-variance_small opt pess unit most few =
-    let range : pess - opt ≤ 100000 = omega arith in
-    let square : (pess - opt) ^ 2 ≤ 100000 ^ 2 = pow-le-pow_left range 2 in
-    let units : unit ^ 2 ≤ 7 ^ 2 = pow-le-pow_left few 2 in
-    mul-le-mul square units
 
 module _ (deck : Deck) (limits : IsWithinLimits deck) (none : HasNoMisfit deck) where
   inside_of : {X : Type 0} (f : ActCard → X) (a : ℕ) → a < length (map f deck.acts) → a < length deck.acts
