@@ -4,18 +4,9 @@ use Rattle.std.specs.Prelude.{if◌then◌else◌, nat_lt}
 use Rattle.std.proofs.lemmas.Bool.{cases_lt, lt-ltb, le-ltb, cond-true, cond-false}
 use Rattle.std.proofs.Math.Nat.{mul-add, mul_comm}
 use Rattle.pc_model.specs.Sums.{sum_to}
-use Rattle.pc_model.proofs.Sums.{sum_to-same, sum_to-add, sum_to-times}
+use Rattle.pc_model.proofs.Sums.{sum_to-same, sum_to-add, sum_to-split, sum_to-times}
 use Rattle.pc_laws.specs.Segment.{Segment, cost_for, span}
 use Rattle.pc_laws.proofs.Curves.Turns.{LiesOn}
-
--- the first n terms, and m more
-pub sum_to-split : (n m : ℕ) (f : ℕ → ℕ) → sum_to (n + m) f ≡ sum_to n f + sum_to m (λ j. f (n + j))
-sum_to-split n zero f =
-    let none : n + 0 ≡ n = omega arith in
-    omega (arith, ap (λ k. sum_to k f) none)
-sum_to-split n (suc m) f =
-    let more : n + suc m ≡ suc (n + m) = omega arith in
-    omega (arith, ap (λ k. sum_to k f) more, sum_to-split n m f)
 
 -- terms that are all the same
 sum_to-even : (n x : ℕ) → sum_to n (λ k. x) ≡ n * x
@@ -23,21 +14,6 @@ sum_to-even zero x = omega arith
 sum_to-even (suc n) x =
     let more : suc n ≡ n + 1 = omega arith in
     omega (arith, sum_to-even n x, mul_comm n x, mul_comm (suc n) x, ap (λ k. x * k) more, mul-add x n 1)
-
--- no term is above a bound
-pub sum_to-most : (n most : ℕ) (f : ℕ → ℕ) → ((k : ℕ) → k < n → f k ≤ most) → sum_to n f ≤ n * most
-sum_to-most zero most f below = omega arith
-sum_to-most (suc n) most f below =
-    let more : suc n ≡ n + 1 = omega arith in
-    omega (
-      arith,
-      sum_to-most n most f (λ k inside. below k (omega arith)),
-      below n (omega arith),
-      mul_comm n most,
-      mul_comm (suc n) most,
-      ap (λ k. most * k) more,
-      mul-add most n 1,
-    )
 
 -- twice the sum of the numbers from 1 to n
 twice_numbers : (n : ℕ) → 2 * sum_to n (λ k. k + 1) ≡ n * (n + 1)

@@ -21,7 +21,8 @@ use Rattle.pc_curve.specs.Points.{curve_in}
 use Rattle.pc_curve.specs.declared.bench.figures.CurveTally.{CurveTally}
 use Rattle.pc_curve.specs.bench.Figures.{HasBreaks, IsSumOfCosts}
 use Rattle.pc_curve.specs.inside.bench.Tallies.{IsSmall, costs_below, first_tally, most_cost, next_tally}
-use Rattle.pc_curve.proofs.lemmas.bench.SumLaws.{sum_to-most, costs-on, least-on, total-on}
+use Rattle.pc_model.proofs.Sums.{sum_to-most}
+use Rattle.pc_curve.proofs.lemmas.bench.SumLaws.{costs-on, least-on, total-on}
 use Rattle.pc_curve.proofs.lemmas.bench.CountLaws.{last-slope, corners-push, slope-push, all-points, one-point}
 
 -- a solver goes along the curve of the network from one length to the other
