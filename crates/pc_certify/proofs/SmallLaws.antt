@@ -1,5 +1,5 @@
 -- The numbers of the whole segments of a project have at most 18 digits.
-use Rattle.std.proofs.Common.{◌≡◌, ℕ, ◌+◌, ◌-◌, ◌*◌, ◌^◌, ◌<◌, ◌≤◌, Bool, true, false, zero, suc, List, [], ◌∷◌, length, arith, mul_comm}
+use Rattle.std.proofs.Common.{◌≡◌, ℕ, ◌+◌, ◌-◌, ◌*◌, ◌^◌, ◌<◌, ◌≤◌, Bool, true, false, List, [], ◌∷◌, length, arith, mul_comm}
 use Rattle.std.proofs.Math.Nat.{mul-le-mul_left, mul-le-mul_right}
 use Rattle.std.proofs.lemmas.List.Elements.{recursion_from_All, All-from_recursion}
 use Rattle.std.specs.List.{AllByRecursion as ByRecursion}
@@ -10,7 +10,7 @@ use Rattle.pc_model.specs.Network.{IsOrder}
 use Rattle.pc_model.specs.Pieces.{ArePieces}
 use Rattle.pc_model.specs.Schedule.{normal_of, normals, crashes}
 use Rattle.pc_model.specs.Cost.{IsPriced, activity_cost, last_slope}
-use Rattle.pc_model.proofs.Sums.{sum_to-le, sum_to-times, sum_to-bound}
+use Rattle.pc_model.proofs.Sums.{sum_to-le, sum_to-times, sum_to-bound, sum_to-most}
 use Rattle.pc_model.proofs.Schedules.Durations.{normals-at, crashes-at}
 use Rattle.pc_model.proofs.Walks.WalkLaws.{times_bound_walk, walk_sum-bound}
 use Rattle.pc_model.proofs.Walks.OrderLaws.{walk_is_short}
@@ -37,10 +37,6 @@ pub record IsSized (net : PricedNetwork) : Type 0 where
 rise_or_none : (b : Bool) (rise : ℕ) → (if b then rise else 0) ≤ rise
 rise_or_none true rise = omega arith
 rise_or_none false rise = omega arith
-
-sum_below : (n most : ℕ) (f : ℕ → ℕ) → ((k : ℕ) → k < n → f k ≤ most) → sum_to n f ≤ n * most
-sum_below zero most f below = omega arith
-sum_below (suc n) most f below = omega (arith, sum_below n most f (λ k lt. below k (omega arith)), below n (omega arith))
 
 module _ (net : PricedNetwork) (sized : IsSized net) where
   -- no through walk has more activities than there are events
@@ -88,7 +84,7 @@ module _ (net : PricedNetwork) (sized : IsSized net) where
       let each : (a : ℕ) → a < length net.terms → activity_cost net.terms (knees_in net) a (durations a) ≤ 11000000000000 = λ a lt.
       omega (arith, sized.limits.cheap a lt, low_price a (durations a) (omega (arith, sized.priced.terms_fit.one_each, lt))) in
       let most : length net.terms * 11000000000000 ≤ 20000 * 11000000000000 = mul-le-mul_right 11000000000000 (let few : length net.terms ≤ 20000 = omega (arith, sized.limits.few) in few) in
-      omega (arith, sum_below (length net.terms) 11000000000000 (λ a. activity_cost net.terms (knees_in net) a (durations a)) each, most)
+      omega (arith, sum_to-most (length net.terms) 11000000000000 (λ a. activity_cost net.terms (knees_in net) a (durations a)) each, most)
 
   module _ (seg : Segment) (right : IsRightSegment net.network net.terms (knees_in net) seg) where
     -- no event is later than the end
