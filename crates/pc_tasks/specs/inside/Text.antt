@@ -4,7 +4,6 @@ use Rattle.std.specs.Prelude.{ℕ, List}
 use Rattle.pc_deck.specs.Deck.{Deck}
 use Rattle.pc_project.specs.deck_text.Written.{IsDeckText}
 use Rattle.pc_project.specs.Project.{Project}
-use Rattle.pc_tasks.specs.Drawn.{arrows_deck}
 use Rattle.pc_tasks.specs.Text.{IsDrawnProject}
 
 -- the text is that of the plan that is drawn of the tasks
