@@ -291,7 +291,7 @@ module _ (net : PricedNetwork) (home : Cells) (s : Sheet) (is : IsOpened net hom
   none-met a (inr to) = none-scanned (to_of net.network.arcs a) to
 
   listed : AreListed net s
-  listed = record { along = λ a known met may. absurd (none-met a met); against = λ a known met may. absurd (none-met a met) }
+  listed a known met way may = absurd (none-met a met)
 
   normal-is : (a : ℕ) → a < length net.network.arcs → lesser_of net.network net.terms (time_of s) a ≡ normal_of net.terms a
   normal-is = normal_lesser net.network net.terms (length_at net s) (time_of s) schedule

@@ -1,6 +1,6 @@
 //! Which way labels may cross an activity.
 ghost use Rattle.std.specs.Prelude.{◌≡◌};
-ghost use Rattle.pc_flow.specs.inside.search.Ways.{near_end, far_end, goes_against};
+ghost use Rattle.pc_flow.specs.inside.search.Ways.{by_way, goes_against};
 
 /// The direction of a step: along its activity, or against it.
 #[derive(Clone, Copy, Debug, PartialEq, Eq)]
@@ -14,8 +14,8 @@ impl Way {
     /// it leads.
     #[inline(always)]
     pub fn ends(self, from: u32, to: u32) -> (u32, u32)
-        ensures near { result.0 ≡ near_end self from to }
-        ensures far { result.1 ≡ far_end self from to }
+        ensures near { result.0 ≡ by_way self from to }
+        ensures far { result.1 ≡ by_way self to from }
     {
         match self {
             Way::Along => (from, to),

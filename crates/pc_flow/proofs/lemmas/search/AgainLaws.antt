@@ -3,7 +3,7 @@ use Rattle.std.proofs.Common.{◌≡◌, ◌≢◌, ℕ, ◌+◌, ◌-◌, ◌*�
 use Rattle.std.proofs.lemmas.Bool.{cases_lt}
 use Rattle.pc_model.specs.Walk.{from_of, to_of}
 use Rattle.pc_model.specs.Sums.{sum_to}
-use Rattle.pc_laws.specs.Stair.{unit_length, IsOnStair}
+use Rattle.pc_laws.specs.Stair.{IsOnStair}
 use Rattle.pc_net.specs.Networks.{events_from, events_to}
 use Rattle.pc_net.specs.Degrees.{AreDistinct, degrees}
 use Rattle.pc_crash.specs.Priced.{PricedNetwork}
@@ -24,12 +24,15 @@ use Rattle.pc_flow.proofs.lemmas.board.AfterPruning.{
   pruned-joined,
   pruned-for,
 }
-use Rattle.pc_flow.specs.inside.search.Searches.{stair_at, gap_at, next_at, last_at, IsSearch, IsOnStairs, AreLed, IsSettled, grown_as}
+use Rattle.pc_flow.specs.declared.search.way.Way.{Way}
+use Rattle.pc_flow.specs.declared.search.way.Way.TheVariants.{Along, Against}
+use Rattle.pc_flow.specs.inside.search.Searches.{MayCross, stair_at, gap_at, IsSearch, IsOnStairs, AreLed, IsSettled, grown_as}
 use Rattle.pc_flow.specs.inside.search.Growing.{IsAtLost, degree, IsReached, IsScanned, IsMet, AreSettled, GoesOn, relabelled, HasLookedAgain}
 use Rattle.pc_flow.proofs.lemmas.search.KeptLaws.{with_list, waiting-kept, with_lengths, lengths-kept}
 use Rattle.pc_flow.proofs.lemmas.search.GrowingLaws.{met-was, met-reached, settled-grows}
 use Rattle.pc_flow.proofs.lemmas.search.GrowLaws.{headed, search-headed, room-headed}
 use Rattle.pc_flow.proofs.lemmas.search.DegreeLaws.{degrees-few}
+use Rattle.pc_flow.proofs.lemmas.search.WayLaws.{settled-kept}
 
 module _ (net : PricedNetwork) (s u : Sheet) (gone : ℕ) (search : IsSearch net s) (pruned : IsPruned s u gone) where
   abbrev sorted : IsSorted s u s.count u.count gone u.head
@@ -158,23 +161,18 @@ module _ (net : PricedNetwork) (s u : Sheet) (gone : ℕ) (search : IsSearch net
   -- an activity of which no end lost its label is settled as before
   settled-still : (a : ℕ) → a < length net.network.arcs → (rank_of u (from_of net.network.arcs a) ≡ 0 → rank_of s (from_of net.network.arcs a) ≡ 0)
       → (rank_of u (to_of net.network.arcs a) ≡ 0 → rank_of s (to_of net.network.arcs a) ≡ 0) → IsSettled net s a → IsSettled net u a
-  settled-still a known from to settled = record {
-    along = λ may.
-        let was : (0 < slot_of s a) × (next_at net s a < gap_at net s a) =
-        settled.along (record {
-          from = pruned-had s u gone search.ranked pruned (from_of net.network.arcs a) (from-event a known) may.from;
-          to = to may.to;
-        }) in
-        (omega (arith, was.0, slot-same a), omega (arith, was.1, gap a known, ap (unit_length (stair_at net a)) (flow a)));
-    against = λ may.
-        let was : (0 < slot_of s a) × (gap_at net s a < last_at net s a) =
-        settled.against (record {
-          from = from may.from;
-          to = pruned-had s u gone search.ranked pruned (to_of net.network.arcs a) (to-event a known) may.to;
-          some = omega (arith, may.some, flow a);
-        }) in
-        (omega (arith, was.0, slot-same a), omega (arith, was.1, gap a known, ap (λ x. unit_length (stair_at net a) (x - 1)) (flow a)));
-  }
+  settled-still a known from to = settled-kept net s u a (flow a) (gap a known) was (λ had. omega (arith, had, slot-same a)) where
+    was : (way : Way) → MayCross net u way a → MayCross net s way a
+    was Along may = record {
+      near = pruned-had s u gone search.ranked pruned (from_of net.network.arcs a) (from-event a known) may.near;
+      far = to may.far;
+      flows = λ is. omega (arith, may.flows is, flow a);
+    }
+    was Against may = record {
+      near = pruned-had s u gone search.ranked pruned (to_of net.network.arcs a) (to-event a known) may.near;
+      far = from may.far;
+      flows = λ is. omega (arith, may.flows is, flow a);
+    }
 
   -- the looks at the activities of the lost events
   pub looks-lost : ((events : List ℕ) → AreDistinct events → degrees (events_from net.network.arcs) events ≤ length net.network.arcs)

@@ -5,19 +5,19 @@ use Rattle.pc_crash.specs.Priced.{PricedNetwork}
 use Rattle.pc_flow.specs.board.Sheets.{Sheet}
 use Rattle.pc_flow.specs.inside.board.Sheets.{waiting_of, slot_of, due_of}
 use Rattle.pc_flow.specs.inside.board.Moves.{WaitsAt, GoesAt}
-use Rattle.pc_flow.specs.inside.search.Searches.{gap_at, next_at, last_at, IsWaiting, IsPricedBoard, IsSearch, MayGoAlong, MayGoAgainst, IsQuiet}
+use Rattle.pc_flow.specs.declared.search.way.Way.{Way}
+use Rattle.pc_flow.specs.inside.search.Searches.{lesser_at, greater_at, IsWaiting, IsPricedBoard, IsSearch, MayCross, IsQuiet}
 use Rattle.pc_flow.specs.inside.search.Choosing.{StopsAt}
 use Rattle.pc_flow.proofs.lemmas.search.KeptLaws.{board-relisted}
+use Rattle.pc_flow.proofs.lemmas.search.WayLaws.{one-way}
 
 -- activity a, which labels may cross, stops no sooner than this
-pub record StopsNotBefore (net : PricedNetwork) (s : Sheet) (a least : ℕ) : Type 0 where
-  pub along : MayGoAlong net s a → next_at net s a + least ≤ gap_at net s a
-  pub against : MayGoAgainst net s a → gap_at net s a + least ≤ last_at net s a
+abbrev pub StopsNotBefore : PricedNetwork → Sheet → ℕ → ℕ → Type 0
+StopsNotBefore net s a least = (way : Way) → MayCross net s way a → lesser_at net s way a + least ≤ greater_at net s way a
 
 -- activity a, which labels may cross, stops no sooner than when the falls have come to the sum `due`
-pub record StopsNotUntil (net : PricedNetwork) (s : Sheet) (a due : ℕ) : Type 0 where
-  pub along : MayGoAlong net s a → due + next_at net s a ≤ s.fallen + gap_at net s a
-  pub against : MayGoAgainst net s a → due + gap_at net s a ≤ s.fallen + last_at net s a
+abbrev pub StopsNotUntil : PricedNetwork → Sheet → ℕ → ℕ → Type 0
+StopsNotUntil net s a due = (way : Way) → MayCross net s way a → due + lesser_at net s way a ≤ s.fallen + greater_at net s way a
 
 -- activity a still waits, at one of the first `kept` places, and stops no sooner than `least`
 pub record StillWaits (net : PricedNetwork) (s t : Sheet) (kept least a : ℕ) : Type 0 where
@@ -70,17 +70,13 @@ module _ (net : PricedNetwork) (s t : Sheet) (rest : t ≡ relisted s t) where
   pub quiet-relisted : (a : ℕ) → IsQuiet net t a → IsQuiet net s a
   quiet-relisted a quiet =
       let q : IsQuiet net (relisted s t) a = subst (λ v. IsQuiet net v a) rest quiet in
-      record {
-        along = λ may. q.along (record { from = may.from; to = may.to });
-        against = λ may. q.against (record { from = may.from; to = may.to; some = may.some });
-      }
+      λ way may. q way (record { near = may.near; far = may.far; flows = may.flows })
 
   pub priced-relisted : IsSearch net s → IsPricedBoard net t
   priced-relisted search = subst (λ v. IsPricedBoard net v) (sym rest) (board-relisted net s (relisted s t) search)
 
   stops-back : (a n : ℕ) → StopsAt net (relisted s t) a n → StopsAt net s a n
-  stops-back a n (inl along) = inl (record { from = along.0.from; to = along.0.to }, along.1)
-  stops-back a n (inr against) = inr (record { from = against.0.from; to = against.0.to; some = against.0.some }, against.1)
+  stops-back a n (way, may, stops) = (way, record { near = may.near; far = may.far; flows = may.flows }, stops)
 
   pub stops-relisted : (a n : ℕ) → StopsAt net t a n → StopsAt net s a n
   stops-relisted a n stops = stops-back a n (subst (λ v. StopsAt net v a n) rest stops)
@@ -118,14 +114,8 @@ module _ (net : PricedNetwork) (s t u : Sheet) (i kept least a : ℕ) (waiting :
           some = omega (arith, slot, still.some);
           within = omega (arith, slot, still.within, more);
           listed = ap (λ x. waiting_of u (x - 1)) slot ∙ places (slot_of t b - 1) (omega (arith, still.some, still.within)) ∙ still.listed;
-          stops = record {
-            along = λ may. omega (arith, still.stops.along may, fewer);
-            against = λ may. omega (arith, still.stops.against may, fewer);
-          };
-          until = record {
-            along = λ may. omega (arith, due, still.until.along may);
-            against = λ may. omega (arith, due, still.until.against may);
-          };
+          stops = λ way may. omega (arith, still.stops way may, fewer);
+          until = λ way may. omega (arith, due, still.until way may);
         })
         | inr gone ↦ inr (record { none = slot ∙ gone.none; quiet = gone.quiet })
       ]
@@ -135,32 +125,21 @@ module _ (net : PricedNetwork) (s t u : Sheet) (i kept least a : ℕ) (waiting :
     fewer : min least n ≤ least
     fewer = omega arith
 
+    -- labels may cross it this way alone
+    same-lesser : (way : Way) → MayCross net s way a → lesser_at net s way a ≡ lesser_at net s stops.0 a
+    same-lesser way may = ap (λ w. lesser_at net s w a) (one-way net s a way stops.0 may stops.1)
+
+    same-greater : (way : Way) → MayCross net s way a → greater_at net s way a ≡ greater_at net s stops.0 a
+    same-greater way may = ap (λ w. greater_at net s w a) (one-way net s a way stops.0 may stops.1)
+
     not-before : StopsNotBefore net s a (min least n)
-    not-before = by stops where
-      by : StopsAt net s a n → StopsNotBefore net s a (min least n)
-      by (inl along) = record {
-        along = λ may. omega (arith, along.1);
-        against = λ may. absurd (omega (arith, may.from, along.0.from));
-      }
-      by (inr against) = record {
-        along = λ may. absurd (omega (arith, may.from, against.0.from));
-        against = λ may. omega (arith, against.1);
-      }
+    not-before way may = omega (arith, stops.2, same-lesser way may, same-greater way may)
 
     fallen-is : t.fallen ≡ s.fallen
     fallen-is = ap (λ (v : Sheet). v.fallen) on.rest
 
     not-until : StopsNotUntil net s a (due_of u a)
-    not-until = by stops where
-      by : StopsAt net s a n → StopsNotUntil net s a (due_of u a)
-      by (inl along) = record {
-        along = λ may. omega (arith, along.1, moved.due_at, fallen-is);
-        against = λ may. absurd (omega (arith, may.from, along.0.from));
-      }
-      by (inr against) = record {
-        along = λ may. absurd (omega (arith, may.from, against.0.from));
-        against = λ may. omega (arith, against.1, moved.due_at, fallen-is);
-      }
+    not-until way may = omega (arith, stops.2, same-lesser way may, same-greater way may, moved.due_at, fallen-is)
 
     other-slot : (k : ℕ) → k < kept → waiting_of t k ≢ a
     other-slot k below same = omega (arith, on.placed k below, ap (slot_of t) same, place-now, on.few)

@@ -1,5 +1,5 @@
 -- An activity that labels may cross: it waits for a fall, or its far event enters.
-use Rattle.std.proofs.Common.{◌≡◌, ◌≢◌, ℕ, ◌+◌, ◌-◌, ◌^◌, ◌<◌, ◌≤◌, Some, true, false, length, sym, subst, inl, inr, arith}
+use Rattle.std.proofs.Common.{◌≡◌, ◌≢◌, ℕ, ◌+◌, ◌-◌, ◌^◌, ◌<◌, ◌≤◌, true, false, length, refl, sym, ap, subst, inl, inr, arith}
 use Rattle.std.proofs.lemmas.Bool.{cases_eq}
 use Rattle.pc_model.specs.Walk.{from_of, to_of}
 use Rattle.pc_crash.specs.Priced.{PricedNetwork}
@@ -12,9 +12,9 @@ use Rattle.pc_flow.proofs.lemmas.board.AfterEntering.{IsNewStep, queue-room}
 use Rattle.pc_flow.specs.declared.search.way.Way.{Way}
 use Rattle.pc_flow.specs.declared.search.way.Way.TheVariants.{Along, Against}
 use Rattle.pc_flow.specs.inside.search.Ways.{near_in, far_in, goes_against}
-use Rattle.pc_flow.specs.inside.search.Searches.{stair_at, gap_at, IsSearch, IsWay, StopsAfter, HasRoomAlong, HasRoomAgainst, StopsLater, IsVisited}
+use Rattle.pc_flow.specs.inside.search.Searches.{stair_at, gap_at, lesser_at, greater_at, IsSearch, MayCross, StopsAfter, HasRoomAlong, HasRoomAgainst, StopsLater, IsVisited}
 use Rattle.pc_flow.proofs.lemmas.search.MeasureLaws.{unit-along, unit-against}
-use Rattle.pc_flow.proofs.lemmas.search.WayLaws.{near-known, far-known, near-labelled, far-none}
+use Rattle.pc_flow.proofs.lemmas.search.WayLaws.{one-way, near-known, far-known, near-labelled, far-none}
 use Rattle.pc_flow.proofs.lemmas.search.VisitLaws.{visited-still, visited-waits}
 use Rattle.pc_flow.proofs.lemmas.search.EnterLaws.{visited-enters}
 
@@ -23,15 +23,10 @@ module _ (net : PricedNetwork) (s : Sheet) (a : ℕ) (search : IsSearch net s) (
   activity = omega (arith, known, search.fits.activities)
 
   -- labels may cross it only the one way
-  pub stops-later : (way : Way) (after : ℕ) → IsWay net s a (Some way) → StopsAfter net s a way after → 0 < after → StopsLater net s a
-  stops-later Along after may stops some = record {
-    along = λ along. omega (arith, stops, some);
-    against = λ against. absurd (omega (arith, may.to, against.to));
-  }
-  stops-later Against after may stops some = record {
-    along = λ along. absurd (omega (arith, may.from, along.from));
-    against = λ against. omega (arith, stops, some);
-  }
+  pub stops-later : (way : Way) (after : ℕ) → MayCross net s way a → StopsAfter net s a way after → 0 < after → StopsLater net s a
+  stops-later way after may stops some = λ other also.
+      let same = one-way net s a other way also may in
+      omega (arith, stops, some, ap (λ w. lesser_at net s w a) same, ap (λ w. greater_at net s w a) same)
 
   -- it waits, or did so before
   pub crossed-waits : (t : Sheet) → StopsLater net s a → (slot_of s a ≢ 0 → t ≡ s) → (slot_of s a ≡ 0 → WaitsOnce s t a) → IsVisited net s t a
@@ -40,10 +35,7 @@ module _ (net : PricedNetwork) (s : Sheet) (a : ℕ) (search : IsSearch net s) (
         | inl none ↦ visited-waits net s t a search activity none (waits none) room later
         | inr had ↦
             let slot : 0 < slot_of s a = omega (arith, had) in
-            subst (λ u. IsVisited net s u a) (sym (stays had)) (visited-still net s a search room (record {
-              along = λ along. (slot, later.along along);
-              against = λ against. (slot, later.against against);
-            }))
+            subst (λ u. IsVisited net s u a) (sym (stays had)) (visited-still net s a search room (λ way may. (slot, later way may)))
       ]
 
   -- a flow on the staircase may be one unit more, or one less, where the activity stops now
@@ -51,22 +43,22 @@ module _ (net : PricedNetwork) (s : Sheet) (a : ℕ) (search : IsSearch net s) (
   HasUnit Along = HasRoomAlong net s a 1
   HasUnit Against = HasRoomAgainst net s a 1
 
-  unit : (way : Way) → IsWay net s a (Some way) → StopsAfter net s a way 0 → HasUnit way
+  unit : (way : Way) → MayCross net s way a → StopsAfter net s a way 0 → HasUnit way
   unit Along may stops = unit-along net s a known search.stairs stops
-  unit Against may stops = unit-against net s a known search.stairs may.some stops
+  unit Against may stops = unit-against net s a known search.stairs (may.flows refl) stops
 
   module _ (near far : ℕ) where
-    none : (way : Way) → far_in net way a ≡ far → IsWay net s a (Some way) → rank_of s far ≡ 0
+    none : (way : Way) → far_in net way a ≡ far → MayCross net s way a → rank_of s far ≡ 0
     none = far-none net s a near far
 
     inside : (way : Way) → far_in net way a ≡ far → far < s.events
     inside way ends = far-known net s a near far way search.in_range search.fits known ends
 
-    pub far-room : (way : Way) → far_in net way a ≡ far → IsWay net s a (Some way) → s.count < s.events
+    pub far-room : (way : Way) → far_in net way a ≡ far → MayCross net s way a → s.count < s.events
     far-room way ends may = queue-room s far search.ranked (inside way ends) (none way ends may)
 
     -- the event to which the step leads enters
-    new : (way : Way) → near_in net way a ≡ near → far_in net way a ≡ far → IsWay net s a (Some way) → HasUnit way
+    new : (way : Way) → near_in net way a ≡ near → far_in net way a ≡ far → MayCross net s way a → HasUnit way
         → IsNewStep net.network s far a (goes_against way) near 1
     new way begins ends may has = record {
       unlabelled = none way ends may;
@@ -88,7 +80,7 @@ module _ (net : PricedNetwork) (s : Sheet) (a : ℕ) (search : IsSearch net s) (
       back Along starts leads one is = cc
       back Against starts leads one is = (leads, starts, one.within)
 
-    pub crossed : (way : Way) (t : Sheet) → near_in net way a ≡ near → far_in net way a ≡ far → IsWay net s a (Some way) → StopsAfter net s a way 0
+    pub crossed : (way : Way) (t : Sheet) → near_in net way a ≡ near → far_in net way a ≡ far → MayCross net s way a → StopsAfter net s a way 0
         → EntersAt s t far a (goes_against way) near 1 → IsVisited net s t a
     crossed way t begins ends may stops entered =
         visited-enters net s t far a (goes_against way) near 1 search known (new way begins ends may has) entered (along way has) (back way has) room

@@ -21,6 +21,7 @@ use Rattle.pc_flow.proofs.lemmas.board.AfterEntering.{
   entered-joined,
 }
 use Rattle.pc_flow.specs.inside.search.Searches.{stair_at, gap_at, IsOnStairs, IsSearch, IsSettled, grown_as, Grows, IsVisited}
+use Rattle.pc_flow.proofs.lemmas.search.WayLaws.{settled-both}
 use Rattle.pc_flow.proofs.lemmas.search.KeptLaws.{with_list, waiting-kept, with_lengths, lengths-kept}
 
 module _ (net : PricedNetwork) (s t : Sheet) (e a : ℕ) (against : Bool) (near room : ℕ) (search : IsSearch net s) (known : a < length net.network.arcs)
@@ -159,14 +160,10 @@ module _ (net : PricedNetwork) (s t : Sheet) (e a : ℕ) (against : Bool) (near 
   settled : IsSettled net t a
   settled = by against refl where
     by : (w : Bool) → against ≡ w → IsSettled net t a
-    by true is = record {
-      along = λ may. absurd (omega (arith, may.to, ap (rank_of t) (new.back is).1, near-now));
-      against = λ may. absurd (omega (arith, may.from, ap (rank_of t) (new.back is).0, entered.rank_at));
-    }
-    by false is = record {
-      along = λ may. absurd (omega (arith, may.to, ap (rank_of t) (new.along is).1, entered.rank_at));
-      against = λ may. absurd (omega (arith, may.from, ap (rank_of t) (new.along is).0, near-now));
-    }
+    by true is =
+        settled-both net t a (omega (arith, ap (rank_of t) (new.back is).0, entered.rank_at)) (omega (arith, ap (rank_of t) (new.back is).1, near-now))
+    by false is =
+        settled-both net t a (omega (arith, ap (rank_of t) (new.along is).0, near-now)) (omega (arith, ap (rank_of t) (new.along is).1, entered.rank_at))
 
   pub visited-enters : HaveRoom s → IsVisited net s t a
   visited-enters rooms = record {

@@ -13,8 +13,9 @@ use Rattle.pc_flow.specs.board.Sheets.{Sheet, kept_time, time_of, rank_of, flow_
 use Rattle.pc_flow.specs.inside.board.Sheets.{step_of, room_of, due_of}
 use Rattle.pc_flow.specs.inside.board.Labelling.{HasStep, AreTimes}
 use Rattle.pc_flow.proofs.lemmas.board.AfterPruning.{time-labelled, time-unlabelled}
+use Rattle.pc_flow.specs.declared.search.way.Way.TheVariants.{Along, Against}
 use Rattle.pc_flow.specs.inside.search.Searches.{stair_at, gap_at, next_at, last_at, IsSearch, IsOnStairs, AreLed}
-use Rattle.pc_flow.specs.inside.search.Growing.{IsMet, WaitsAlong, WaitsAgainst, AreListed}
+use Rattle.pc_flow.specs.inside.search.Growing.{IsMet, AreListed}
 use Rattle.pc_flow.specs.inside.search.Choosing.{moving}
 use Rattle.pc_flow.specs.search.Labelling.{length_at}
 use Rattle.pc_flow.specs.inside.search.Labelling.{slope_at, IsStateWith, IsBetween, MayFall, HasFallen}
@@ -155,27 +156,24 @@ module _ (net : PricedNetwork) (priced : IsPriced net.network net.terms (knees_i
   met-before a (inr to) = inr (record { labelled = to.labelled; within = to.within })
 
   listed-there : AreListed net there
-  listed-there = record {
-    along = λ a known met may.
-        let waits : WaitsAlong net s a = listed.along a known (met-before a met) (record { from = may.from; to = may.to }) in
-        record {
-          listed = waits.listed;
-          due = gap-shrinks (due_of s a) (next_at net s a) s.fallen by (time_of s (from_of net.network.arcs a)) (time_of s (to_of net.network.arcs a))
-              (time_of there (from_of net.network.arcs a)) (time_of there (to_of net.network.arcs a)) waits.due
-              (rested (from_of net.network.arcs a) may.from)
-              (moved (to_of net.network.arcs a) (omega (arith, search.in_range.to_in a known, search.fits.events)) may.to);
-        };
-    against = λ a known met may.
-        let waits : WaitsAgainst net s a =
-        listed.against a known (met-before a met) (record { from = may.from; to = may.to; some = may.some }) in
-        record {
-          listed = waits.listed;
-          due = gap-grows (due_of s a) (last_at net s a) s.fallen by (time_of s (from_of net.network.arcs a)) (time_of s (to_of net.network.arcs a))
-              (time_of there (from_of net.network.arcs a)) (time_of there (to_of net.network.arcs a)) waits.due
-              (moved (from_of net.network.arcs a) (omega (arith, search.in_range.from_in a known, search.fits.events)) may.from)
-              (rested (to_of net.network.arcs a) may.to);
-        };
-  }
+  listed-there a known met Along may =
+      let waits = listed a known (met-before a met) Along (record { near = may.near; far = may.far; flows = may.flows }) in
+      record {
+        listed = waits.listed;
+        due = gap-shrinks (due_of s a) (next_at net s a) s.fallen by (time_of s (from_of net.network.arcs a)) (time_of s (to_of net.network.arcs a))
+            (time_of there (from_of net.network.arcs a)) (time_of there (to_of net.network.arcs a)) waits.due
+            (rested (from_of net.network.arcs a) may.near)
+            (moved (to_of net.network.arcs a) (omega (arith, search.in_range.to_in a known, search.fits.events)) may.far);
+      }
+  listed-there a known met Against may =
+      let waits = listed a known (met-before a met) Against (record { near = may.near; far = may.far; flows = may.flows }) in
+      record {
+        listed = waits.listed;
+        due = gap-grows (due_of s a) (last_at net s a) s.fallen by (time_of s (from_of net.network.arcs a)) (time_of s (to_of net.network.arcs a))
+            (time_of there (from_of net.network.arcs a)) (time_of there (to_of net.network.arcs a)) waits.due
+            (moved (from_of net.network.arcs a) (omega (arith, search.in_range.from_in a known, search.fits.events)) may.far)
+            (rested (to_of net.network.arcs a) may.near);
+      }
 
   fallen-there : HasFallen net s there by
   fallen-there = record {

@@ -60,10 +60,7 @@ pub room-headed : (t : Sheet) (h : ℕ) → HaveRoom t → HaveRoom (headed t h)
 room-headed t h room = record { some = room.some }
 
 settled-headed : (net : PricedNetwork) (t : Sheet) (h a : ℕ) → IsSettled net t a → IsSettled net (headed t h) a
-settled-headed net t h a settled = record {
-  along = λ may. settled.along (record { from = may.from; to = may.to });
-  against = λ may. settled.against (record { from = may.from; to = may.to; some = may.some });
-}
+settled-headed net t h a settled = λ way may. settled way (record { near = may.near; far = may.far; flows = may.flows })
 
 module _ (net : PricedNetwork) (s t u : Sheet) (e looks more : ℕ) (on : IsGrowing net s t looks) (open_ : t.head < t.count) (next : e ≡ queue_of t t.head)
     (scanned : GoesOn net (IsAt net e) (headed t (t.head + 1)) u) where

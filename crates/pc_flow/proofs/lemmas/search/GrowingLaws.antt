@@ -5,14 +5,16 @@ use Rattle.std.proofs.lemmas.Bool.{cases_lt}
 use Rattle.pc_model.specs.Greatest.{StandsBelow}
 use Rattle.pc_model.specs.Walk.{from_of, to_of}
 use Rattle.pc_model.specs.Network.{IsInRange}
-use Rattle.pc_laws.specs.Stair.{unit_length}
 use Rattle.pc_crash.specs.Priced.{PricedNetwork}
 use Rattle.pc_flow.specs.board.Sheets.{Sheet, time_of, rank_of, flow_of}
 use Rattle.pc_flow.specs.inside.board.Sheets.{queue_of, waiting_of, slot_of, due_of}
 use Rattle.pc_flow.specs.inside.board.Labelling.{HaveRoom, IsRanked}
-use Rattle.pc_flow.specs.inside.search.Searches.{stair_at, next_at, last_at, gap_at, IsSearch, MayGoAlong, MayGoAgainst, IsSettled, grown_as, Grows, IsVisited}
+use Rattle.pc_flow.specs.declared.search.way.Way.{Way}
+use Rattle.pc_flow.specs.declared.search.way.Way.TheVariants.{Along, Against}
+use Rattle.pc_flow.specs.inside.search.Searches.{gap_at, IsSearch, MayCross, IsSettled, grown_as, Grows, IsVisited}
 use Rattle.pc_flow.proofs.lemmas.search.VisitLaws.{grows-none}
-use Rattle.pc_flow.specs.inside.search.Growing.{IsReached, IsScanned, IsMet, WaitsAlong, WaitsAgainst, AreListed, GoesOn, HasSettled}
+use Rattle.pc_flow.specs.inside.search.Growing.{IsReached, IsScanned, IsMet, AreListed, GoesOn, HasSettled}
+use Rattle.pc_flow.proofs.lemmas.search.WayLaws.{settled-kept}
 
 -- Going on from board to board
 
@@ -58,12 +60,6 @@ module _ (s t : Sheet) (grows : Grows s t) where
 
   -- an activity that is settled stays so, if an end had a label
   module _ (net : PricedNetwork) (range : IsInRange net.network) (events : net.network.events ≡ s.events) (a : ℕ) (known : a < length net.network.arcs) where
-    next-same : next_at net t a ≡ next_at net s a
-    next-same = ap (λ x. unit_length (stair_at net a) x) (grows-flow a)
-
-    last-same : last_at net t a ≡ last_at net s a
-    last-same = ap (λ x. unit_length (stair_at net a) (x - 1)) (grows-flow a)
-
     from-time : time_of t (from_of net.network.arcs a) ≡ time_of s (from_of net.network.arcs a)
     from-time = grows.time (from_of net.network.arcs a) (omega (arith, range.from_in a known, events))
 
@@ -74,27 +70,23 @@ module _ (s t : Sheet) (grows : Grows s t) where
     gap-same = omega (arith, from-time, to-time)
 
     -- what labels may cross now they could cross before, if an end had a label
-    pub along-was : IsReached net s a → MayGoAlong net t a → MayGoAlong net s a
-    along-was (inl labelled) may = record { from = labelled; to = grows-unlabelled (to_of net.network.arcs a) may.to }
-    along-was (inr labelled) may = absurd (omega (arith, grows-labelled (to_of net.network.arcs a) labelled, may.to))
-
-    pub against-was : IsReached net s a → MayGoAgainst net t a → MayGoAgainst net s a
-    against-was (inl labelled) may = absurd (omega (arith, grows-labelled (from_of net.network.arcs a) labelled, may.from))
-    against-was (inr labelled) may = record {
-      from = grows-unlabelled (from_of net.network.arcs a) may.from;
-      to = labelled;
-      some = omega (arith, may.some, grows-flow a);
+    pub may-was : IsReached net s a → (way : Way) → MayCross net t way a → MayCross net s way a
+    may-was (inl labelled) Along may = record {
+      near = labelled;
+      far = grows-unlabelled (to_of net.network.arcs a) may.far;
+      flows = λ is. omega (arith, may.flows is, grows-flow a);
+    }
+    may-was (inr labelled) Along may = absurd (omega (arith, grows-labelled (to_of net.network.arcs a) labelled, may.far))
+    may-was (inl labelled) Against may = absurd (omega (arith, grows-labelled (from_of net.network.arcs a) labelled, may.far))
+    may-was (inr labelled) Against may = record {
+      near = labelled;
+      far = grows-unlabelled (from_of net.network.arcs a) may.far;
+      flows = λ is. omega (arith, may.flows is, grows-flow a);
     }
 
     pub settled-grows : IsReached net s a → IsSettled net s a → IsSettled net t a
-    settled-grows reached settled = record {
-      along = λ may.
-          let was : (0 < slot_of s a) × (next_at net s a < gap_at net s a) = settled.along (along-was reached may) in
-          (omega (arith, was.0, grows.waits a was.0), omega (arith, was.1, next-same, gap-same));
-      against = λ may.
-          let was : (0 < slot_of s a) × (gap_at net s a < last_at net s a) = settled.against (against-was reached may) in
-          (omega (arith, was.0, grows.waits a was.0), omega (arith, was.1, last-same, gap-same));
-    }
+    settled-grows reached settled =
+        settled-kept net s t a (grows-flow a) gap-same (may-was reached) (λ had. omega (arith, had, grows.waits a had)) settled
 
   pub reached-grows : (net : PricedNetwork) (a : ℕ) → IsReached net s a → IsReached net t a
   reached-grows net a (inl labelled) = inl (grows-labelled (from_of net.network.arcs a) labelled)
@@ -202,10 +194,7 @@ module _ (net : PricedNetwork) (s t : Sheet) (search : IsSearch net s) (on : Goe
     (listed : AreListed net s) where
   -- an activity stops only after a fall, if the falls have not come to its sum
   waits-on : (a : ℕ) → a < length net.network.arcs → IsMet net s a → s.fallen < due_of s a → IsSettled net s a
-  waits-on a known met late = record {
-    along = λ may. let waits : WaitsAlong net s a = listed.along a known met may in (waits.listed, omega (arith, waits.due, late));
-    against = λ may. let waits : WaitsAgainst net s a = listed.against a known met may in (waits.listed, omega (arith, waits.due, late));
-  }
+  waits-on a known met late way may = let waits = listed a known met way may in (waits.listed, omega (arith, waits.due, late))
 
   -- else it was visited, if it waited
   waited : (a : ℕ) → a < length net.network.arcs → IsMet net s a → 0 < slot_of s a → IsSettled net t a
@@ -224,15 +213,8 @@ module _ (net : PricedNetwork) (s t : Sheet) (search : IsSearch net s) (on : Goe
     grows = on.grows;
     search = on.search;
     room = on.room;
-    settled = λ a known met.
+    settled = λ a known met way may.
         let was : IsMet net s a = met-was net (IsDueBelow s s.len) s t search on a known met in
-        let reached : IsReached net s a = met-reached net s a was in
-        record {
-          along = λ may.
-              (waited a known was
-              (listed.along a known was (along-was s t on.grows net search.in_range search.fits.events a known reached may)).listed).along may;
-          against = λ may.
-              (waited a known was
-              (listed.against a known was (against-was s t on.grows net search.in_range search.fits.events a known reached may)).listed).against may;
-        };
+        let before = may-was s t on.grows net search.in_range search.fits.events a known (met-reached net s a was) way may in
+        waited a known was (listed a known was way before).listed way may;
   }

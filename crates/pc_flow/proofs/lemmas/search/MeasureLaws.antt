@@ -14,13 +14,13 @@ use Rattle.pc_flow.specs.inside.board.Sheets.{step_of, against_of, room_of}
 use Rattle.pc_flow.specs.inside.board.Moves.{SetsRoom}
 use Rattle.pc_flow.specs.inside.board.Labelling.{HasStep, HaveRoom}
 use Rattle.pc_flow.specs.inside.board.Raising.{IsRaised}
+use Rattle.pc_flow.specs.declared.search.way.Way.TheVariants.{Along, Against}
 use Rattle.pc_flow.specs.inside.search.Searches.{
   stair_at,
   gap_at,
   IsSearch,
   IsOnStairs,
-  StopsAlong,
-  StopsAgainst,
+  StopsAfter,
   HasRoomAlong,
   HasRoomAgainst,
   IsSeen,
@@ -35,7 +35,7 @@ use Rattle.pc_flow.proofs.lemmas.search.StopLaws.{seen-reach, seen-falling, room
 
 -- where an activity stops now, one unit more fits, or one fewer
 module _ (net : PricedNetwork) (s : Sheet) (a : ℕ) (known : a < length net.network.arcs) (stairs : IsOnStairs net s) where
-  pub unit-along : StopsAlong net s a 0 → HasRoomAlong net s a 1
+  pub unit-along : StopsAfter net s a Along 0 → HasRoomAlong net s a 1
   unit-along stops = record {
     some = omega arith;
     small = stairs.small a known;
@@ -45,7 +45,7 @@ module _ (net : PricedNetwork) (s : Sheet) (a : ℕ) (known : a < length net.net
     };
   }
 
-  pub unit-against : 0 < flow_of s a → StopsAgainst net s a 0 → HasRoomAgainst net s a 1
+  pub unit-against : 0 < flow_of s a → StopsAfter net s a Against 0 → HasRoomAgainst net s a 1
   unit-against flows stops = record {
     some = omega arith;
     within = flows;
@@ -63,7 +63,7 @@ module _ (net : PricedNetwork) (s : Sheet) (search : IsSearch net s) (room : Hav
   pub step-flows : 0 < against_of s e → 0 < flow_of s (step_of s e)
   step-flows some = omega (arith, search.steps.against e known has some, room.some e known has)
 
-  pub step-along : against_of s e ≡ 0 → StopsAlong net s (step_of s e) 0
+  pub step-along : against_of s e ≡ 0 → StopsAfter net s (step_of s e) Along 0
   step-along none =
       let led : IsOnStair (stair_at net (step_of s e)) (gap_at net s (step_of s e)) (flow_of s (step_of s e) + room_of s e) = search.led.along e known has none in
       omega (
@@ -74,7 +74,7 @@ module _ (net : PricedNetwork) (s : Sheet) (search : IsSearch net s) (room : Hav
             (flow_of s (step_of s e) + room_of s e - 1) (omega (arith, room.some e known has)),
       )
 
-  pub step-against : 0 < against_of s e → StopsAgainst net s (step_of s e) 0
+  pub step-against : 0 < against_of s e → StopsAfter net s (step_of s e) Against 0
   step-against some =
       let led : IsOnStair (stair_at net (step_of s e)) (gap_at net s (step_of s e)) (flow_of s (step_of s e) - room_of s e) = search.led.against e known has some in
       omega (
@@ -127,7 +127,7 @@ module _ (net : PricedNetwork) (s : Sheet) (search : IsSearch net s) (room : Hav
       along = λ same.
           subst (λ b. HasRoomAlong net s b units) at
           (room-along net s a crash knees inside seen search.stairs units flow is some small on
-          (subst (λ b. StopsAlong net s b 0) (sym at) (step-along none)));
+          (subst (λ b. StopsAfter net s b Along 0) (sym at) (step-along none)));
       against = λ more. absurd (omega (arith, more, none));
     }
 
@@ -139,7 +139,7 @@ module _ (net : PricedNetwork) (s : Sheet) (search : IsSearch net s) (room : Hav
       against = λ same.
           subst (λ b. HasRoomAgainst net s b units) at
           (room-against net s a crash knees inside seen search.stairs units flow is some within on
-          (subst (λ b. StopsAgainst net s b 0) (sym at) (step-against more)));
+          (subst (λ b. StopsAfter net s b Against 0) (sym at) (step-against more)));
     }
 
 pub measuring-begins : (net : PricedNetwork) (s : Sheet) → IsSearch net s → HaveRoom s → IsMeasured net s s
@@ -237,10 +237,7 @@ module _ (net : PricedNetwork) (s t : Sheet) (on : IsMeasured net s t) where
   above-measured above = subst (λ v. IsAboveAllCrash net v) (sym on.rest) above
 
   settled-there : (a : ℕ) → IsSettled net s a → IsSettled net there a
-  settled-there a settled = record {
-    along = λ may. settled.along (record { from = may.from; to = may.to });
-    against = λ may. settled.against (record { from = may.from; to = may.to; some = may.some });
-  }
+  settled-there a settled = λ way may. settled way (record { near = may.near; far = may.far; flows = may.flows })
 
   scanned-was : (e : ℕ) → IsScanned there e → IsScanned s e
   scanned-was e is = record { labelled = is.labelled; within = is.within }

@@ -1,16 +1,20 @@
 -- A search whose flow was raised along the steps that led to an event.
-use Rattle.std.proofs.Common.{◌≡◌, ℕ, ◌+◌, ◌-◌, ◌<◌, ◌⊎◌, length, sym, ◌∙◌, ap, subst, inl, inr, arith}
+use Rattle.std.proofs.Common.{◌≡◌, ℕ, ◌+◌, ◌-◌, ◌<◌, length, sym, ◌∙◌, ap, subst, inl, inr, arith}
 use Rattle.std.proofs.lemmas.Bool.{cases_lt}
 use Rattle.pc_model.specs.Walk.{from_of, to_of}
-use Rattle.pc_laws.specs.Stair.{unit_length, IsOnStair}
+use Rattle.pc_laws.specs.Stair.{IsOnStair}
 use Rattle.pc_laws.proofs.Stairs.OnStair.{stair-between}
 use Rattle.pc_crash.specs.Priced.{PricedNetwork}
 use Rattle.pc_flow.specs.board.Sheets.{Sheet, rank_of, flow_of}
 use Rattle.pc_flow.specs.inside.board.Sheets.{against_of, room_of, slot_of}
 use Rattle.pc_flow.specs.inside.board.Raising.{IsRaisedBy}
 use Rattle.pc_flow.proofs.lemmas.board.AfterRaising.{IsChangedBy, raised-flow}
-use Rattle.pc_flow.specs.inside.search.Searches.{stair_at, gap_at, next_at, last_at, IsSearch}
+use Rattle.pc_flow.specs.declared.search.way.Way.{Way}
+use Rattle.pc_flow.specs.declared.search.way.Way.TheVariants.{Along, Against}
+use Rattle.pc_flow.specs.inside.search.Ways.{near_in, far_in}
+use Rattle.pc_flow.specs.inside.search.Searches.{stair_at, gap_at, IsSearch}
 use Rattle.pc_flow.specs.inside.search.Growing.{IsScanned, IsMet, AreSettled}
+use Rattle.pc_flow.proofs.lemmas.search.WayLaws.{lesser-kept, greater-kept}
 use Rattle.pc_flow.proofs.lemmas.search.StepLaws.{step-from_labelled, step-to_labelled}
 
 module _ (net : PricedNetwork) (s t : Sheet) (end by k : ℕ) (search : IsSearch net s) (raised : IsRaisedBy s t end by k) where
@@ -26,28 +30,16 @@ module _ (net : PricedNetwork) (s t : Sheet) (end by k : ℕ) (search : IsSearch
   gap-same : (a : ℕ) → gap_at net t a ≡ gap_at net s a
   gap-same a = ap (λ (v : Sheet). gap_at net v a) rest
 
-  -- where an end has no label, the flow is as it was
-  flow-kept : (a : ℕ) → (rank_of s (from_of net.network.arcs a) ≡ 0) ⊎ (rank_of s (to_of net.network.arcs a) ≡ 0) → flow_of t a ≡ flow_of s a
-  flow-kept a open_ =
-      elim (raised-flow s t end by k search.steps raised a) [
-        | inl same ↦ same
-        | inr changed ↦ elim open_ [
-          | inl none ↦
-              absurd (omega (
-                arith,
-                none,
-                step-from_labelled net s search changed.0 changed.1.known changed.1.has,
-                ap (λ b. rank_of s (from_of net.network.arcs b)) changed.1.step,
-              ))
-          | inr none ↦
-              absurd (omega (
-                arith,
-                none,
-                step-to_labelled net s search changed.0 changed.1.known changed.1.has,
-                ap (λ b. rank_of s (to_of net.network.arcs b)) changed.1.step,
-              ))
-        ]
-      ]
+  -- where a label may lead, the flow is as it was
+  flow-kept : (a : ℕ) (way : Way) → rank_of s (far_in net way a) ≡ 0 → flow_of t a ≡ flow_of s a
+  flow-kept a way none =
+      elim (raised-flow s t end by k search.steps raised a) [ inl same ↦ same | inr changed ↦ absurd (clash way none changed.0 changed.1) ]
+    where
+      clash : (w : Way) → rank_of s (far_in net w a) ≡ 0 → (f : ℕ) → IsChangedBy s t by a f → ⊥
+      clash Along is f by_step =
+          omega (arith, is, step-to_labelled net s search f by_step.known by_step.has, ap (λ b. rank_of s (to_of net.network.arcs b)) by_step.step)
+      clash Against is f by_step =
+          omega (arith, is, step-from_labelled net s search f by_step.known by_step.has, ap (λ b. rank_of s (from_of net.network.arcs b)) by_step.step)
 
   scanned-was : (e : ℕ) → IsScanned t e → IsScanned s e
   scanned-was e is = record {
@@ -61,23 +53,15 @@ module _ (net : PricedNetwork) (s t : Sheet) (end by k : ℕ) (search : IsSearch
 
   -- what was settled still is
   pub settled-raised : AreSettled net s → AreSettled net t
-  settled-raised settled a known met = record {
-    along = λ may.
-        let none : rank_of s (to_of net.network.arcs a) ≡ 0 = sym (rank-same (to_of net.network.arcs a)) ∙ may.to in
-        let was : (0 < slot_of s a) × (next_at net s a < gap_at net s a) =
-        (settled a known (met-was a met)).along (record { from = omega (arith, may.from, rank-same (from_of net.network.arcs a)); to = none }) in
-        (omega (arith, was.0, slot-same a), omega (arith, was.1, gap-same a, ap (unit_length (stair_at net a)) (flow-kept a (inr none))));
-    against = λ may.
-        let none : rank_of s (from_of net.network.arcs a) ≡ 0 = sym (rank-same (from_of net.network.arcs a)) ∙ may.from in
-        let same : flow_of t a ≡ flow_of s a = flow-kept a (inl none) in
-        let was : (0 < slot_of s a) × (gap_at net s a < last_at net s a) =
-        (settled a known (met-was a met)).against (record {
-          from = none;
-          to = omega (arith, may.to, rank-same (to_of net.network.arcs a));
-          some = omega (arith, may.some, same);
-        }) in
-        (omega (arith, was.0, slot-same a), omega (arith, was.1, gap-same a, ap (λ x. unit_length (stair_at net a) (x - 1)) same));
-  }
+  settled-raised settled a known met way may =
+      let none : rank_of s (far_in net way a) ≡ 0 = sym (rank-same (far_in net way a)) ∙ may.far in
+      let same : flow_of t a ≡ flow_of s a = flow-kept a way none in
+      let was = settled a known (met-was a met) way (record {
+        near = omega (arith, may.near, rank-same (near_in net way a));
+        far = none;
+        flows = λ is. omega (arith, may.flows is, same);
+      }) in
+      (omega (arith, was.0, slot-same a), omega (arith, was.1, lesser-kept net s t a same (gap-same a) way, greater-kept net s t a same (gap-same a) way))
 
   -- each flow stands on its staircase, between where it stood and where its room leads
   pub on-raised : (a : ℕ) → a < length net.network.arcs → IsOnStair (stair_at net a) (gap_at net s a) (flow_of t a)

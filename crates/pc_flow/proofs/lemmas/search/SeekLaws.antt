@@ -6,15 +6,9 @@ use Rattle.pc_model.specs.Walk.{from_of, to_of}
 use Rattle.pc_crash.specs.Priced.{PricedNetwork}
 use Rattle.pc_flow.specs.board.Sheets.{Sheet, rank_of}
 use Rattle.pc_flow.specs.inside.board.Sheets.{lost_of}
-use Rattle.pc_flow.specs.inside.search.Searches.{IsSettled}
 use Rattle.pc_flow.specs.inside.search.Growing.{IsAt, IsAtLost, IsReached, GoesOn}
 use Rattle.pc_flow.proofs.lemmas.search.GrowingLaws.{goes_on-joins, grows-labelled}
-
--- an activity with a label at both ends
-settled-both : (net : PricedNetwork) (s : Sheet) (a : ℕ) → 0 < rank_of s (from_of net.network.arcs a) → 0 < rank_of s (to_of net.network.arcs a)
-    → IsSettled net s a
-settled-both net s a from to =
-    record { along = λ may. absurd (omega (arith, may.to, to)); against = λ may. absurd (omega (arith, may.from, from)) }
+use Rattle.pc_flow.proofs.lemmas.search.WayLaws.{settled-both}
 
 -- all at an event that had no label and has got one are settled: where the other end had a label, both have one
 pub goes_on-labelled : (net : PricedNetwork) (these all : ℕ → Type 0) (s t : Sheet) (e : ℕ)

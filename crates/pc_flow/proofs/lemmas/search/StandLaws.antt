@@ -9,8 +9,10 @@ use Rattle.pc_crash.specs.Priced.{PricedNetwork, knees_in}
 use Rattle.pc_flow.specs.board.Sheets.{Sheet, time_of, rank_of, flow_of}
 use Rattle.pc_flow.specs.inside.board.Sheets.{slot_of}
 use Rattle.pc_flow.specs.inside.board.Labelling.{HaveRoom}
-use Rattle.pc_flow.specs.inside.search.Searches.{gap_at, next_at, last_at, IsSearch, IsWaiting, MayGoAlong, MayGoAgainst}
-use Rattle.pc_flow.specs.inside.search.Growing.{AreSettled}
+use Rattle.pc_flow.specs.declared.search.way.Way.{Way}
+use Rattle.pc_flow.specs.declared.search.way.Way.TheVariants.{Along, Against}
+use Rattle.pc_flow.specs.inside.search.Searches.{lesser_at, greater_at, IsSearch, IsWaiting, MayCross}
+use Rattle.pc_flow.specs.inside.search.Growing.{IsMet, AreSettled}
 use Rattle.pc_flow.specs.inside.search.Choosing.{moving, HasChosen}
 use Rattle.pc_flow.proofs.lemmas.search.KeptLaws.{search-relisted}
 use Rattle.pc_flow.proofs.lemmas.search.ChoosingLaws.{IsChoosing, StillWaits, HasGone, SomeStopsAt}
@@ -23,24 +25,24 @@ module _ (net : PricedNetwork) (s : Sheet) (a : ℕ) where
   abbrev to : ℕ
   to = rank_of s (to_of net.network.arcs a)
 
-  pub forward-along : MayGoAlong net s a → is_forward net.network.arcs (moving s) a ≡ true
+  pub forward-along : MayCross net s Along a → is_forward net.network.arcs (moving s) a ≡ true
   forward-along may =
-      ap (λ x. not x && (to == 0)) (ne_eqb from 0 (λ (is : from ≡ 0). omega (arith, is, may.from)))
-      ∙ eq-eqb to 0 may.to
+      ap (λ x. not x && (to == 0)) (ne_eqb from 0 (λ (is : from ≡ 0). omega (arith, is, may.near)))
+      ∙ eq-eqb to 0 may.far
 
-  pub backward-against : MayGoAgainst net s a → is_backward net.network.arcs (moving s) a ≡ true
+  pub backward-against : MayCross net s Against a → is_backward net.network.arcs (moving s) a ≡ true
   backward-against may =
-      ap (λ x. x && not (to == 0)) (eq-eqb from 0 may.from)
-      ∙ ap not (ne_eqb to 0 (λ (is : to ≡ 0). omega (arith, is, may.to)))
+      ap (λ x. x && not (to == 0)) (eq-eqb from 0 may.far)
+      ∙ ap not (ne_eqb to 0 (λ (is : to ≡ 0). omega (arith, is, may.near)))
 
-  pub along-forward : is_forward net.network.arcs (moving s) a ≡ true → MayGoAlong net s a
+  pub along-forward : is_forward net.network.arcs (moving s) a ≡ true → MayCross net s Along a
   along-forward is =
       elim (cases_eq from 0) [
         | inl none ↦
             let no : is_forward net.network.arcs (moving s) a ≡ false = ap (λ x. not x && (to == 0)) (eq-eqb from 0 none) in
             absurd (cc_false (sym is ∙ no))
         | inr some ↦ elim (cases_eq to 0) [
-          | inl none ↦ record { from = omega (arith, some); to = none }
+          | inl none ↦ record { near = omega (arith, some); far = none; flows = λ way. cc }
           | inr labelled ↦
               let no : is_forward net.network.arcs (moving s) a ≡ false =
               ap (λ x. not x && (to == 0)) (ne_eqb from 0 some) ∙ ne_eqb to 0 labelled in
@@ -51,7 +53,7 @@ module _ (net : PricedNetwork) (s : Sheet) (a : ℕ) where
       cc_false : true ≡ false → ⊥
       cc_false same = cc
 
-  pub against-backward : is_backward net.network.arcs (moving s) a ≡ true → 0 < flow_of s a → MayGoAgainst net s a
+  pub against-backward : is_backward net.network.arcs (moving s) a ≡ true → 0 < flow_of s a → MayCross net s Against a
   against-backward is flows =
       elim (cases_eq from 0) [
         | inl none ↦ elim (cases_eq to 0) [
@@ -59,7 +61,7 @@ module _ (net : PricedNetwork) (s : Sheet) (a : ℕ) where
               let no : is_backward net.network.arcs (moving s) a ≡ false =
               ap (λ x. x && not (to == 0)) (eq-eqb from 0 none) ∙ ap not (eq-eqb to 0 both) in
               absurd (cc_false (sym is ∙ no))
-          | inr some ↦ record { from = none; to = omega (arith, some); some = flows }
+          | inr some ↦ record { near = omega (arith, some); far = none; flows = λ way. flows }
         ]
         | inr labelled ↦
             let no : is_backward net.network.arcs (moving s) a ≡ false = ap (λ x. x && not (to == 0)) (ne_eqb from 0 labelled) in
@@ -84,30 +86,25 @@ module _ (net : PricedNetwork) (s t : Sheet) (kept least : ℕ) (search : IsSear
   to-event a known = omega (arith, search.in_range.to_in a known, search.fits.events)
 
   -- all events with a label were scanned, so each activity that labels may cross is settled
-  along-settled : (a : ℕ) → a < length net.network.arcs → MayGoAlong net s a → (0 < slot_of s a) × (next_at net s a < gap_at net s a)
-  along-settled a known may =
-      (settled a known (inl (record {
-        labelled = may.from;
-        within = omega (arith, search.ranked.within (from_of net.network.arcs a) (from-event a known), scanned);
-      }))).along may
-
-  against-settled : (a : ℕ) → a < length net.network.arcs → MayGoAgainst net s a → (0 < slot_of s a) × (gap_at net s a < last_at net s a)
-  against-settled a known may =
-      (settled a known (inr (record {
-        labelled = may.to;
-        within = omega (arith, search.ranked.within (to_of net.network.arcs a) (to-event a known), scanned);
-      }))).against may
+  may-settled : (a : ℕ) → a < length net.network.arcs → (way : Way) → MayCross net s way a
+      → (0 < slot_of s a) × (lesser_at net s way a < greater_at net s way a)
+  may-settled a known way may = settled a known (met way may) way may where
+    met : (w : Way) → MayCross net s w a → IsMet net s a
+    met Along may = inl (record {
+      labelled = may.near;
+      within = omega (arith, search.ranked.within (from_of net.network.arcs a) (from-event a known), scanned);
+    })
+    met Against may = inr (record {
+      labelled = may.near;
+      within = omega (arith, search.ranked.within (to_of net.network.arcs a) (to-event a known), scanned);
+    })
 
   fate : (a : ℕ) → a < s.activities → 0 < slot_of s a → StillWaits net s t kept least a ⊎ HasGone net s t a
   fate a ka some = on.fates a ka some (search.waiting.within a ka)
 
-  along-waits : (a : ℕ) → a < length net.network.arcs → MayGoAlong net s a → StillWaits net s t kept least a
-  along-waits a known may =
-      elim (fate a (activity a known) (along-settled a known may).0) [ inl still ↦ still | inr gone ↦ absurd (gone.quiet.along may) ]
-
-  against-waits : (a : ℕ) → a < length net.network.arcs → MayGoAgainst net s a → StillWaits net s t kept least a
-  against-waits a known may =
-      elim (fate a (activity a known) (against-settled a known may).0) [ inl still ↦ still | inr gone ↦ absurd (gone.quiet.against may) ]
+  may-waits : (a : ℕ) → a < length net.network.arcs → (way : Way) → MayCross net s way a → StillWaits net s t kept least a
+  may-waits a known way may =
+      elim (fate a (activity a known) (may-settled a known way may).0) [ inl still ↦ still | inr gone ↦ absurd (gone.quiet way may) ]
 
   waiting-there : IsWaiting there
   waiting-there = record {
@@ -131,37 +128,30 @@ module _ (net : PricedNetwork) (s t : Sheet) (kept least : ℕ) (search : IsSear
   stuck-there = record {
     start_rests = ne_eqb (rank_of s net.network.start) 0 (λ (is : rank_of s net.network.start ≡ 0). omega (arith, is, start-labelled));
     end_moves = eq-eqb (rank_of s net.network.end) 0 stuck;
-    forward = λ a known is. (along-settled a known (along-forward net s a is)).1;
-    backward = λ a known is flows. (against-settled a known (against-backward net s a is flows)).1;
+    forward = λ a known is. (may-settled a known Along (along-forward net s a is)).1;
+    backward = λ a known is flows. (may-settled a known Against (against-backward net s a is flows)).1;
   }
 
   before-there : HasNoStopBefore net.network net.terms (knees_in net) (time_of there) (flow_of there) (moving there) least
   before-there = record {
-    forward = λ a known is. let may : MayGoAlong net s a = along-forward net s a is in (along-waits a known may).stops.along may;
-    backward = λ a known is flows.
-        let may : MayGoAgainst net s a = against-backward net s a is flows in (against-waits a known may).stops.against may;
+    forward = λ a known is. let may = along-forward net s a is in (may-waits a known Along may).stops Along may;
+    backward = λ a known is flows. let may = against-backward net s a is flows in (may-waits a known Against may).stops Against may;
   }
 
   stop-there : SomeStopsAt net s least → HasStop net.network net.terms (knees_in net) (time_of there) (flow_of there) (moving there) least
-  stop-there (a, known, inl along) = (a, known, inl (record { forward = forward-along net s a along.0; meets = along.1 }))
-  stop-there (a, known, inr against) =
-      (a, known, inr (record { backward = backward-against net s a against.0; some = against.0.some; meets = against.1 }))
+  stop-there (a, known, (Along, may, meets)) = (a, known, inl (record { forward = forward-along net s a may; meets = meets }))
+  stop-there (a, known, (Against, may, meets)) =
+      (a, known, inr (record { backward = backward-against net s a may; some = may.flows refl; meets = meets }))
 
   chosen-there : HasChosen net s there least
   chosen-there = record {
     rest = refl;
     search = search-relisted net s there search search.ranked.scanned waiting-there;
     room = record { some = room.some };
-    listed = record {
-      along = λ a known met may.
-          let was : MayGoAlong net s a = record { from = may.from; to = may.to } in
-          let still : StillWaits net s t kept least a = along-waits a known was in
-          record { listed = still.some; due = still.until.along was };
-      against = λ a known met may.
-          let was : MayGoAgainst net s a = record { from = may.from; to = may.to; some = may.some } in
-          let still : StillWaits net s t kept least a = against-waits a known was in
-          record { listed = still.some; due = still.until.against was };
-    };
+    listed = λ a known met way may.
+        let was : MayCross net s way a = record { near = may.near; far = may.far; flows = may.flows } in
+        let still = may-waits a known way was in
+        record { listed = still.some; due = still.until way was };
     stuck = stuck-there;
     before = before-there;
     stop = elim on.met [ inl never ↦ inl never | inr some ↦ inr (stop-there some) ];

@@ -27,7 +27,7 @@ pub visited-still : (net : PricedNetwork) (s : Sheet) (a : ℕ) → IsSearch net
 visited-still net s a search room settled = record { grows = grows-none s; search = search; room = room; settled = settled }
 
 pub settled-quiet : (net : PricedNetwork) (s : Sheet) (a : ℕ) → IsQuiet net s a → IsSettled net s a
-settled-quiet net s a quiet = record { along = λ may. absurd (quiet.along may); against = λ may. absurd (quiet.against may) }
+settled-quiet net s a quiet = λ way may. absurd (quiet way may)
 
 -- the list has room for an activity that does not wait
 pub waiting-room : (s : Sheet) (a : ℕ) → IsWaiting s → a < s.activities → slot_of s a ≡ 0 → s.len < s.activities
@@ -92,8 +92,5 @@ module _ (net : PricedNetwork) (s t : Sheet) (a : ℕ) (search : IsSearch net s)
     };
     search = search-relisted net s there search search.ranked.scanned waiting-more;
     room = record { some = room.some };
-    settled = record {
-      along = λ may. (omega (arith, moved.slot_at), later.along (record { from = may.from; to = may.to }));
-      against = λ may. (omega (arith, moved.slot_at), later.against (record { from = may.from; to = may.to; some = may.some }));
-    };
+    settled = λ way may. (omega (arith, moved.slot_at), later way (record { near = may.near; far = may.far; flows = may.flows }));
   })

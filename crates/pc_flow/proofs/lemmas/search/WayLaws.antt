@@ -1,5 +1,5 @@
 -- The ends of a step by its direction, and where labels may cross an activity.
-use Rattle.std.proofs.Common.{◌≡◌, ℕ, ◌<◌, ◌⊎◌, List, Some, length, refl, sym, ◌∙◌, ap, inl, inr, arith}
+use Rattle.std.proofs.Common.{◌≡◌, ℕ, ◌-◌, ◌<◌, ◌⊎◌, List, length, refl, sym, ◌∙◌, ap, inl, inr, arith}
 use Rattle.pc_model.specs.inside.Greatest.{IsListed}
 use Rattle.pc_model.specs.Greatest.{StandsBelow}
 use Rattle.pc_model.specs.Walk.{from_of, to_of}
@@ -7,23 +7,32 @@ use Rattle.pc_model.specs.Network.{IsInRange}
 use Rattle.pc_crash.specs.Priced.{PricedNetwork}
 use Rattle.pc_crash.specs.declared.linking.Link.{Link}
 use Rattle.pc_crash.specs.inside.Links.{activities_of, link_at}
-use Rattle.pc_flow.specs.board.Sheets.{Sheet, rank_of}
+use Rattle.pc_laws.specs.Stair.{unit_length}
+use Rattle.pc_flow.specs.board.Sheets.{Sheet, rank_of, flow_of}
+use Rattle.pc_flow.specs.inside.board.Sheets.{slot_of}
 use Rattle.pc_flow.specs.inside.board.Labelling.{IsFor}
 use Rattle.pc_flow.specs.declared.search.way.Way.{Way}
 use Rattle.pc_flow.specs.declared.search.way.Way.TheVariants.{Along, Against}
-use Rattle.pc_flow.specs.inside.search.Ways.{near_end, far_end, near_in, far_in, CanFlow, AreLinks}
-use Rattle.pc_flow.specs.inside.search.Searches.{IsQuiet, IsWay}
+use Rattle.pc_flow.specs.inside.search.Ways.{by_way, near_in, far_in, CanFlow, AreLinks}
+use Rattle.pc_flow.specs.inside.search.Searches.{stair_at, gap_at, next_at, last_at, lesser_at, greater_at, MayCross, IsQuiet, IsSettled}
 use Rattle.pc_flow.specs.inside.search.Growing.{IsAt}
 use Rattle.pc_flow.proofs.lemmas.search.LinkLaws.{link_listed, link_stands}
 
 -- the ends of a step over an activity of which these are the events
 pub near-looked : (net : PricedNetwork) (way : Way) (a from to near : ℕ) → from ≡ from_of net.network.arcs a → to ≡ to_of net.network.arcs a
-    → near ≡ near_end way from to → near_in net way a ≡ near
-near-looked net way a from to near begins ends is = sym (is ∙ ap (λ e. near_end way e to) begins ∙ ap (near_end way (from_of net.network.arcs a)) ends)
+    → near ≡ by_way way from to → near_in net way a ≡ near
+near-looked net way a from to near begins ends is = sym (is ∙ ap (λ e. by_way way e to) begins ∙ ap (by_way way (from_of net.network.arcs a)) ends)
 
 pub far-looked : (net : PricedNetwork) (way : Way) (a from to far : ℕ) → from ≡ from_of net.network.arcs a → to ≡ to_of net.network.arcs a
-    → far ≡ far_end way from to → far_in net way a ≡ far
-far-looked net way a from to far begins ends is = sym (is ∙ ap (λ e. far_end way e to) begins ∙ ap (far_end way (from_of net.network.arcs a)) ends)
+    → far ≡ by_way way to from → far_in net way a ≡ far
+far-looked net way a from to far begins ends is = sym (is ∙ ap (λ e. by_way way e from) ends ∙ ap (by_way way (to_of net.network.arcs a)) begins)
+
+-- labels may cross an activity only one way
+pub one-way : (net : PricedNetwork) (s : Sheet) (a : ℕ) (way other : Way) → MayCross net s way a → MayCross net s other a → way ≡ other
+one-way net s a Along Along may also = refl
+one-way net s a Along Against may also = absurd (omega (arith, may.near, also.far))
+one-way net s a Against Along may also = absurd (omega (arith, may.near, also.far))
+one-way net s a Against Against may also = refl
 
 module _ (net : PricedNetwork) (s : Sheet) (a near far : ℕ) where
   -- the events at the two ends are those of the network
@@ -36,54 +45,58 @@ module _ (net : PricedNetwork) (s : Sheet) (a near far : ℕ) where
   far-known Against range fits known at = omega (arith, at, range.from_in a known, fits.events)
 
   -- labels come from an event that has one and lead to one that has none
-  pub near-labelled : (way : Way) → near_in net way a ≡ near → IsWay net s a (Some way) → 0 < rank_of s near
-  near-labelled Along at may = omega (arith, ap (rank_of s) at, may.from)
-  near-labelled Against at may = omega (arith, ap (rank_of s) at, may.to)
+  pub near-labelled : (way : Way) → near_in net way a ≡ near → MayCross net s way a → 0 < rank_of s near
+  near-labelled way at may = omega (arith, ap (rank_of s) at, may.near)
 
-  pub far-none : (way : Way) → far_in net way a ≡ far → IsWay net s a (Some way) → rank_of s far ≡ 0
-  far-none Along at may = omega (arith, ap (rank_of s) at, may.to)
-  far-none Against at may = omega (arith, ap (rank_of s) at, may.from)
+  pub far-none : (way : Way) → far_in net way a ≡ far → MayCross net s way a → rank_of s far ≡ 0
+  far-none way at may = omega (arith, ap (rank_of s) at, may.far)
 
   -- and if more can flow, they may do so
   pub may-cross : (way : Way) → near_in net way a ≡ near → far_in net way a ≡ far → 0 < rank_of s near → rank_of s far ≡ 0 → CanFlow s way a
-      → IsWay net s a (Some way)
-  may-cross Along begins ends labelled none flows = record {
-    from = omega (arith, ap (rank_of s) begins, labelled);
-    to = omega (arith, ap (rank_of s) ends, none);
-  }
-  may-cross Against begins ends labelled none flows = record {
-    from = omega (arith, ap (rank_of s) ends, none);
-    to = omega (arith, ap (rank_of s) begins, labelled);
-    some = flows refl;
+      → MayCross net s way a
+  may-cross way begins ends labelled none flows = record {
+    near = omega (arith, ap (rank_of s) begins, labelled);
+    far = omega (arith, ap (rank_of s) ends, none);
+    flows = flows;
   }
 
   -- they may not where both ends have a label, where none has, or where no more can flow to the one that has none
   pub quiet-both : (way : Way) → near_in net way a ≡ near → far_in net way a ≡ far → 0 < rank_of s near → 0 < rank_of s far → IsQuiet net s a
-  quiet-both Along begins ends near_some far_some = record {
-    along = λ may. absurd (omega (arith, may.to, ap (rank_of s) ends, far_some));
-    against = λ may. absurd (omega (arith, may.from, ap (rank_of s) begins, near_some));
-  }
-  quiet-both Against begins ends near_some far_some = record {
-    along = λ may. absurd (omega (arith, may.to, ap (rank_of s) begins, near_some));
-    against = λ may. absurd (omega (arith, may.from, ap (rank_of s) ends, far_some));
-  }
+  quiet-both Along begins ends near_some far_some Along may = omega (arith, may.far, ap (rank_of s) ends, far_some)
+  quiet-both Along begins ends near_some far_some Against may = omega (arith, may.far, ap (rank_of s) begins, near_some)
+  quiet-both Against begins ends near_some far_some Along may = omega (arith, may.far, ap (rank_of s) begins, near_some)
+  quiet-both Against begins ends near_some far_some Against may = omega (arith, may.far, ap (rank_of s) ends, far_some)
 
   pub quiet-neither : (way : Way) → near_in net way a ≡ near → far_in net way a ≡ far → rank_of s near ≡ 0 → rank_of s far ≡ 0 → IsQuiet net s a
-  quiet-neither Along begins ends near_none far_none = record {
-    along = λ may. absurd (omega (arith, may.from, ap (rank_of s) begins, near_none));
-    against = λ may. absurd (omega (arith, may.to, ap (rank_of s) ends, far_none));
-  }
-  quiet-neither Against begins ends near_none far_none = record {
-    along = λ may. absurd (omega (arith, may.from, ap (rank_of s) ends, far_none));
-    against = λ may. absurd (omega (arith, may.to, ap (rank_of s) begins, near_none));
-  }
+  quiet-neither Along begins ends near_none far_none Along may = omega (arith, may.near, ap (rank_of s) begins, near_none)
+  quiet-neither Along begins ends near_none far_none Against may = omega (arith, may.near, ap (rank_of s) ends, far_none)
+  quiet-neither Against begins ends near_none far_none Along may = omega (arith, may.near, ap (rank_of s) ends, far_none)
+  quiet-neither Against begins ends near_none far_none Against may = omega (arith, may.near, ap (rank_of s) begins, near_none)
 
   pub quiet-dry : (way : Way) → far_in net way a ≡ far → rank_of s far ≡ 0 → (CanFlow s way a → ⊥) → IsQuiet net s a
-  quiet-dry Along ends none dry = absurd (dry (λ is. cc))
-  quiet-dry Against ends none dry = record {
-    along = λ may. absurd (omega (arith, may.from, ap (rank_of s) ends, none));
-    against = λ may. absurd (dry (λ is. may.some));
-  }
+  quiet-dry Along ends none dry other may = dry (λ is. cc)
+  quiet-dry Against ends none dry Along may = omega (arith, may.near, ap (rank_of s) ends, none)
+  quiet-dry Against ends none dry Against may = dry may.flows
+
+-- an activity with a label at both ends is settled
+pub settled-both : (net : PricedNetwork) (s : Sheet) (a : ℕ) → 0 < rank_of s (from_of net.network.arcs a) → 0 < rank_of s (to_of net.network.arcs a)
+    → IsSettled net s a
+settled-both net s a from to Along may = absurd (omega (arith, may.far, to))
+settled-both net s a from to Against may = absurd (omega (arith, may.far, from))
+
+-- where its flow and its gap stay, an activity is settled as before
+module _ (net : PricedNetwork) (s t : Sheet) (a : ℕ) (flow : flow_of t a ≡ flow_of s a) (gap : gap_at net t a ≡ gap_at net s a) where
+  pub lesser-kept : (way : Way) → lesser_at net t way a ≡ lesser_at net s way a
+  lesser-kept way = ap (λ x. by_way way (unit_length (stair_at net a) x) (gap_at net t a)) flow ∙ ap (by_way way (next_at net s a)) gap
+
+  pub greater-kept : (way : Way) → greater_at net t way a ≡ greater_at net s way a
+  greater-kept way = ap (λ x. by_way way x (last_at net t a)) gap ∙ ap (λ x. by_way way (gap_at net s a) (unit_length (stair_at net a) (x - 1))) flow
+
+  pub settled-kept : ((way : Way) → MayCross net t way a → MayCross net s way a) → (0 < slot_of s a → 0 < slot_of t a) → IsSettled net s a
+      → IsSettled net t a
+  settled-kept was slot settled way may =
+      let before = settled way (was way may) in
+      (slot before.0, omega (arith, before.1, lesser-kept way, greater-kept way))
 
 -- an activity of which a step leads to an event is at that event
 pub far-at : (net : PricedNetwork) (way : Way) (a e : ℕ) → far_in net way a ≡ e → IsAt net e a

@@ -1,17 +1,16 @@
 -- The least stop of the activities between the events that have a label and those that have none.
-use Rattle.std.specs.Prelude.{◌≡◌, ℕ, ◌+◌, ◌-◌, ◌^◌, ◌==◌, ◌⊎◌, Bool, Option, Some, None}
+use Rattle.std.specs.Prelude.{◌≡◌, ℕ, ◌-◌, ◌^◌, ◌==◌, ◌⊎◌, Bool, Option, Some, None}
 use Rattle.pc_laws.specs.Steps.{IsStairStuck, HasStop, HasNoStopBefore}
 use Rattle.pc_crash.specs.Priced.{PricedNetwork, knees_in}
 use Rattle.pc_flow.specs.board.Sheets.{Sheet, time_of, rank_of, flow_of}
 use Rattle.pc_flow.specs.inside.board.Labelling.{HaveRoom}
-use Rattle.pc_flow.specs.inside.search.Searches.{gap_at, next_at, last_at, MayGoAlong, MayGoAgainst, IsQuiet, IsSearch}
+use Rattle.pc_flow.specs.declared.search.way.Way.{Way}
+use Rattle.pc_flow.specs.inside.search.Searches.{MayCross, StopsAfter, IsQuiet, IsSearch}
 use Rattle.pc_flow.specs.inside.search.Growing.{AreListed}
 
 -- labels may cross activity a, and it stops when the events without one have fallen by n
 abbrev pub StopsAt : PricedNetwork → Sheet → ℕ → ℕ → Type 0
-StopsAt net s a n =
-    (MayGoAlong net s a × (next_at net s a + n ≡ gap_at net s a))
-    ⊎ (MayGoAgainst net s a × (gap_at net s a + n ≡ last_at net s a))
+StopsAt net s a n = (way : Way) × MayCross net s way a × StopsAfter net s a way n
 
 -- when it stops, if labels may cross it
 abbrev pub IsStopOf : PricedNetwork → Sheet → ℕ → Option ℕ → Type 0

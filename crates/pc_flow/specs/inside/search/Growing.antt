@@ -7,7 +7,8 @@ use Rattle.pc_crash.specs.Priced.{PricedNetwork}
 use Rattle.pc_flow.specs.board.Sheets.{Sheet, time_of, rank_of}
 use Rattle.pc_flow.specs.inside.board.Sheets.{lost_of, slot_of, due_of}
 use Rattle.pc_flow.specs.inside.board.Labelling.{HaveRoom}
-use Rattle.pc_flow.specs.inside.search.Searches.{gap_at, next_at, last_at, IsSearch, MayGoAlong, MayGoAgainst, IsSettled, grown_as, Grows}
+use Rattle.pc_flow.specs.declared.search.way.Way.{Way}
+use Rattle.pc_flow.specs.inside.search.Searches.{lesser_at, greater_at, IsSearch, MayCross, IsSettled, grown_as, Grows}
 
 -- activity a begins or ends at event e
 abbrev pub IsAt : PricedNetwork → ℕ → ℕ → Type 0
@@ -31,18 +32,13 @@ abbrev pub IsMet : PricedNetwork → Sheet → ℕ → Type 0
 IsMet net s a = IsScanned s (from_of net.network.arcs a) ⊎ IsScanned s (to_of net.network.arcs a)
 
 -- activity a waits, and stops no sooner than when the falls have come to the sum that is kept of it
-pub record WaitsAlong (net : PricedNetwork) (s : Sheet) (a : ℕ) : Type 0 where
+pub record IsDueLater (net : PricedNetwork) (s : Sheet) (way : Way) (a : ℕ) : Type 0 where
   pub listed : 0 < slot_of s a
-  pub due : due_of s a + next_at net s a ≤ s.fallen + gap_at net s a
-
-pub record WaitsAgainst (net : PricedNetwork) (s : Sheet) (a : ℕ) : Type 0 where
-  pub listed : 0 < slot_of s a
-  pub due : due_of s a + gap_at net s a ≤ s.fallen + last_at net s a
+  pub due : due_of s a + lesser_at net s way a ≤ s.fallen + greater_at net s way a
 
 -- of the activities at scanned events those wait that labels may cross
-pub record AreListed (net : PricedNetwork) (s : Sheet) : Type 0 where
-  pub along : (a : ℕ) → a < length net.network.arcs → IsMet net s a → MayGoAlong net s a → WaitsAlong net s a
-  pub against : (a : ℕ) → a < length net.network.arcs → IsMet net s a → MayGoAgainst net s a → WaitsAgainst net s a
+abbrev pub AreListed : PricedNetwork → Sheet → Type 0
+AreListed net s = (a : ℕ) → a < length net.network.arcs → IsMet net s a → (way : Way) → MayCross net s way a → IsDueLater net s way a
 
 -- and they stop only after a fall
 abbrev pub AreSettled : PricedNetwork → Sheet → Type 0

@@ -13,7 +13,7 @@ use Rattle.pc_flow.specs.inside.board.Sheets.{queue_of, step_of, against_of, roo
 use Rattle.pc_flow.specs.inside.board.Moves.{with_labels}
 use Rattle.pc_flow.specs.inside.board.Labelling.{HasStep, IsRanked, IsRankedBack, HaveSteps, HaveRoom, AreTimes, IsFor, AreJoined}
 use Rattle.pc_flow.specs.declared.search.way.Way.{Way}
-use Rattle.pc_flow.specs.declared.search.way.Way.TheVariants.{Along, Against}
+use Rattle.pc_flow.specs.inside.search.Ways.{by_way, near_in, far_in, CanFlow}
 
 -- the staircase of activity a
 abbrev pub stair_at : PricedNetwork → ℕ → Stair
@@ -86,24 +86,18 @@ pub record IsSearch (net : PricedNetwork) (s : Sheet) : Type 0 where
   pub lengths : AreLengths net s
   pub led : AreLed net s
 
--- labels may cross activity a along it, or against it
-pub record MayGoAlong (net : PricedNetwork) (s : Sheet) (a : ℕ) : Type 0 where
-  pub from : 0 < rank_of s (from_of net.network.arcs a)
-  pub to : rank_of s (to_of net.network.arcs a) ≡ 0
+-- labels may cross activity a this way: they come from an event that has one to one that has none, and more can flow
+pub record MayCross (net : PricedNetwork) (s : Sheet) (way : Way) (a : ℕ) : Type 0 where
+  pub near : 0 < rank_of s (near_in net way a)
+  pub far : rank_of s (far_in net way a) ≡ 0
+  pub flows : CanFlow s way a
 
-pub record MayGoAgainst (net : PricedNetwork) (s : Sheet) (a : ℕ) : Type 0 where
-  pub from : rank_of s (from_of net.network.arcs a) ≡ 0
-  pub to : 0 < rank_of s (to_of net.network.arcs a)
-  pub some : 0 < flow_of s a
-
--- neither
-pub record IsQuiet (net : PricedNetwork) (s : Sheet) (a : ℕ) : Type 0 where
-  pub along : MayGoAlong net s a → ⊥
-  pub against : MayGoAgainst net s a → ⊥
+-- they may cross it neither way
+abbrev pub IsQuiet : PricedNetwork → Sheet → ℕ → Type 0
+IsQuiet net s a = (way : Way) → MayCross net s way a → ⊥
 
 abbrev pub IsWay : PricedNetwork → Sheet → ℕ → Option Way → Type 0
-IsWay net s a (Some Along) = MayGoAlong net s a
-IsWay net s a (Some Against) = MayGoAgainst net s a
+IsWay net s a (Some way) = MayCross net s way a
 IsWay net s a None = IsQuiet net s a
 
 -- activity a has this crash duration and these knees
@@ -111,17 +105,17 @@ pub record IsSeen (net : PricedNetwork) (a crash : ℕ) (knees : List Knee) : Ty
   pub lasts : crash ≡ crash_of net.terms a
   pub bends : AreKneesOf (knees_in net) a knees
 
--- after so much of a fall the gap is the next unit's arc
-abbrev pub StopsAlong : PricedNetwork → Sheet → ℕ → ℕ → Type 0
-StopsAlong net s a after = after + next_at net s a ≡ gap_at net s a
+-- labels that cross activity a along it wait until a fall has brought the gap down to the next unit's arc, and against it
+-- until one has brought it up to the last unit's: the lesser of the two lengths, and the greater one
+abbrev pub lesser_at : PricedNetwork → Sheet → Way → ℕ → ℕ
+lesser_at net s way a = by_way way (next_at net s a) (gap_at net s a)
 
--- after so much of a fall the gap is the last unit's arc
-abbrev pub StopsAgainst : PricedNetwork → Sheet → ℕ → ℕ → Type 0
-StopsAgainst net s a after = gap_at net s a + after ≡ last_at net s a
+abbrev pub greater_at : PricedNetwork → Sheet → Way → ℕ → ℕ
+greater_at net s way a = by_way way (gap_at net s a) (last_at net s a)
 
+-- after so much of a fall they are the same
 abbrev pub StopsAfter : PricedNetwork → Sheet → ℕ → Way → ℕ → Type 0
-StopsAfter net s a Along after = StopsAlong net s a after
-StopsAfter net s a Against after = StopsAgainst net s a after
+StopsAfter net s a way after = lesser_at net s way a + after ≡ greater_at net s way a
 
 -- with so many units more, or fewer, the flow stands on the staircase
 pub record HasRoomAlong (net : PricedNetwork) (s : Sheet) (a room : ℕ) : Type 0 where
@@ -135,14 +129,12 @@ pub record HasRoomAgainst (net : PricedNetwork) (s : Sheet) (a room : ℕ) : Typ
   pub on : IsOnStair (stair_at net a) (gap_at net s a) (flow_of s a - room)
 
 -- where labels may cross activity a, it stops only after a fall
-pub record StopsLater (net : PricedNetwork) (s : Sheet) (a : ℕ) : Type 0 where
-  pub along : MayGoAlong net s a → next_at net s a < gap_at net s a
-  pub against : MayGoAgainst net s a → gap_at net s a < last_at net s a
+abbrev pub StopsLater : PricedNetwork → Sheet → ℕ → Type 0
+StopsLater net s a = (way : Way) → MayCross net s way a → lesser_at net s way a < greater_at net s way a
 
 -- where labels may cross activity a it waits, and it stops only after a fall
-pub record IsSettled (net : PricedNetwork) (s : Sheet) (a : ℕ) : Type 0 where
-  pub along : MayGoAlong net s a → (0 < slot_of s a) × (next_at net s a < gap_at net s a)
-  pub against : MayGoAgainst net s a → (0 < slot_of s a) × (gap_at net s a < last_at net s a)
+abbrev pub IsSettled : PricedNetwork → Sheet → ℕ → Type 0
+IsSettled net s a = (way : Way) → MayCross net s way a → (0 < slot_of s a) × (lesser_at net s way a < greater_at net s way a)
 
 -- board s with the labels and the waiting activities of board t
 abbrev pub grown_as : Sheet → Sheet → Sheet

@@ -8,21 +8,17 @@ use Rattle.pc_flow.specs.board.Sheets.{Sheet, flow_of}
 use Rattle.pc_flow.specs.declared.search.way.Way.{Way}
 use Rattle.pc_flow.specs.declared.search.way.Way.TheVariants.{Along, Against}
 
--- from which event and to which one a step goes, where its activity begins and ends at these
-abbrev pub near_end : Way → ℕ → ℕ → ℕ
-near_end Along from to = from
-near_end Against from to = to
-
-abbrev pub far_end : Way → ℕ → ℕ → ℕ
-far_end Along from to = to
-far_end Against from to = from
+-- the first of two numbers for a step along its activity, and the second for one against it
+abbrev pub by_way : Way → ℕ → ℕ → ℕ
+by_way Along first second = first
+by_way Against first second = second
 
 -- from which event and to which one a step of activity a goes
 abbrev pub near_in : PricedNetwork → Way → ℕ → ℕ
-near_in net way a = near_end way (from_of net.network.arcs a) (to_of net.network.arcs a)
+near_in net way a = by_way way (from_of net.network.arcs a) (to_of net.network.arcs a)
 
 abbrev pub far_in : PricedNetwork → Way → ℕ → ℕ
-far_in net way a = far_end way (from_of net.network.arcs a) (to_of net.network.arcs a)
+far_in net way a = by_way way (to_of net.network.arcs a) (from_of net.network.arcs a)
 
 abbrev pub goes_against : Way → Bool
 goes_against Along = false
