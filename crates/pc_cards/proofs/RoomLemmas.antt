@@ -9,7 +9,8 @@ use Rattle.std.proofs.lemmas.Bool.Decides.{nat_tests}
 use Rattle.pc_records.specs.Deck.{is_empty}
 use Rattle.pc_records.proofs.LengthFacts.{IsPlain, written_field-plain, length-written_field, written_field, written_length}
 use Rattle.pc_text.specs.Code.{is_code, is_code_byte}
-use Rattle.pc_text.specs.Number.{is_number, number_of, value_after}
+use Rattle.pc_text.specs.Number.{number_of, value_after}
+use Rattle.pc_text.specs.inside.Number.{is_number}
 use Rattle.pc_days.specs.Dates.{NamesDay, day_of}
 use Rattle.pc_days.specs.declared.day.DayError.{DayError}
 use Rattle.pc_days.specs.declared.day.DayError.TheVariants.{Shape, Years}

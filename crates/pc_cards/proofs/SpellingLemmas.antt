@@ -5,7 +5,8 @@ use Rattle.std.specs.Result.{result_unwrap_or}
 use Rattle.std.proofs.lemmas.Bool.{eqb-true}
 use Rattle.std.specs.Cmp.Lexicographic.{bytes_decides}
 use Rattle.pc_text.specs.Code.{code_of, is_code}
-use Rattle.pc_text.specs.Number.{number_of, is_number, value_after}
+use Rattle.pc_text.specs.Number.{number_of, value_after}
+use Rattle.pc_text.specs.inside.Number.{is_number}
 use Rattle.pc_text.proofs.NumberLemmas.{spelled_by}
 use Rattle.pc_days.specs.Dates.{day_of}
 use Rattle.pc_days.specs.Calendar.{text_of_day}

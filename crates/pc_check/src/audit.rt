@@ -123,16 +123,14 @@ impl<'n> Audit<'n> {
                 });
             }
         };
-        match self.known.line() {
-            None => Ok(used),
-            Some(line) => match self
-                .checker
-                .take_known(&self.known, line, self.reader.place())
-            {
-                None => Ok(used),
-                Some(fail) => Err(fail),
-            },
+        let Some(line) = self.known.line() else {
+            return Ok(used);
+        };
+        let place = self.reader.place();
+        if let Some(fail) = self.checker.take_known(&self.known, line, place) {
+            return Err(fail);
         }
+        Ok(used)
     }
 
     /// Returns the verdict on the text, which was read to its end.

@@ -10,8 +10,8 @@ use Rattle.std.specs.List.{list_all}
 use Rattle.std.specs.Char.{is_ascii_digit}
 use Rattle.std.specs.Fmt.{decimal}
 use Rattle.pc_text.specs.declared.number.TheConstants.{DECK_DIGITS}
-use Rattle.pc_text.specs.Number.{is_numeral, is_number, value_after, numeral_of}
-use Rattle.pc_text.specs.inside.Number.{Spells, IsDecimal}
+use Rattle.pc_text.specs.Number.{is_numeral, value_after, numeral_of}
+use Rattle.pc_text.specs.inside.Number.{is_number, Spells, IsDecimal}
 
 -- the tests and the value here are std's digits and their value
 pub own : IsNumeralModel (λ ds. list_all is_ascii_digit ds ≡ true) (value_after 0)

@@ -17,10 +17,6 @@ value_after n (digit ∷ rest) = value_after (n * 10 + (digit - 48)) rest
 abbrev pub numeral_of : ℕ → List ℕ → Option ℕ
 numeral_of most word = if is_numeral most word then Some (value_after 0 word) else None
 
--- a number of a deck: `0`, or digits without a leading zero, at most 13 digits
-abbrev pub is_number : List ℕ → Bool
-is_number field = is_numeral 13 field
-
--- the number that a field spells, where it is one
+-- the number that a field of a deck spells, where it is one: it has at most 13 digits
 abbrev pub number_of : List ℕ → Option ℕ
 number_of field = numeral_of 13 field

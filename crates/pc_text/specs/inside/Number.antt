@@ -4,7 +4,11 @@ use Rattle.std.specs.Prelude.{◌≡◌, ℕ, ◌^◌, ◌<◌, Bool, not, ◌&&
 use Rattle.std.specs.List.{list_all}
 use Rattle.std.specs.Char.{is_ascii_digit}
 use Rattle.std.specs.Fmt.{decimal}
-use Rattle.pc_text.specs.Number.{value_after}
+use Rattle.pc_text.specs.Number.{is_numeral, value_after}
+
+-- a number of a deck: `0`, or digits without a leading zero, at most 13 digits
+abbrev pub is_number : List ℕ → Bool
+is_number field = is_numeral 13 field
 
 -- 1 to so many bytes, and no zero in front of others
 abbrev pub is_unpadded : ℕ → List ℕ → Bool

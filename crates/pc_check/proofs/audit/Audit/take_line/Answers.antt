@@ -35,7 +35,7 @@ take_known-requires c =
     record {
       known = line;
       goes =
-          subst (λ p. IfNone c.self.inside.checker.fail (next c.self.inside.checker.kept.place c.in-Some.line.now ≡ Some p)) (sym c.place.ensures)
+          subst (λ p. IfNone c.self.inside.checker.fail (next c.self.inside.checker.kept.place c.in-Some.line.now ≡ Some p)) (sym c.place-place.ensures)
           (may_take old c.feed_known.new.self before.lines c.in-Some.line.now (text ++ take c.in-Ok.used c.args.piece.now) going before.checked c.in-Ok.ensures.kept
           (subst (λ l. StandsFor c.feed_known.new.self (before.lines ++ option_to_list l) (text ++ take c.in-Ok.used c.args.piece.now)) line (c.in-Ok.ensures.stands before.lines text before.read)));
     }
@@ -64,12 +64,12 @@ returns-in-Some-take_known c = record {
   left = search rules;
 }
 
-pub returns-in-None : goal.returns-in-None
-returns-in-None c =
+pub returns-in_default : goal.returns-in_default
+returns-in_default c =
     let old : Auditing = record { reader = c.self.inside.reader; checker = c.self.inside.checker } in
     let new : Auditing = record { reader = c.feed_known.new.self; checker = c.self.inside.checker } in
     let going : IsGoing old = subst (λ a. IsGoing a) (sym c.self.view_is) c.requires.going in
-    let none : c.feed_known.new.known.line ≡ None = sym c.in-None.ensures in
+    let none : c.feed_known.new.known.line ≡ None = sym c.in_default.ensures in
     record {
       within = c.in-Ok.ensures.within;
       some = omega (arith, c.requires.some, c.in-Ok.ensures.no_line (subst (λ l. IsNone l) (sym none) refl));
@@ -89,8 +89,8 @@ returns-in-None c =
           (less_behind_piece old new c.args.piece.now going c.requires.some refl (c.in-Ok.ensures.held (subst (λ l. IsNone l) (sym none) refl)));
     }
 
-pub returns-in-None-take_known : goal.returns-in-None-take_known
-returns-in-None-take_known c =
+pub returns : goal.returns
+returns c =
     let old : Auditing = record { reader = c.self.inside.reader; checker = c.self.inside.checker } in
     let new : Auditing = record { reader = c.feed_known.new.self; checker = c.take_known.new.self } in
     let going : IsGoing old = subst (λ a. IsGoing a) (sym c.self.view_is) c.requires.going in
@@ -108,13 +108,13 @@ returns-in-None-take_known c =
           };
       going = record {
         well_formed = c.in-Ok.ensures.kept;
-        no_fail = sym c.take_known.ensures.fail ∙ c.in-None-take_known.is;
-        few = c.in-None-take_known.ensures.few;
+        no_fail = sym c.take_known.ensures.fail ∙ c.in_default-take_known.is;
+        few = c.in_default-take_known.ensures.few;
         short = c.feed_known.ensures.short;
       };
       fails = search rules;
       net = c.take_known.ensures.net ∙ ap (λ (a : Auditing). a.checker.net) c.self.view_is;
-      left = subst (λ a. bytes_left new < bytes_left a) c.self.view_is (less_behind_line old new going c.in-None-take_known.ensures.left);
+      left = subst (λ a. bytes_left new < bytes_left a) c.self.view_is (less_behind_line old new going c.in_default-take_known.ensures.left);
     }
 
 pub feed_known-requires : goal.feed_known-requires
