@@ -11,7 +11,7 @@ use Rattle.pc_cert.proofs.ReaderLaws.{passes_line}
 use Rattle.pc_crash.specs.Priced.{PricedNetwork}
 use Rattle.pc_check.specs.declared.kept.Kept.{Kept}
 use Rattle.pc_check.specs.inside.Advances.{Adds, Advances, moved_on}
-use Rattle.pc_check.specs.inside.Again.{AddsLine, going}
+use Rattle.pc_check.specs.inside.Rows.{AddsLine, going}
 use Rattle.pc_check.specs.inside.Along.{TakesAlong}
 use Rattle.pc_check.specs.inside.Bounds.{IsBounded, lines_left}
 use Rattle.pc_check.specs.inside.Checking.{Checking}

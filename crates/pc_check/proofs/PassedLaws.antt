@@ -1,13 +1,14 @@
 -- What passed last of an activity, and why it passes again.
 use Rattle.std.proofs.Common.{◌≡◌, ◌≢◌, ℕ, ◌+◌, ◌<◌, ◌≤◌, zero, suc, Bool, true, false, not, ◌&&◌, ◌||◌, List, [], length, replicate, set, None, refl, sym, ap, subst, ◌∙◌, arith, ⊎_elim}
-use Rattle.std.specs.Prelude.{◌==◌, nat_lt, slice_index, slice_index_or, if◌then◌else◌}
+use Rattle.std.specs.Prelude.{◌==◌, nat_lt, slice_index, slice_index_or}
+use Rattle.std.proofs.Math.Bool.{or-false}
 use Rattle.std.proofs.lemmas.Bool.{cases_eq, eq-eqb, eqb-true, le-leb, le-ltb}
 use Rattle.std.proofs.lemmas.List.{get_or_default, get_or-replicate, get_or-set_same, get_or-set_other, length-replicate, length-set}
 use Rattle.pc_model.specs.declared.Knee.{Knee}
 use Rattle.pc_model.specs.inside.Pieces.{knee_at}
 use Rattle.pc_model.specs.Schedule.{normal_of, crash_of, lesser_of}
 use Rattle.pc_model.specs.Walk.{from_of, to_of}
-use Rattle.pc_laws.specs.Segment.{head_at, span, tail_at}
+use Rattle.pc_laws.specs.Segment.{Segment, head_at, span, tail_at}
 use Rattle.pc_crash.specs.inside.KneeLists.{AreKneesOf}
 use Rattle.pc_crash.specs.Priced.{PricedNetwork, knees_in}
 use Rattle.pc_cert.specs.declared.line.CertLine.TheVariants.{Act}
@@ -21,7 +22,7 @@ use Rattle.pc_check.specs.inside.KneeTests.{is_slack_over}
 use Rattle.pc_check.specs.inside.Passed.{IsWithin, FitsWithin, HasPassed, IsPassed, passed_at, flow_of, cost_of, ArePassed, IsNothing, ComesAgain, PassesAcross}
 use Rattle.pc_check.specs.inside.Kept.{stretch_of}
 use Rattle.pc_check.specs.inside.Safe.{IsRenewed, IsSafe, AddsAct, IsCutOf}
-use Rattle.pc_check.specs.declared.advancing.Cut.{Cut}
+use Rattle.pc_check.specs.declared.cut.Cut.{Cut}
 use Rattle.pc_check.specs.declared.kept.Tally.{Tally}
 use Rattle.pc_check.specs.declared.passed.Passed.{Passed}
 use Rattle.pc_check.proofs.BelowLaws.{and_parts, passes_behind}
@@ -111,42 +112,7 @@ row_renewed {net} {rows} a row are known =
       others = λ b other. get_or-set_other rows a b row _ other;
     }
 
--- ---- what an activity adds that does not cross the cut
-
-quiet : (b : Bool) (old x : ℕ) → b ≡ false → old ≡ old + (if b then x else 0)
-quiet true old x none = absurd cc
-quiet false old x none = omega arith
-
-goes_on : (old stops : Bool) → stops ≡ false → old ≡ (old || stops)
-goes_on true stops none = refl
-goes_on false stops none = sym none
-
-pub adds_again : {net : PricedNetwork} {old new : Tally} → IsStill net.network.arcs (stretch_of old).moves old.acts → HasPassed net old.acts (passed_at old.rows.items old.acts)
-    → new ≡ record old { acts = old.acts + 1 }
-    → AddsAct net old (passed_at old.rows.items old.acts).duration (passed_at old.rows.items old.acts).flows new
-adds_again {net} {old} {new} still has rest =
-    let parts = rests net.network.arcs (stretch_of old) old.acts still in
-    let rows : new.rows.items ≡ old.rows.items = ap (λ t. t.rows.items) rest in record {
-      rest = rest ∙ rw (
-        ap (λ t. t.rows) rest,
-        ap (λ t. t.inflow) rest,
-        ap (λ t. t.outflow) rest,
-        ap (λ t. t.spent) rest,
-        ap (λ t. t.forward) rest,
-        ap (λ t. t.backward) rest,
-        ap (λ t. t.stops) rest,
-      ) refl;
-      row = record {
-        flow = ap (λ r. flow_of r old.acts) rows ∙ has.flow;
-        cost = ap (λ r. cost_of r old.acts) rows ∙ has.cost;
-        others = λ b other. ap (λ r. passed_at r b) rows;
-      };
-      forward = ap (λ t. t.forward) rest ∙ quiet _ old.forward _ parts.0;
-      backward = ap (λ t. t.backward) rest ∙ quiet _ old.backward _ parts.1;
-      stops = ap (λ t. t.stops) rest ∙ goes_on old.stops _ (no_stop_in net (stretch_of old) old.acts still);
-    }
-
--- ---- what an activity adds, wherever it leads
+-- ---- what an activity adds that passes as it passed last
 
 pub adds_across : {net : PricedNetwork} {old new : Tally} {more : Cut} → IsCutOf net (stretch_of old) old.acts more
     → HasPassed net old.acts (passed_at old.rows.items old.acts)
@@ -172,6 +138,33 @@ adds_across {net} {old} {new} {more} adds has rest =
       backward = ap (λ t. t.backward) rest ∙ ap (λ n. old.backward + n) adds.backward;
       stops = ap (λ t. t.stops) rest ∙ ap (λ b. old.stops || b) adds.stops;
     }
+
+-- where it does not cross the cut, it adds nothing to the sums
+abbrev no_cut : Cut
+no_cut = record { forward = 0; backward = 0; stops = false }
+
+adds_nothing : {net : PricedNetwork} (seg : Segment) (a : ℕ) → IsStill net.network.arcs seg.moves a → IsCutOf net seg a no_cut
+adds_nothing {net} seg a still =
+    let parts = rests net.network.arcs seg a still in
+    record {
+      forward = rw (parts.0) refl;
+      backward = rw (parts.1) refl;
+      stops = sym (no_stop_in net seg a still);
+      small_forward = omega arith;
+      small_backward = omega arith;
+    }
+
+same_sums : (old : Tally) → record old { acts = old.acts + 1 }
+    ≡ record old { acts = old.acts + 1; forward = old.forward + 0; backward = old.backward + 0; stops = old.stops || false }
+same_sums old =
+    ap (λ n. record old { acts = old.acts + 1; forward = n }) (omega arith)
+    ∙ ap (λ n. record old { acts = old.acts + 1; forward = old.forward + 0; backward = n }) (omega arith)
+    ∙ ap (λ b. record old { acts = old.acts + 1; forward = old.forward + 0; backward = old.backward + 0; stops = b }) (sym (or-false old.stops))
+
+pub adds_again : {net : PricedNetwork} {old new : Tally} → IsStill net.network.arcs (stretch_of old).moves old.acts → HasPassed net old.acts (passed_at old.rows.items old.acts)
+    → new ≡ record old { acts = old.acts + 1 }
+    → AddsAct net old (passed_at old.rows.items old.acts).duration (passed_at old.rows.items old.acts).flows new
+adds_again {net} {old} {new} still has rest = adds_across (adds_nothing (stretch_of old) old.acts still) has (rest ∙ same_sums old)
 
 -- the sums of the cut have grown, and one more has come
 pub safe_across : {net : PricedNetwork} {old : Tally} {more : Cut} → IsSafe net old → old.acts < length net.network.arcs

@@ -7,7 +7,8 @@ pub mod Safe
 pub mod Bounds
 pub mod Passed
 pub mod Fronts
-pub mod Again
+pub mod Rows
+pub mod Reasons
 pub mod Along
 pub mod Advances
 pub mod Additions

@@ -15,7 +15,6 @@ ghost use Rattle.std.specs.Prelude.{
   length,
   slice_index,
   vec_len,
-  if◌then◌else◌,
 };
 ghost use Rattle.pc_cert.specs.Grammar.{next};
 ghost use Rattle.pc_cert.specs.declared.line.CertLine.TheVariants.{Step, Act};
@@ -23,26 +22,22 @@ ghost use Rattle.pc_check.specs.inside.Advances.{Adds, AddsStep, Advances};
 ghost use Rattle.pc_check.specs.inside.Bounds.{IsBounded, lines_left};
 ghost use Rattle.pc_check.specs.Conditions.{conditions};
 ghost use Rattle.pc_check.specs.Failures.{first_failing};
+ghost use Rattle.pc_check.specs.inside.Reasons.{reason_of};
 ghost use Rattle.pc_check.specs.inside.Kept.{known_by, stretch_of};
 ghost use Rattle.pc_check.specs.inside.Additions.{IsAct, MayBeAdded};
-ghost use Rattle.pc_check.specs.inside.Safe.{IsSafe, IsBegun, IsExchanged, IsRenewed, AddsAct, joined};
-ghost use Rattle.pc_laws.specs.Segment.{is_forward, is_backward, rises_above, span};
-ghost use Rattle.pc_crash.specs.Priced.{knees_in};
-ghost use Rattle.pc_check.specs.inside.KneeTests.{rises_over};
+ghost use Rattle.pc_check.specs.inside.Safe.{IsSafe, IsBegun, IsExchanged, IsRenewed, AddsAct};
 ghost use Rattle.pc_check.specs.inside.Crossings.{IsCrossing};
 ghost use Rattle.pc_check.specs.inside.Passed.{HasPassed};
-ghost use Rattle.pc_check.specs.Segments.{stops_in};
 
-use crate::acts::{rises_over, stops};
 use crate::condition::Condition;
-use crate::gaps::{Crossing, Gap, crossing_of};
+use crate::cut::cut_of;
+use crate::gaps::{Crossing, crossing_of};
 use crate::kept::{Kept, Tally};
 use crate::passed::{Passed, passed_of};
 use crate::reasons::{has_act_code, reason, reason_at_act};
 use crate::walk::stepped;
 use pc_cert::{CertLine, Flows, KnownLine, Place};
 use pc_crash::CrashNet;
-use pc_model::Knee;
 use pc_text::Code;
 
 /// Takes a line that is allowed here; `behind` is the place after it.
@@ -54,12 +49,12 @@ pub(crate) fn advance(
     known: &KnownLine,
     line: &CertLine,
     behind: Place,
-) -> Option<u8>
+) -> Option<Condition>
     requires safe { IsSafe net.now kept.old.tally }
     requires bounded { IsBounded net.now kept.old }
     requires known { known.now.line ≡ Some line.now }
     requires goes { next kept.old.place line.now ≡ Some behind }
-    ensures reason { result ≡ first_failing (conditions net.now (known_by kept.old) line.now) }
+    ensures reason { reason_of result ≡ first_failing (conditions net.now (known_by kept.old) line.now) }
     ensures advances { IfNone result (Advances net.now line.now kept.old kept.new) }
     ensures same { OnSome result (kept.new ≡ kept.old) }
     ensures bounded { IsBounded net.now kept.new }
@@ -71,7 +66,7 @@ pub(crate) fn advance(
     let _events = net.net().events();
     let _activities = net.net().activities();
     match judge(net, kept, known, line) {
-        Some(reason) => Some(reason),
+        Some(condition) => Some(condition),
         None => {
             kept.place = behind;
             kept.lines += 1;
@@ -81,12 +76,17 @@ pub(crate) fn advance(
 }
 
 /// Adds a line to what is kept, or answers the first condition that is reported there and does not hold.
-fn judge(net: &CrashNet<'_>, kept: &mut Kept, known: &KnownLine, line: &CertLine) -> Option<u8>
+fn judge(
+    net: &CrashNet<'_>,
+    kept: &mut Kept,
+    known: &KnownLine,
+    line: &CertLine,
+) -> Option<Condition>
     requires safe { IsSafe net.now kept.old.tally }
     requires known { known.now.line ≡ Some line.now }
     requires fits { first_failing (conditions net.now (known_by kept.old) line.now) ≡ None →
         MayBeAdded net.now line.now kept.old }
-    ensures reason { result ≡ first_failing (conditions net.now (known_by kept.old) line.now) }
+    ensures reason { reason_of result ≡ first_failing (conditions net.now (known_by kept.old) line.now) }
     ensures added { IfNone result (Adds net.now line.now kept.old kept.new) }
     ensures same { OnSome result (kept.new ≡ kept.old) }
     ensures safe { IsSafe net.now kept.new.tally }
@@ -98,7 +98,7 @@ fn judge(net: &CrashNet<'_>, kept: &mut Kept, known: &KnownLine, line: &CertLine
             flows,
         } => judge_act(net, kept, known, code, *duration, flows),
         _ => match reason(net, kept, line) {
-            Some(reason) => Some(reason),
+            Some(condition) => Some(condition),
             None => {
                 add(net, kept, line);
                 None
@@ -116,21 +116,22 @@ fn judge_act(
     code: &Code,
     duration: u64,
     flows: &Flows,
-) -> Option<u8>
+) -> Option<Condition>
     requires safe { IsSafe net.now kept.old.tally }
     requires known { known.now.line ≡ Some (Act code.now duration flows.now) }
-    ensures reason { result ≡ first_failing (conditions net.now (known_by kept.old) (Act code.now duration flows.now)) }
+    ensures reason { reason_of result ≡
+        first_failing (conditions net.now (known_by kept.old) (Act code.now duration flows.now)) }
     ensures added { IfNone result (Adds net.now (Act code.now duration flows.now) kept.old kept.new) }
     ensures same { OnSome result (kept.new ≡ kept.old) }
     ensures safe { IsSafe net.now kept.new.tally }
 {
     let a = kept.tally.acts;
     if !has_act_code(net, a, code, flows) {
-        return Some(Condition::Codes as u8);
+        return Some(Condition::Codes);
     }
     let crossing = crossing_of(net, &kept.tally, a);
     match reason_at_act(net, kept, &crossing, duration, flows) {
-        Some(reason) => Some(reason),
+        Some(condition) => Some(condition),
         None => {
             let passed = passed_of(net, a, known, duration, flows);
             add_act(net, &mut kept.tally, &crossing, passed);
@@ -263,60 +264,6 @@ fn renew(net: &CrashNet<'_>, tally: &mut Tally, passed: Passed)
     exchange(&mut tally.outflow, from, flow, passed.flow);
     tally.spent = tally.spent - cost + passed.cost;
     tally.rows[a as usize] = passed;
-}
-
-/// The sums and the stop of the cut, or what an activity adds to them.
-#[derive(Clone, Copy)]
-pub(crate) struct Cut {
-    pub(crate) forward: u128,
-    pub(crate) backward: u128,
-    pub(crate) stops: bool,
-}
-
-impl Cut {
-    /// Adds what an activity adds to the cut.
-    pub(crate) fn add(&mut self, more: &Cut)
-        requires forward { self.old.forward + more.now.forward < 2 ^ 128 }
-        requires backward { self.old.backward + more.now.backward < 2 ^ 128 }
-        ensures { self.new ≡ joined self.old more.now }
-    {
-        self.forward += more.forward;
-        self.backward += more.backward;
-        self.stops = self.stops || more.stops;
-    }
-}
-
-/// What an activity adds to the cut: the rises of its knees above its gap, at the lower end where it is forward and at
-/// the upper end where it is backward, and whether it stops at the lower end.
-pub(crate) fn cut_of(net: &CrashNet<'_>, tally: &Tally, a: u32, crossing: &Crossing) -> Cut
-    requires known { a < length net.now.network.arcs }
-    requires crossing { IsCrossing net.now.network.arcs (stretch_of tally.now) a crossing.now }
-    ensures forward { result.forward ≡ (if is_forward net.now.network.arcs (stretch_of tally.now).moves a
-        then rises_above net.now.network (knees_in net.now) (stretch_of tally.now) (span (stretch_of tally.now)) a
-        else 0) }
-    ensures backward { result.backward ≡ (if is_backward net.now.network.arcs (stretch_of tally.now).moves a
-        then rises_above net.now.network (knees_in net.now) (stretch_of tally.now) 0 a else 0) }
-    ensures stops { result.stops ≡ stops_in net.now (stretch_of tally.now) a }
-    ensures small_forward { result.forward < 2 ^ 67 }
-    ensures small_backward { result.backward < 2 ^ 67 }
-{
-    let list = net.knees(a);
-    let knees = list.as_slice();
-    Cut {
-        forward: rises_if(crossing.forward, crossing.lower, knees),
-        backward: rises_if(crossing.backward, crossing.upper, knees),
-        stops: stops(crossing, net.term(a).crash, knees),
-    }
-}
-
-/// The rises of the knees above the gap, where they count.
-fn rises_if(counts: bool, gap: Gap, knees: &[Knee]) -> u128
-    requires few { length knees.now ≤ 5 }
-    requires small { gap.tail < 2 ^ 65 }
-    ensures sum { result ≡ (if counts then rises_over gap.head gap.tail knees.now else 0) }
-    ensures small { result < 2 ^ 67 }
-{
-    if counts { rises_over(gap, knees) } else { 0 }
 }
 
 /// Takes a number out of the sum of an event, and another into it.

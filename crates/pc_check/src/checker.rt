@@ -11,9 +11,9 @@ ghost use Rattle.pc_check.specs.inside.Checking.{StandsFor};
 ghost use Rattle.pc_check.specs.inside.Along.{TakesAlong};
 ghost use Rattle.pc_check.specs.declared.checker.Fail.{Fail};
 
-use crate::across::advance_acts;
+use crate::act_rows::advance_acts;
 use crate::advancing::advance;
-use crate::again::advance_events;
+use crate::event_rows::advance_events;
 use crate::kept::{Kept, fronts_of, kept_of};
 use pc_cert::{CertLine, CertReader, EventFront, KnownLine, Place};
 use pc_crash::CrashNet;
@@ -91,26 +91,13 @@ impl<'n> Checker<'n> {
             return Some(fail);
         }
         match self.kept.place.next(&line) {
-            Some(behind) => self.take_before(&line, behind),
+            Some(behind) => self.take_known(&KnownLine::of(line), &line, behind),
             None => unreachable!(),
         }
     }
 
-    /// Takes one more line as `take` does, by reference, for a caller that knows the place of the next line.
-    pub(crate) fn take_before(&mut self, line: &CertLine, behind: Place) -> Option<Fail>
-        requires { IfNone self.old.fail (next self.old.kept.place line.now ≡ Some behind) }
-        ensures stands { (lines : List CertLine) → StandsFor self.old lines →
-            StandsFor self.new (lines ++ line.now ∷ []) }
-        ensures fail { result ≡ self.new.fail }
-        ensures again { (fail : Fail) → self.old.fail ≡ Some fail → self.new ≡ self.old }
-        ensures net { self.new.net ≡ self.old.net }
-        ensures few { IfNone result (self.new.kept.lines < 2 ^ 63) }
-        ensures left { IfNone result (lines_left self.new.net self.new.kept < lines_left self.old.net self.old.kept) }
-    {
-        self.take_known(&KnownLine::of(*line), line, behind)
-    }
-
-    /// As `take_before`, of a line that is known: where it is an activity's, its bytes are kept.
+    /// Takes one more line as `take` does, for a caller that knows the line with its bytes and the place of the next
+    /// line. It keeps the bytes of an activity's line.
     pub(crate) fn take_known(
         &mut self,
         known: &KnownLine,
@@ -132,10 +119,10 @@ impl<'n> Checker<'n> {
         }
         match advance(self.net, &mut self.kept, known, line, behind) {
             None => None,
-            Some(reason) => {
+            Some(condition) => {
                 let fail = Fail {
                     line: self.kept.lines + 1,
-                    reason,
+                    reason: condition.number(),
                 };
                 self.fail = Some(fail);
                 Some(fail)

@@ -3,6 +3,7 @@ ghost use Rattle.std.specs.Prelude.{◌≡◌, ◌<◌, ◌||◌, ◌==◌};
 ghost use Rattle.pc_cert.specs.declared.line.CertLine.TheVariants.{Close};
 ghost use Rattle.pc_check.specs.Conditions.{conditions, is_conserved, has_cut_gain, has_stop};
 ghost use Rattle.pc_check.specs.Failures.{first_failing};
+ghost use Rattle.pc_check.specs.inside.Reasons.{reason_of};
 ghost use Rattle.pc_check.specs.inside.Kept.{known_by};
 ghost use Rattle.pc_check.specs.inside.Safe.{IsSafe};
 
@@ -11,24 +12,24 @@ use crate::kept::Kept;
 use pc_crash::CrashNet;
 
 /// The first condition that is reported at the end of a segment and does not hold.
-pub(crate) fn reason_at_close(net: &CrashNet<'_>, kept: &Kept) -> Option<u8>
+pub(crate) fn reason_at_close(net: &CrashNet<'_>, kept: &Kept) -> Option<Condition>
     requires { IsSafe net.now kept.now.tally }
-    ensures { result ≡ first_failing (conditions net.now (known_by kept.now) Close) }
+    ensures { reason_of result ≡ first_failing (conditions net.now (known_by kept.now) Close) }
 {
     if !is_conserved(net, kept) {
-        return Some(Condition::Conservation as u8);
+        return Some(Condition::Conservation);
     }
     if !leaves_start(net, kept) {
-        return Some(Condition::Outflow as u8);
+        return Some(Condition::Outflow);
     }
     if kept.tally.spent != kept.tally.cost {
-        return Some(Condition::Cost as u8);
+        return Some(Condition::Cost);
     }
     if !has_cut_gain(net, kept) {
-        return Some(Condition::CutGain as u8);
+        return Some(Condition::CutGain);
     }
     if !has_stop(kept) {
-        return Some(Condition::Stop as u8);
+        return Some(Condition::Stop);
     }
     None
 }

@@ -1,6 +1,8 @@
-//! The conditions of a certificate, by the numbers that report them.
+//! The conditions of a certificate, and the numbers that report them.
+ghost use Rattle.std.specs.Prelude.{◌≡◌};
+ghost use Rattle.pc_check.specs.inside.Reasons.{number_of};
 
-/// A condition of a certificate. As a number it is the reason that a failure reports.
+/// A condition of a certificate. Its number is the reason that a failure reports.
 #[derive(Clone, Copy)]
 pub(crate) enum Condition {
     /// The head is that of the deck.
@@ -33,4 +35,13 @@ pub(crate) enum Condition {
     Stop = 14,
     /// The segments cover the range once.
     Cover = 15,
+}
+
+impl Condition {
+    /// Returns the number that reports the condition, from 1 to 15.
+    pub(crate) fn number(self) -> u8
+        ensures { result ≡ number_of self }
+    {
+        self as u8
+    }
 }

@@ -3,14 +3,15 @@
 //! that write certificates.
 #![tactic(auto)]
 
-mod across;
+mod act_rows;
 mod acts;
 mod advancing;
-mod again;
 mod audit;
 mod checker;
 mod closing;
 mod condition;
+mod cut;
+mod event_rows;
 mod gaps;
 mod kept;
 mod meaning;

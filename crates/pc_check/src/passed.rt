@@ -3,7 +3,7 @@ ghost use Rattle.std.specs.Prelude.{◌≡◌, ◌≢◌, ℕ, ◌+◌, ◌^◌,
 ghost use Rattle.pc_crash.specs.Priced.{knees_in};
 ghost use Rattle.pc_model.specs.Schedule.{normal_of};
 ghost use Rattle.pc_check.specs.Conditions.{keeps_rises};
-ghost use Rattle.pc_check.specs.inside.Again.{across_at};
+ghost use Rattle.pc_check.specs.inside.Rows.{across_at};
 ghost use Rattle.pc_check.specs.inside.Kept.{known_by};
 ghost use Rattle.pc_check.specs.inside.Passed.{
   IsLineOf,
@@ -16,7 +16,7 @@ ghost use Rattle.pc_check.specs.inside.Passed.{
 };
 
 use crate::acts::flow_sum;
-use crate::advancing::Cut;
+use crate::cut::Cut;
 use crate::gaps::Gap;
 use crate::kept::{Kept, known_bit, known_number};
 use pc_cert::{Flows, KnownLine, LineText};

@@ -15,6 +15,7 @@ ghost use Rattle.pc_check.specs.Conditions.{
   is_slack_in,
 };
 ghost use Rattle.pc_check.specs.Failures.{first_failing};
+ghost use Rattle.pc_check.specs.inside.Reasons.{reason_of};
 ghost use Rattle.pc_laws.specs.Segment.{span};
 ghost use Rattle.pc_crash.specs.Priced.{knees_in};
 ghost use Rattle.pc_check.specs.inside.Crossings.{IsCrossing};
@@ -33,10 +34,10 @@ use pc_crash::CrashNet;
 use pc_text::Code;
 
 /// The first condition that is reported at the line and does not hold, where it is not the line of an activity.
-pub(crate) fn reason(net: &CrashNet<'_>, kept: &Kept, line: &CertLine) -> Option<u8>
+pub(crate) fn reason(net: &CrashNet<'_>, kept: &Kept, line: &CertLine) -> Option<Condition>
     requires safe { IsSafe net.now kept.now.tally }
     requires other { IsAct line.now → ⊥ }
-    ensures { result ≡ first_failing (conditions net.now (known_by kept.now) line.now) }
+    ensures { reason_of result ≡ first_failing (conditions net.now (known_by kept.now) line.now) }
 {
     match line {
         CertLine::Head {
@@ -58,7 +59,7 @@ pub(crate) fn reason(net: &CrashNet<'_>, kept: &Kept, line: &CertLine) -> Option
             if is_through(net, kept.tally.lower, kept.crash) {
                 None
             } else {
-                Some(Condition::CrashWalk as u8)
+                Some(Condition::CrashWalk)
             }
         }
         _ => None,
@@ -71,8 +72,9 @@ fn reason_at_head(
     project: &Code,
     events: u64,
     activities: u64,
-) -> Option<u8>
-    ensures { result ≡ first_failing (condition 1 (has_head net.now version project.now events activities) ∷ []) }
+) -> Option<Condition>
+    ensures { reason_of result ≡
+        first_failing (condition 1 (has_head net.now version project.now events activities) ∷ []) }
 {
     let known_version = if net.has_pieces() { 2 } else { 1 };
     let has_head = version == known_version
@@ -82,7 +84,7 @@ fn reason_at_head(
     if has_head {
         None
     } else {
-        Some(Condition::Head as u8)
+        Some(Condition::Head)
     }
 }
 
@@ -92,14 +94,14 @@ fn reason_at_segment(
     upper: u64,
     lower: u64,
     slope: u64,
-) -> Option<u8>
-    ensures { result ≡ first_failing (conditions net.now (known_by kept.now) (Segment upper lower 0 slope)) }
+) -> Option<Condition>
+    ensures { reason_of result ≡ first_failing (conditions net.now (known_by kept.now) (Segment upper lower 0 slope)) }
 {
     if kept.segments == 0 && !is_through(net, upper, kept.normal) {
-        return Some(Condition::NormalWalk as u8);
+        return Some(Condition::NormalWalk);
     }
     if !has_joined_ends(kept, upper, lower, slope) {
-        return Some(Condition::Cover as u8);
+        return Some(Condition::Cover);
     }
     None
 }
@@ -122,22 +124,22 @@ fn reason_at_event(
     code: &Code,
     time: u64,
     moves: bool,
-) -> Option<u8>
-    ensures { result ≡ first_failing (conditions net.now (known_by kept.now) (Event code.now time moves)) }
+) -> Option<Condition>
+    ensures { reason_of result ≡ first_failing (conditions net.now (known_by kept.now) (Event code.now time moves)) }
 {
     let e = kept.tally.times.len();
     if !has_event_code(net, e, code) {
-        return Some(Condition::Codes as u8);
+        return Some(Condition::Codes);
     }
     let is_one_length = kept.tally.upper == kept.tally.lower;
     let starts = e != net.net().start() as usize || (time == 0 && !moves);
     let ends = e != net.net().end() as usize
         || (time == kept.tally.upper && (moves || is_one_length));
     if !(starts && ends) {
-        return Some(Condition::Ends as u8);
+        return Some(Condition::Ends);
     }
     if is_one_length && moves {
-        return Some(Condition::Cover as u8);
+        return Some(Condition::Cover);
     }
     None
 }
@@ -156,29 +158,29 @@ pub(crate) fn reason_at_act(
     crossing: &Crossing,
     duration: u64,
     flows: &Flows,
-) -> Option<u8>
+) -> Option<Condition>
     requires known { kept.now.tally.acts < length net.now.network.arcs }
     requires crossing { IsCrossing net.now.network.arcs (stretch_of kept.now.tally) kept.now.tally.acts crossing.now }
     requires flows { length flows.now ≡ (knees_in net.now).count kept.now.tally.acts + 1 }
     ensures { (code : List ℕ) → IsTrue (has_act_code net.now kept.now.tally.acts code flows.now)
-        → result ≡ first_failing (conditions net.now (known_by kept.now) (Act code duration flows.now)) }
+        → reason_of result ≡ first_failing (conditions net.now (known_by kept.now) (Act code duration flows.now)) }
 {
     let tally = &kept.tally;
     let a = tally.acts;
     if !has_gaps(net, tally, a, crossing) {
-        return Some(Condition::Gaps as u8);
+        return Some(Condition::Gaps);
     }
     if !has_duration(net, kept, a, duration) {
-        return Some(Condition::Duration as u8);
+        return Some(Condition::Duration);
     }
     if !has_small_flows(net, a, flows) {
-        return Some(Condition::Rises as u8);
+        return Some(Condition::Rises);
     }
     if !fits_gaps(net, tally, a, crossing, flows) {
-        return Some(Condition::Slackness as u8);
+        return Some(Condition::Slackness);
     }
     if tally.upper == tally.lower && !is_still(flows.as_slice()) {
-        return Some(Condition::Cover as u8);
+        return Some(Condition::Cover);
     }
     None
 }

@@ -2,6 +2,7 @@ use Rattle.std.proofs.Common.{◌^◌, ◌<◌, ◌≤◌, length, refl, sym, ap
 use Rattle.pc_model.specs.declared.limits.TheConstants.{MAX_EVENTS, MAX_ACTIVITIES}
 use Rattle.pc_check.specs.inside.Bounds.{IsBounded}
 use Rattle.pc_check.proofs.BoundLaws.{Passes, bounded_behind, fewer_behind, may_be_added, lines_few, lines_kept}
+use Rattle.pc_check.specs.inside.Reasons.{reason_of}
 use Rattle.pc_check.proofs.advancing.advance.Goals as goal
 
 pub judge-requires-clause-safe : goal.judge-requires-clause-safe
@@ -11,7 +12,7 @@ pub judge-requires-clause-known : goal.judge-requires-clause-known
 judge-requires-clause-known c = c.requires.known
 
 pub returns-in-Some-clause-reason : goal.returns-in-Some-clause-reason
-returns-in-Some-clause-reason c = sym c.in-Some.is ∙ c.judge.ensures.reason
+returns-in-Some-clause-reason c = ap reason_of (sym c.in-Some.is) ∙ c.judge.ensures.reason
 
 pub returns-in-Some-clause-same : goal.returns-in-Some-clause-same
 returns-in-Some-clause-same c = c.in-Some.ensures.same
@@ -34,11 +35,11 @@ overflow_add-kept c =
     omega (arith, few, lines_kept _ _ _ _ c.in-None.ensures.added)
 
 pub returns-in-None-clause-reason : goal.returns-in-None-clause-reason
-returns-in-None-clause-reason c = sym c.in-None.is ∙ c.judge.ensures.reason
+returns-in-None-clause-reason c = ap reason_of (sym c.in-None.is) ∙ c.judge.ensures.reason
 
 pub returns-in-None-clause-few : goal.returns-in-None-clause-few
 returns-in-None-clause-few c =
-    let passes : Passes c.args.net.now c.args.line.now c.args.kept.now c.args.behind = record { goes = c.requires.goes; passes = sym c.judge.ensures.reason ∙ c.in-None.is } in
+    let passes : Passes c.args.net.now c.args.line.now c.args.kept.now c.args.behind = record { goes = c.requires.goes; passes = sym c.judge.ensures.reason ∙ ap reason_of c.in-None.is } in
     lines_few (bounded_behind c.judge.new.kept c.requires.bounded passes c.in-None.ensures.added)
     (omega (arith, c.events-events.ensures.limit, c.events-events.ensures.events, ap (λ n. n.events) c.net.ensures.network))
     (omega (arith, c.activities-activities.ensures.limit, c.activities-activities.ensures.activities, ap (λ n. length n.arcs) c.net-2.ensures.network))
@@ -65,10 +66,10 @@ returns-in-None-clause-advances c =
 
 pub returns-in-None-clause-bounded : goal.returns-in-None-clause-bounded
 returns-in-None-clause-bounded c =
-    let passes : Passes c.args.net.now c.args.line.now c.args.kept.now c.args.behind = record { goes = c.requires.goes; passes = sym c.judge.ensures.reason ∙ c.in-None.is } in
+    let passes : Passes c.args.net.now c.args.line.now c.args.kept.now c.args.behind = record { goes = c.requires.goes; passes = sym c.judge.ensures.reason ∙ ap reason_of c.in-None.is } in
     bounded_behind c.judge.new.kept c.requires.bounded passes c.in-None.ensures.added
 
 pub returns-in-None-clause-left : goal.returns-in-None-clause-left
 returns-in-None-clause-left c =
-    let passes : Passes c.args.net.now c.args.line.now c.args.kept.now c.args.behind = record { goes = c.requires.goes; passes = sym c.judge.ensures.reason ∙ c.in-None.is } in
+    let passes : Passes c.args.net.now c.args.line.now c.args.kept.now c.args.behind = record { goes = c.requires.goes; passes = sym c.judge.ensures.reason ∙ ap reason_of c.in-None.is } in
     fewer_behind c.judge.new.kept c.requires.bounded passes c.in-None.ensures.added

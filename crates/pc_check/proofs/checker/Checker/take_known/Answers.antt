@@ -28,8 +28,8 @@ returns-in-Some-advance-clause-stands c = λ lines h.
     let before = is_going c.self.inside.net.now c.self.inside.kept c.self.inside.fail lines none (subst (λ s. StandsFor s lines) (sym c.self.view_is) h) in
     let bounded = when_none c.self.inside.fail none c.self.invariant.bounded in
     let goes = when_none c.self.inside.fail none (subst (λ (s : Checking). IfNone s.fail (next s.kept.place c.args.line.now ≡ Some c.args.behind)) (sym c.self.view_is) c.requires.goes) in
-    fails c.args.line.now c.args.behind c.in-Some-advance.reason
-    (c.advance.new.kept.lines + 1) c.self.invariant.safe bounded goes c.in-Some-advance.ensures.reason
+    fails c.args.line.now c.args.behind c.number.result
+    (c.advance.new.kept.lines + 1) c.self.invariant.safe bounded goes (ap Some c.number.ensures ∙ c.in-Some-advance.ensures.reason)
     (ap (λ k. k.lines + 1) c.in-Some-advance.ensures.same) before
 
 pub advance-requires-clause-safe : goal.advance-requires-clause-safe

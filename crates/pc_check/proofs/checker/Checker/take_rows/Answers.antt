@@ -2,7 +2,7 @@ use Rattle.std.specs.Prelude.{IfNone}
 use Rattle.std.proofs.Common.{◌≡◌, None, sym, ap, subst, ◌∙◌, arith}
 use Rattle.pc_cert.specs.inside.Reader.{Reading}
 use Rattle.pc_check.specs.declared.kept.Kept.{Kept}
-use Rattle.pc_check.specs.inside.Again.{going}
+use Rattle.pc_check.specs.inside.Rows.{going}
 use Rattle.pc_check.specs.inside.Along.{TakesAlong}
 use Rattle.pc_check.specs.inside.Bounds.{IsBounded}
 use Rattle.pc_check.specs.inside.Checking.{Checking}

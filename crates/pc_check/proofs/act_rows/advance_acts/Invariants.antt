@@ -1,7 +1,7 @@
 use Rattle.std.proofs.Common.{◌≤◌, length}
-use Rattle.pc_check.specs.inside.Again.{across_at}
+use Rattle.pc_check.specs.inside.Rows.{across_at}
 use Rattle.pc_check.proofs.AlongLaws.{IsAlong}
-use Rattle.pc_check.proofs.across.advance_acts.Given as goal
+use Rattle.pc_check.proofs.act_rows.advance_acts.Given as goal
 
 abbrev pub invariant-loop-same-2 : goal.invariant-loop-same-2
 invariant-loop-same-2 l = IsAlong l.net l.piece l.rest l.reader l.kept (across_at l.kept l.a l.cut) l.place l.count × (length l.rest ≤ length l.initial.rest)

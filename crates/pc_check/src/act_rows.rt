@@ -1,18 +1,17 @@
-//! Going on by lines that come again, also where their activities cross the cut.
-ghost use Rattle.std.specs.Prelude.{◌≡◌, ◌≢◌, ◌+◌, ◌^◌, ◌<◌, None, IfSome, length};
-ghost use Rattle.pc_check.specs.inside.Again.{AddsLine, across_at, going};
+//! Taking the rows of activities that occur again, several after one another.
+ghost use Rattle.std.specs.Prelude.{◌≡◌, ◌≢◌, ◌+◌, ◌^◌, ◌<◌, ◌≤◌, None, IfSome, length};
+ghost use Rattle.pc_check.specs.inside.Rows.{AddsLine, across_at, going};
 ghost use Rattle.pc_check.specs.inside.Along.{TakesAlong};
 ghost use Rattle.pc_check.specs.inside.Bounds.{IsBounded};
 ghost use Rattle.pc_check.specs.inside.Fronts.{AreFronts};
 ghost use Rattle.pc_check.specs.inside.Kept.{known_by, stretch_of};
-ghost use Rattle.pc_check.specs.inside.Passed.{PassesAcross};
+ghost use Rattle.pc_check.specs.inside.Passed.{ArePassed, PassesAcross};
 ghost use Rattle.pc_check.specs.inside.Safe.{IsCutOf, IsSafe, cut_in};
 
-use crate::advancing::{Cut, cut_of};
-use crate::again::pass_same;
+use crate::cut::{Cut, cut_of};
 use crate::gaps::crossing_of;
 use crate::kept::Kept;
-use crate::passed::{Passed, has_gap};
+use crate::passed::{Passed, has_gap, passes_again};
 use pc_cert::{CertReader, EventFront, Place, WIDTH};
 use pc_crash::CrashNet;
 
@@ -98,6 +97,42 @@ fn cut_so_far(kept: &Kept) -> Cut
         backward: kept.tally.backward,
         stops: kept.tally.stops,
     }
+}
+
+/// Moves past the line at the front of the piece, if it is the line of this activity that passed last and passes again.
+/// Returns how many bytes it has, with its line end. Otherwise nothing changes, and it returns 0.
+#[inline(always)]
+fn pass_same(
+    net: &CrashNet<'_>,
+    kept: &Kept,
+    a: u32,
+    activities: u32,
+    place: &mut Place,
+    piece: &[u8],
+) -> usize
+    requires count { activities ≡ length net.now.network.arcs }
+    requires rows { ArePassed net.now kept.now.tally.rows.items }
+    requires times { net.now.network.events ≤ length kept.now.tally.times.items }
+    requires moves { net.now.network.events ≤ length kept.now.tally.moves.items }
+    requires later { kept.now.segments ≢ 0 }
+    requires long { kept.now.tally.lower ≢ kept.now.tally.upper }
+    ensures known { 0 < result → a < length net.now.network.arcs }
+    ensures same_place { result ≡ 0 → place.new ≡ place.old }
+    ensures adds { (cut : Cut) → 0 < result → AddsLine net.now piece.now result place.old place.new
+        (across_at kept.now a cut) (across_at kept.now (a + 1) cut) }
+{
+    if activities <= a {
+        return 0;
+    }
+    // So no comparison in the loop asks for room: the last bytes of a piece are read one line at a time.
+    if piece.len() < WIDTH {
+        return 0;
+    }
+    let last = &kept.tally.rows[a as usize];
+    if !passes_again(net, kept, a, last) {
+        return 0;
+    }
+    place.pass_act(piece, &last.text, &last.flows)
 }
 
 /// Moves past the line at the front of the piece, if it is the line of this activity that passed last and passes again

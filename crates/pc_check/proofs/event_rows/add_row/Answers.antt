@@ -4,7 +4,7 @@ use Rattle.pc_model.specs.Codes.{text_at}
 use Rattle.pc_cert.specs.inside.Known.{IsFrontOf}
 use Rattle.pc_check.specs.inside.Fronts.{front_at}
 use Rattle.pc_check.proofs.FrontsLaws.{own_front}
-use Rattle.pc_check.proofs.again.add_told.Goals as goal
+use Rattle.pc_check.proofs.event_rows.add_row.Goals as goal
 
 pub pass_event-requires : goal.pass_event-requires
 pass_event-requires c =

@@ -1,10 +1,10 @@
-use Rattle.std.proofs.Common.{◌≡◌, ◌+◌, ◌-◌, ◌<◌, ◌≤◌, drop, length, take, refl, sym, ap, subst, ◌∙◌, arith}
+use Rattle.std.proofs.Common.{◌+◌, ◌<◌, ◌≤◌, drop, length, sym, ap, subst, arith}
 use Rattle.std.proofs.lemmas.List.{take_all, length-drop}
 use Rattle.pc_model.specs.declared.limits.TheConstants.{MAX_EVENTS, MAX_ACTIVITIES}
-use Rattle.pc_check.specs.inside.Again.{across_at}
-use Rattle.pc_check.proofs.AlongLaws.{IsAlong, along_begins, along_ends, along_more}
+use Rattle.pc_check.specs.inside.Rows.{across_at}
+use Rattle.pc_check.proofs.AlongLaws.{IsAlong, along_begins, along_more}
 use Rattle.pc_check.proofs.PassedLaws.{safe_again}
-use Rattle.pc_check.proofs.across.advance_acts.Goals as goal
+use Rattle.pc_check.proofs.act_rows.advance_acts.Goals as goal
 
 pub loop-same-init : goal.loop-same-init
 loop-same-init c =

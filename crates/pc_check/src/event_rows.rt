@@ -1,16 +1,14 @@
-//! Taking a line that occurs again, or that its first bytes identify.
-ghost use Rattle.std.specs.Prelude.{◌≡◌, ◌≢◌, ◌+◌, ◌^◌, ◌<◌, ◌≤◌, None, length};
-ghost use Rattle.pc_check.specs.inside.Again.{AddsLine, AreEnds, across_at, going};
+//! Taking the rows of events, several after one another: each is read by its beginning.
+ghost use Rattle.std.specs.Prelude.{◌≡◌, ◌≢◌, ◌^◌, ◌<◌, None, length};
+ghost use Rattle.pc_check.specs.inside.Rows.{AddsLine, AreEnds, going};
 ghost use Rattle.pc_check.specs.inside.Along.{TakesAlong};
 ghost use Rattle.pc_check.specs.inside.Bounds.{IsBounded};
 ghost use Rattle.pc_check.specs.inside.Fronts.{AreFronts};
-ghost use Rattle.pc_check.specs.inside.Passed.{ArePassed};
 ghost use Rattle.pc_check.specs.inside.Safe.{IsSafe};
 
-use crate::advancing::{Cut, add_event};
+use crate::advancing::add_event;
 use crate::kept::Kept;
-use crate::passed::passes_again;
-use pc_cert::{CertReader, EventFront, Place, WIDTH};
+use pc_cert::{CertReader, EventFront, Place};
 use pc_crash::CrashNet;
 
 /// What is asked of the network at each event: its start and its end.
@@ -70,7 +68,7 @@ pub(crate) fn advance_events(
     let mut count = 0;
     let mut rest = piece;
     loop {
-        let used = add_told(net, kept, fronts, &mut place, rest, ends);
+        let used = add_row(net, kept, fronts, &mut place, rest, ends);
         if used == 0 {
             break;
         }
@@ -86,7 +84,7 @@ pub(crate) fn advance_events(
 /// Reads the line at the front of the piece and adds it to what is kept, if it is a line of the next event and only its
 /// code can be wrong: the event is neither the start nor the end, and the segment has two ends.
 #[inline(always)]
-fn add_told(
+fn add_row(
     net: &CrashNet<'_>,
     kept: &mut Kept,
     fronts: &[EventFront],
@@ -115,40 +113,4 @@ fn add_told(
             said.used
         }
     }
-}
-
-/// Moves past the line at the front of the piece, if it is the line of this activity that passed last and passes again.
-/// Returns how many bytes it has, with its line end. Otherwise nothing changes, and it returns 0.
-#[inline(always)]
-pub(crate) fn pass_same(
-    net: &CrashNet<'_>,
-    kept: &Kept,
-    a: u32,
-    activities: u32,
-    place: &mut Place,
-    piece: &[u8],
-) -> usize
-    requires count { activities ≡ length net.now.network.arcs }
-    requires rows { ArePassed net.now kept.now.tally.rows.items }
-    requires times { net.now.network.events ≤ length kept.now.tally.times.items }
-    requires moves { net.now.network.events ≤ length kept.now.tally.moves.items }
-    requires later { kept.now.segments ≢ 0 }
-    requires long { kept.now.tally.lower ≢ kept.now.tally.upper }
-    ensures known { 0 < result → a < length net.now.network.arcs }
-    ensures same_place { result ≡ 0 → place.new ≡ place.old }
-    ensures adds { (cut : Cut) → 0 < result → AddsLine net.now piece.now result place.old place.new
-        (across_at kept.now a cut) (across_at kept.now (a + 1) cut) }
-{
-    if activities <= a {
-        return 0;
-    }
-    // So no comparison in the loop asks for room: the last bytes of a piece are read one line at a time.
-    if piece.len() < WIDTH {
-        return 0;
-    }
-    let last = &kept.tally.rows[a as usize];
-    if !passes_again(net, kept, a, last) {
-        return 0;
-    }
-    place.pass_act(piece, &last.text, &last.flows)
 }

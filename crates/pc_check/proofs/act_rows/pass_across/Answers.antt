@@ -2,12 +2,12 @@ use Rattle.std.proofs.Common.{◌+◌, ◌<◌, length, Some, refl, sym, subst, 
 use Rattle.pc_cert.specs.declared.line.CertLine.TheVariants.{Act}
 use Rattle.pc_cert.specs.inside.Known.{IsTextOf}
 use Rattle.pc_check.specs.declared.passed.Passed.{Passed}
-use Rattle.pc_check.specs.inside.Again.{across_at}
+use Rattle.pc_check.specs.inside.Rows.{across_at}
 use Rattle.pc_check.specs.inside.Kept.{known_by}
 use Rattle.pc_check.specs.inside.Passed.{HasPassed, IsPassed, PassesAcross, passed_at}
 use Rattle.pc_check.specs.inside.Safe.{AddsAct, IsSafe}
 use Rattle.pc_check.proofs.PassedLaws.{across_passes, adds_across, read_passed, row_read, safe_across}
-use Rattle.pc_check.proofs.across.pass_across.Goals as goal
+use Rattle.pc_check.proofs.act_rows.pass_across.Goals as goal
 
 pub again-requires : goal.again-requires
 again-requires c =

@@ -2,12 +2,12 @@ use Rattle.std.proofs.Common.{◌+◌, ◌<◌, length, Some, refl, sym, subst, 
 use Rattle.pc_cert.specs.declared.line.CertLine.TheVariants.{Act}
 use Rattle.pc_cert.specs.inside.Known.{IsTextOf}
 use Rattle.pc_check.specs.declared.passed.Passed.{Passed}
-use Rattle.pc_check.specs.inside.Again.{across_at}
+use Rattle.pc_check.specs.inside.Rows.{across_at}
 use Rattle.pc_check.specs.inside.Kept.{known_by}
 use Rattle.pc_check.specs.inside.Passed.{ComesAgain, HasPassed, IsPassed, passed_at}
 use Rattle.pc_check.specs.inside.Safe.{AddsAct}
 use Rattle.pc_check.proofs.PassedLaws.{adds_again, again_passes, read_passed, row_read}
-use Rattle.pc_check.proofs.again.pass_same.Goals as goal
+use Rattle.pc_check.proofs.act_rows.pass_same.Goals as goal
 
 pub pass_act-requires : goal.pass_act-requires
 pass_act-requires c =

@@ -3,7 +3,7 @@ use Rattle.std.specs.Prelude.{if◌then◌else◌}
 use Rattle.pc_crash.specs.Priced.{knees_in}
 use Rattle.pc_check.specs.inside.KneeTests.{rises_over, stops_over}
 use Rattle.pc_check.proofs.CutLaws.{rises_if-list, stops-list}
-use Rattle.pc_check.proofs.advancing.cut_of.Goals as goal
+use Rattle.pc_check.proofs.cut.cut_of.Goals as goal
 
 pub returns-clause-forward : goal.returns-clause-forward
 returns-clause-forward c =

@@ -1,4 +1,4 @@
--- A line that is taken as it is read.
+-- Rows that are taken as they are read.
 use Rattle.std.specs.Prelude.{◌≡◌, ℕ, List, Some, None}
 use Rattle.pc_cert.specs.declared.line.CertLine.{CertLine}
 use Rattle.pc_cert.specs.declared.place.Place.{Place}
@@ -6,8 +6,8 @@ use Rattle.pc_cert.specs.Grammar.{next}
 use Rattle.pc_cert.specs.inside.Grammar.{IsRow}
 use Rattle.pc_cert.specs.inside.Known.{IsAgain}
 use Rattle.pc_crash.specs.Priced.{PricedNetwork}
-use Rattle.pc_check.specs.declared.advancing.Cut.{Cut}
-use Rattle.pc_check.specs.declared.again.EndEvents.{EndEvents}
+use Rattle.pc_check.specs.declared.cut.Cut.{Cut}
+use Rattle.pc_check.specs.declared.event_rows.EndEvents.{EndEvents}
 use Rattle.pc_check.specs.declared.kept.Kept.{Kept}
 use Rattle.pc_check.specs.inside.Advances.{Adds}
 use Rattle.pc_check.specs.inside.Checking.{Checking}

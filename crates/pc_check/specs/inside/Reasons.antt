@@ -1,0 +1,27 @@
+-- The reason for which a line fails: the condition that does not hold, by its number.
+use Rattle.std.specs.Prelude.{ℕ, Option}
+use Rattle.std.specs.Option.{option_map}
+use Rattle.pc_check.specs.declared.condition.Condition.{Condition}
+use Rattle.pc_check.specs.declared.condition.Condition.TheVariants as condition
+
+-- the number that reports a condition
+abbrev pub number_of : Condition → ℕ
+number_of condition.Head = 1
+number_of condition.NormalWalk = 2
+number_of condition.CrashWalk = 3
+number_of condition.Codes = 4
+number_of condition.Ends = 5
+number_of condition.Gaps = 6
+number_of condition.Duration = 7
+number_of condition.Rises = 8
+number_of condition.Conservation = 9
+number_of condition.Outflow = 10
+number_of condition.Slackness = 11
+number_of condition.Cost = 12
+number_of condition.CutGain = 13
+number_of condition.Stop = 14
+number_of condition.Cover = 15
+
+-- the number of the condition that was found, where one was
+abbrev pub reason_of : Option Condition → Option ℕ
+reason_of found = option_map number_of found
