@@ -6,7 +6,17 @@ ghost use Rattle.pc_flow.specs.board.Sheets.{rank_of};
 ghost use Rattle.pc_flow.specs.inside.board.Labelling.{HaveRoom};
 ghost use Rattle.pc_flow.specs.inside.search.Ways.{near_in, far_in, AreLinks};
 ghost use Rattle.pc_flow.specs.inside.search.Searches.{IsSearch};
-ghost use Rattle.pc_flow.specs.inside.search.Growing.{IsAt, degree, AreListed, AreSettled, GoesOn, HasSettled, HasGrown, IsAtLost, HasLookedAgain};
+ghost use Rattle.pc_flow.specs.inside.search.Growing.{
+  IsAt,
+  degree,
+  AreListed,
+  AreSettled,
+  GoesOn,
+  HasSettled,
+  HasGrown,
+  IsAtLost,
+  HasLookedAgain,
+};
 ghost use Rattle.pc_model.specs.Sums.{sum_to};
 ghost use Rattle.pc_flow.specs.inside.board.Sheets.{lost_of};
 ghost use Rattle.pc_flow.specs.inside.board.Raising.{StandFirst};

@@ -3,7 +3,14 @@ ghost use Rattle.std.specs.Prelude.{◌≡◌, ◌+◌, ◌*◌, ◌<◌, ◌≤
 ghost use Rattle.pc_flow.specs.board.Sheets.{rank_of};
 ghost use Rattle.pc_flow.specs.inside.search.Growing.{AreListed, AreSettled};
 ghost use Rattle.pc_flow.specs.search.Labelling.{slopes_in};
-ghost use Rattle.pc_flow.specs.inside.search.Labelling.{IsBetween, IsAboveAllCrash, IsUnderWay, Rises, HasLabelled, slope_at};
+ghost use Rattle.pc_flow.specs.inside.search.Labelling.{
+  IsBetween,
+  IsAboveAllCrash,
+  IsUnderWay,
+  Rises,
+  HasLabelled,
+  slope_at,
+};
 ghost use Rattle.pc_flow.specs.inside.board.Labelling.{HaveRoom};
 ghost use Rattle.pc_flow.specs.inside.search.Searches.{IsSearch, IsPricedBoard};
 ghost use Rattle.pc_flow.specs.inside.search.Choosing.{IsStopOf, HasChosen};

@@ -28,7 +28,11 @@ pub overflow_add-self-2 : goal.overflow_add-self-2
 overflow_add-self-2 g c =
     let decides = rw (← c.self.view_is) at c.has_ended.ensures in
     let going = not_ended _ (course_of c.self.inside) decides c.if-has_ended.false in
-    omega (arith, slope-fits (course_of c.self.inside) c.self.invariant.on_course c.descend.new.board c.descend.ensures c.search_on-labelling.new.board _ _ c.search_on-labelling.ensures.searched going)
+    omega (
+      arith,
+      slope-fits (course_of c.self.inside) c.self.invariant.on_course c.descend.new.board c.descend.ensures c.search_on-labelling.new.board
+          _ _ c.search_on-labelling.ensures.searched going,
+    )
 
 pub invariant_of-self : goal.invariant_of-self
 invariant_of-self g c =
