@@ -1,11 +1,14 @@
--- The first of the faults of two lists is the earlier of their first faults.
+-- The first of the faults of two lists is the earlier of their first faults; and what an error has by its fault.
 use Rattle.std.proofs.Common.{◌≡◌, ℕ, ◌<◌, ◌≤◌, Bool, true, false, ◌&&◌, ◌||◌, ◌==◌, nat_lt, nat_le, Option, Some, None, refl, sym, subst, ◌∙◌, inl, inr, ⊎_elim, ◌⊎◌, arith, if◌then◌else◌}
 use Rattle.std.proofs.lemmas.Bool.{cases_order}
 use Rattle.std.proofs.lemmas.Bool.Decides.{nat_tests}
 use Rattle.pc_faults.specs.First.{IsFirstFault, IsNoLater}
 use Rattle.pc_faults.specs.declared.fault.Fault.{Fault}
-use Rattle.pc_faults.specs.inside.First.{IsFirstIn, earliest, is_no_later}
+use Rattle.pc_faults.specs.declared.fault.DeckError.{DeckError}
+use Rattle.pc_faults.specs.declared.fault.DeckError.TheVariants as errors
+use Rattle.pc_faults.specs.inside.First.{IsFirstIn, Refuses, earliest, is_no_later}
 
+-- the test in numbers: record and number of one fault and of another
 first_by_test : (r n s m : ℕ) → (nat_lt r s || (r == s && nat_le n m)) ≡ true → (r < s) ⊎ ((r ≡ s) × (n ≤ m))
 first_by_test r n s m h =
     elim (cases_order r s) [
@@ -83,3 +86,8 @@ earliest-none (Some f) (Some g) h = absurd (by (is_no_later f g) h)
 pub earliest-alone : (one : Option Fault) → earliest one None ≡ one
 earliest-alone None = refl
 earliest-alone (Some fault) = refl
+
+-- what follows from what the fault of an error has is what the error has
+pub refused_by : (P Q : Fault → Type 0) → ((fault : Fault) → P fault → Q fault) → (error : DeckError) → Refuses P error → Refuses Q error
+refused_by P Q follows (errors.Fault fault) has = follows fault has
+refused_by P Q follows errors.OutOfMemory has = tt
