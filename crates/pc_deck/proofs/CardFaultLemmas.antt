@@ -16,10 +16,12 @@ use Rattle.pc_cards.specs.Cards.{Numbered}
 use Rattle.pc_cards.specs.Named.{is_among}
 use Rattle.pc_cards.specs.Findings.{width_wanted}
 use Rattle.pc_cards.specs.inside.Findings.{wrong_fields, misshapen_at, over_limit_at, flaw_of_fields, repeated, one_too_many, fault_of_place}
+use Rattle.pc_cards.proofs.FitLemmas.{neither, no_shape, not_not, not_so}
 use Rattle.pc_deck.specs.Judged.{Seen}
 use Rattle.pc_deck.specs.inside.Judged.{place_of, not_project, second, fault_of_kind, unless, no_kind, judge_of, judge}
 use Rattle.pc_deck.specs.Refusal.{HasCardFault, is_whole_as}
 use Rattle.pc_deck.specs.Refusal as has
+use Rattle.pc_deck.proofs.KindLemmas.{Some-injective}
 
 -- what was found, if anything, is of the record `row`, with a number up to n
 abbrev Bounded : Option Fault → ℕ → ℕ → Type 0
@@ -301,9 +303,6 @@ found_in : (first later : Option Fault) (fault : Fault) → option_or first late
 found_in None later fault h = inr (refl, h)
 found_in (Some found) later fault h = inl h
 
-Some-injective : {A : Type 0} (x y : A) → ◌≡◌ {A = Option A} (Some x) (Some y) → x ≡ y
-Some-injective x y h = cc
-
 tested : {A : Type 0} (test : Bool) (found fault : A) → then_some test found ≡ Some fault → (test ≡ true) × (fault ≡ found)
 tested true found fault h = (refl, sym (Some-injective found fault h))
 tested false found fault h = absurd (none_some fault h)
@@ -321,22 +320,6 @@ some_limit : (kind : Kind) (row count : ℕ) (limit : Option ℕ) (found : Fault
 some_limit kind row count None found h = absurd (none_some found h)
 some_limit kind row count (Some most) found h =
     let test = tested (count == most) _ found h in (most, (refl, (is_equal count most test.0, test.1)))
-
-no_shape : (row : ℕ) (slot : Option Slot) → misshapen_at row slot ≡ None → slot ≡ None
-no_shape row None h = refl
-no_shape row (Some slot) h = absurd (none_some _ (sym h))
-
-not_so : {A : Type 0} (test : Bool) (found : A) → then_some test found ≡ None → test ≡ false
-not_so true found h = absurd (none_some found (sym h))
-not_so false found h = refl
-
-neither : {A : Type 0} (first later : Option A) → option_or first later ≡ None → (first ≡ None) × (later ≡ None)
-neither None later h = (refl, h)
-neither (Some found) later h = absurd (none_some found (sym h))
-
-not_not : (test : Bool) → not test ≡ false → test ≡ true
-not_not true h = refl
-not_not false h = sym h
 
 -- what is found of a card of a known kind is a fault of it
 module _ (seen : Seen) (row : ℕ) (fields : List (List ℕ)) (kind : Kind) (named : kind_of seen.sort (text_at fields 0) ≡ Some kind) where

@@ -1,9 +1,8 @@
 -- Which deck bytes are: at most one, and none where they are refused.
-use Rattle.std.proofs.Common.{◌≡◌, ℕ, true, List, [], ◌∷◌, Bool, false, Option, Some, None, Result, Ok, Err, refl, sym, ap, ◌∙◌}
-use Rattle.std.specs.Prelude.{IfOk, option_to_list}
+use Rattle.std.proofs.Common.{◌≡◌, ℕ, true, List, [], ◌∷◌, Bool, false, Option, Some, None, Ok, refl, sym, ap, ◌∙◌}
+use Rattle.std.specs.Prelude.{option_to_list}
 use Rattle.std.specs.Str.{is_utf8}
 use Rattle.pc_faults.specs.declared.fault.Fault.{Fault}
-use Rattle.pc_faults.specs.declared.fault.DeckError.{DeckError}
 use Rattle.pc_cards.specs.Cards.{Numbered}
 use Rattle.pc_cards.specs.declared.sort.Sort.{Sort}
 use Rattle.pc_cards.specs.declared.sort.Sort.TheVariants.{Plan}
@@ -74,7 +73,6 @@ one_deck = one_deck_as Plan
 pub not_both : (bytes : List ℕ) (deck : Deck) (fault : Fault) → IsDeckOf bytes deck → IsCardRefusal bytes fault → ⊥
 not_both = not_both_as Plan
 
--- what is answered is the deck
-pub answer_is : (result : Result Deck DeckError) (sort : Sort) (bytes : List ℕ) → is_utf8 bytes ≡ true → IfOk result (λ deck. cards_of sort bytes ≡ Ok deck) → IfOk result (IsReadAs sort bytes)
-answer_is (Ok deck) sort bytes utf8 h = record { says = says_of-read sort bytes deck h; faultless = is_faultless sort bytes (none_of-read sort bytes deck utf8 h) }
-answer_is (Err error) sort bytes utf8 h = tt
+-- what is read is the deck
+pub read_is : (sort : Sort) (bytes : List ℕ) (deck : Deck) → is_utf8 bytes ≡ true → cards_of sort bytes ≡ Ok deck → IsReadAs sort bytes deck
+read_is sort bytes deck utf8 read = record { says = says_of-read sort bytes deck read; faultless = is_faultless sort bytes (none_of-read sort bytes deck utf8 read) }

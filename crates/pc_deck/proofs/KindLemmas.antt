@@ -47,7 +47,7 @@ named-word : (kind : Kind) → named (word_of kind) ≡ Some kind
 named-word Project = refl
 named-word other = refl
 
-Some-injective : (x y : Kind) → ◌≡◌ {A = Option Kind} (Some x) (Some y) → x ≡ y
+pub Some-injective : {A : Type 0} (x y : A) → ◌≡◌ {A = Option A} (Some x) (Some y) → x ≡ y
 Some-injective x y h = cc
 
 -- kinds of one word are one

@@ -1,7 +1,6 @@
 -- Reading stops at the first fault of a deck, and a deck that is read to its end has none.
 use Rattle.std.proofs.Common.{◌≡◌, ℕ, ◌+◌, ◌≤◌, Bool, true, false, List, [], ◌∷◌, ◌++◌, length, Option, Some, None}
 use Rattle.std.proofs.Common.{is_none, if◌then◌else◌, Result, Ok, Err, inl, inr, ◌⊎◌, refl, sym, ap, ◌∙◌, subst, arith}
-use Rattle.std.specs.Prelude.{IfErr}
 use Rattle.std.specs.Str.{is_utf8}
 use Rattle.pc_records.specs.Deck.{deck_records}
 use Rattle.pc_cards.specs.declared.sort.Sort.{Sort}
@@ -11,14 +10,11 @@ use Rattle.pc_deck.specs.Judged.{Seen}
 use Rattle.pc_deck.specs.inside.Judged.{judge}
 use Rattle.pc_faults.specs.Faults as faults
 use Rattle.pc_faults.specs.First.{IsFirstFault}
-use Rattle.pc_faults.specs.inside.First.{Refuses}
 use Rattle.pc_deck.specs.inside.Reading.{no_cards, with_card, seen_in, deck_with, closed, closed_with, and_then, read_from, cards_of}
 use Rattle.pc_deck.specs.Refusal.{are_none, seen_among, HasCardFault, HasFaultFrom, HasFaultWhere, HasFault, IsRefusalAs}
 use Rattle.pc_deck.specs.declared.kinds.project.ProjectCard.{ProjectCard}
 use Rattle.pc_faults.specs.declared.kind.Kind.{Kind}
 use Rattle.pc_faults.specs.declared.fault.Fault.{Fault as ADeckFault}
-use Rattle.pc_faults.specs.declared.fault.DeckError.{DeckError}
-use Rattle.pc_faults.specs.declared.fault.DeckError.TheVariants.{Fault, OutOfMemory}
 use Rattle.pc_deck.specs.declared.draft.Draft.{Draft}
 use Rattle.pc_deck.proofs.CardFaultLemmas.{row_of-card, not_faultless, least_of-card, found_of-card}
 use Rattle.pc_deck.proofs.SoFarLemmas.{IsSoFar, so_far-none, so_far-more}
@@ -145,10 +141,3 @@ pub first_of-read : (sort : Sort) (bytes : List ℕ) (fault : ADeckFault) → is
 first_of-read sort bytes fault utf8 read =
     let first = subst (λ (r : Result Deck ADeckFault). IsVerdict r (HasFaultFrom sort [] (length (deck_records bytes) + 1) (deck_cards bytes))) read (cards_of-verdict sort bytes) in
     subst (λ (b : Bool). IsFirstFault (HasFaultWhere sort b bytes) fault) (sym utf8) first
-
--- the same of the answer of a call
-pub refused_first : {A : Type 0} (result : Result A DeckError) (sort : Sort) (bytes : List ℕ) → is_utf8 bytes ≡ true →
-    IfErr result (Refuses (λ fault. cards_of sort bytes ≡ Err fault)) → IfErr result (Refuses (IsRefusalAs sort bytes))
-refused_first (Ok answer) sort bytes utf8 h = tt
-refused_first (Err (Fault fault)) sort bytes utf8 h = first_of-read sort bytes fault utf8 h
-refused_first (Err OutOfMemory) sort bytes utf8 h = tt

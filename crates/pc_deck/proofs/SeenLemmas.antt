@@ -15,7 +15,7 @@ use Rattle.pc_deck.specs.declared.draft.Draft.{Draft}
 use Rattle.pc_deck.proofs.KindLemmas.{own_code}
 use Rattle.pc_deck.proofs.SoFarLemmas.{IsSoFar, codes-are, count-is}
 
-twice_mapped : {X Y Z : Type 0} (f : X → Y) (g : Y → Z) (h : X → Z) (xs : List X) → ((x : X) → g (f x) ≡ h x) → map h xs ≡ map g (map f xs)
+pub twice_mapped : {X Y Z : Type 0} (f : X → Y) (g : Y → Z) (h : X → Z) (xs : List X) → ((x : X) → g (f x) ≡ h x) → map h xs ≡ map g (map f xs)
 twice_mapped f g h [] same = refl
 twice_mapped f g h (x ∷ xs) same = ap (λ y. y ∷ map h xs) (sym (same x)) ∙ ap (λ ys. g (f x) ∷ ys) (twice_mapped f g h xs same)
 

@@ -1,6 +1,5 @@
 -- The titles of a deck within the limits are text, as each field of its cards is.
-use Rattle.std.proofs.Common.{ℕ, List, All, Result, Ok, Err, get_or, sym, subst, arith}
-use Rattle.std.specs.Prelude.{IfOk}
+use Rattle.std.proofs.Common.{ℕ, List, All, get_or, sym, subst, arith}
 use Rattle.std.specs.Str.{IsUtf8}
 use Rattle.pc_faults.specs.declared.kind.Kind.{Kind}
 use Rattle.pc_faults.specs.declared.kind.Kind.TheVariants.{Project, Wbs, Event, Act, Task, Acct, Res}
@@ -29,8 +28,3 @@ titles-text {sort} deck limits = record {
   accounts = texts Acct (λ card. card.title) deck limits (λ row fields text. field-text fields 4 text);
   resources = texts Res (λ card. card.title) deck limits (λ row fields text. field-text fields 2 text);
 }
-
--- the same of what a call answers
-pub titles_of-answer : {E : Type 0} (sort : Sort) (result : Result Deck E) → IfOk result (IsWithin sort) → IfOk result AreTitlesText
-titles_of-answer sort (Ok deck) limits = titles-text {sort = sort} deck limits
-titles_of-answer sort (Err error) limits = tt

@@ -1,8 +1,8 @@
 -- What was read keeps to the limits.
-use Rattle.std.proofs.Common.{◌≡◌, ℕ, ◌+◌, ◌≤◌, Bool, true, false, ◌&&◌, ◌==◌, nat_lt, List, [], ◌∷◌, ◌++◌, length, map, get_or}
+use Rattle.std.proofs.Common.{◌≡◌, ℕ, ◌+◌, ◌≤◌, Bool, true, false, ◌&&◌, ◌==◌, nat_lt, List, [], ◌∷◌, ◌++◌, length, map}
 use Rattle.std.proofs.Common.{Option, Some, None, is_none, if◌then◌else◌, All, Ok, refl, sym, ◌∙◌, subst, arith, length-append}
 use Rattle.std.proofs.lemmas.List.{map-append}
-use Rattle.std.proofs.lemmas.List.Elements.{All-append, All-nil}
+use Rattle.std.proofs.lemmas.List.Elements.{All-nil, All-push, All-replicate}
 use Rattle.std.proofs.lemmas.Bool.Decides.{nat_tests}
 use Rattle.std.specs.Str.{IsUtf8}
 use Rattle.std.specs.Prelude.{option_to_list}
@@ -28,9 +28,6 @@ use Rattle.pc_deck.proofs.JudgeLemmas.{IsFaultless, faultless, fits}
 use Rattle.pc_deck.proofs.KindLemmas.{own_code, same_is, wider}
 use Rattle.pc_names.proofs.OnceLaws.{IsNamedOnce-nil, IsNamedOnce-push}
 use Rattle.pc_deck.proofs.SoFarLemmas.{codes-are, count-is, list-more, nothing, one_if, still_first, unchanged}
-
-All-one : {C : Type 0} (P : C → Type 0) (card : C) → P card → All P (card ∷ [])
-All-one P card within = λ k d h. let first : 0 ≡ k = omega (arith, h) in subst (λ (j : ℕ). P (get_or (card ∷ []) j d)) first within
 
 room_left : (n limit : ℕ) → n ≤ limit → (n == limit) ≡ false → n + 1 ≤ limit
 room_left n limit few room = grind (arith, nat_tests)
@@ -58,7 +55,7 @@ list_more : (sort : Sort) (kind : Kind) (version : ℕ) (cards : List (CardOf ki
     IsFit sort kind card → IsListWithin sort kind version (cards ++ card ∷ [])
 list_more sort kind version cards card old few differs fit = record {
   few = subst (IsUpTo (limit_of sort version kind)) (sym (length-append cards (card ∷ []))) few;
-  fit = All-append (IsFit sort kind) cards (card ∷ []) old.fit (All-one (IsFit sort kind) card fit);
+  fit = All-push (IsFit sort kind) cards card old.fit fit;
   differ = λ coded.
       subst IsNamedOnce (sym (map-append (entry_of kind).code cards (card ∷ []))) (IsNamedOnce-push (map (entry_of kind).code cards) ((entry_of kind).code card) (old.differ coded) (differs coded));
 }
@@ -133,7 +130,7 @@ list_wider : (sort : Sort) (kind : Kind) (version : ℕ) (cards : List (CardOf k
 list_wider sort kind version cards old = record { few = wider sort kind version (length cards) old.few; fit = old.fit; differ = old.differ }
 
 end_within : (sort : Sort) → IsListWithin sort End 2 (tt ∷ [])
-end_within sort = record { few = tt; fit = All-one (IsFit sort End) tt (0, [], refl, tt, All-nil IsUtf8); differ = λ coded. absurd (let coded' = coded in cc) }
+end_within sort = record { few = tt; fit = All-replicate (IsFit sort End) 1 tt (0, [], refl, tt, All-nil IsUtf8); differ = λ coded. absurd (let coded' = coded in cc) }
 
 -- a draft within the limits is a deck within the limits
 pub deck_within : (draft : Draft) (project : ProjectCard) → draft.project ≡ Some project → IsDraftWithin draft → (kind : Kind) → IsListWithin draft.sort kind 2 (list_of (deck_with draft project) kind)

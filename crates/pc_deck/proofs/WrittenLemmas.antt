@@ -7,7 +7,7 @@ use Rattle.std.proofs.lemmas.Bool.{and_parts}
 use Rattle.std.proofs.lemmas.Bool.Decides.{nat_tests}
 use Rattle.std.specs.Prelude.{option_to_list}
 use Rattle.pc_records.proofs.Utf8Facts.{join_ascii}
-use Rattle.std.proofs.lemmas.List.Elements.{All-append, All-cons, All-head, All-nil, All-tail}
+use Rattle.std.proofs.lemmas.List.Elements.{All-append, All-cons, All-head, All-nil, All-replicate, All-tail}
 use Rattle.pc_model.specs.Codes.{text_at}
 use Rattle.pc_faults.specs.Kinds.{word_of}
 use Rattle.pc_faults.specs.declared.kind.Kind.{Kind}
@@ -97,9 +97,6 @@ fit-written kind no_project card (row, fields, is, fit, text) =
 fit-all : (kind : Kind) → is_project kind ≡ false → (cards : List (CardOf kind)) → All (IsFit Plan kind) cards → All (IsWritten kind) cards
 fit-all kind no_project cards all = λ k d below. fit-written kind no_project (get_or cards k d) (all k d below)
 
-All-one : {C : Type 0} (P : C → Type 0) (card : C) → P card → All P (card ∷ [])
-All-one P card here = All-cons P card [] here (All-nil P)
-
 -- the fields of a PROJECT card of version 2
 abbrev second_fields : List (List ℕ) → List (List ℕ)
 second_fields fields =
@@ -116,7 +113,7 @@ module _ (project : ProjectCard) (row : ℕ) (fields : List (List ℕ)) (is : pr
   second-text =
       let front = fields_of (take 7 (project_kind.slots Plan)) fields in
       All-cons IsUtf8 [] (front ++ codes "2" ∷ []) IsUtf8-nil
-      (All-append IsUtf8 front (codes "2" ∷ []) (fields-text (take 7 (project_kind.slots Plan)) fields text) (All-one IsUtf8 (codes "2") (ascii-text (codes "2") refl)))
+      (All-append IsUtf8 front (codes "2" ∷ []) (fields-text (take 7 (project_kind.slots Plan)) fields text) (All-replicate IsUtf8 1 (codes "2") (ascii-text (codes "2") refl)))
 
 -- the PROJECT card of version 2
 project-fit : (project : ProjectCard) → IsFit Plan Project project → IsFit Plan Project (record project { version = 2 })
@@ -135,7 +132,7 @@ first_day-fit project (row, fields, is, fit, text) = (
   [] ∷ text_at fields 4 ∷ [],
   ap (λ (p : ProjectCard). record { row = 0; day = p.start_day }) is,
   (fit.1.1.1.0, tt),
-  All-cons IsUtf8 [] (text_at fields 4 ∷ []) IsUtf8-nil (All-one IsUtf8 (text_at fields 4) (field-text fields 4 text)),
+  All-cons IsUtf8 [] (text_at fields 4 ∷ []) IsUtf8-nil (All-replicate IsUtf8 1 (text_at fields 4) (field-text fields 4 text)),
 )
 
 settled-as_of : (project : ProjectCard) (card : Option AsOfCard) → IsFit Plan Project project → All (IsFit Plan AsOf) (option_to_list card) → IsFit Plan AsOf (settled_as_of card project.start_day)
@@ -156,8 +153,8 @@ module _ (deck : Deck) (limits : IsWithinLimits deck) where
 
   -- the cards of the settled deck are fit
   fit-settled : (kind : Kind) → All (IsFit Plan kind) (list_of (settled deck) kind)
-  fit-settled Project = All-one (IsFit Plan Project) (settled deck).project (project-fit deck.project project_fit)
-  fit-settled AsOf = All-one (IsFit Plan AsOf) (settled_as_of deck.as_of deck.project.start_day) (settled-as_of deck.project deck.as_of project_fit (limits AsOf).fit)
+  fit-settled Project = All-replicate (IsFit Plan Project) 1 (settled deck).project (project-fit deck.project project_fit)
+  fit-settled AsOf = All-replicate (IsFit Plan AsOf) 1 (settled_as_of deck.as_of deck.project.start_day) (settled-as_of deck.project deck.as_of project_fit (limits AsOf).fit)
   fit-settled Terms = settled-terms deck.terms (limits Terms).fit
   fit-settled kind = (limits kind).fit
 
@@ -170,5 +167,5 @@ module _ (deck : Deck) (limits : IsWithinLimits deck) where
 
   -- its cards are written as what spells them
   pub written-settled : (kind : Kind) → All (IsWritten kind) (list_of (settled deck) kind)
-  written-settled Project = All-one (IsWritten Project) (settled deck).project (project-written deck.project project_fit)
+  written-settled Project = All-replicate (IsWritten Project) 1 (settled deck).project (project-written deck.project project_fit)
   written-settled kind = fit-all kind refl (list_of (settled deck) kind) (fit-settled kind)
