@@ -1,8 +1,8 @@
 -- The cards that are drawn are fit.
-use Rattle.std.proofs.Common.{◌≡◌, ℕ, ◌+◌, ◌<◌, ◌≤◌, ◌||◌, Bool, true, false, List, [], ◌∷◌, ◌++◌, length, map, codes, Option, Some, None, All, refl, sym, ◌∙◌, ap, arith}
+use Rattle.std.proofs.Common.{◌≡◌, ℕ, ◌+◌, ◌<◌, ◌≤◌, true, List, [], ◌∷◌, ◌++◌, length, map, codes, Option, Some, None, All, refl, sym, ap, arith}
 use Rattle.std.specs.Prelude.{not}
 use Rattle.std.specs.Str.{IsUtf8}
-use Rattle.std.proofs.lemmas.Bool.{and_parts, cond-true}
+use Rattle.std.proofs.lemmas.Bool.{and_parts, cond-true, or_right}
 use Rattle.std.proofs.lemmas.List.Elements.{All-append, All-cons, All-head, All-nil, All-tail}
 use Rattle.std.proofs.lemmas.Str.{IsUtf8-nil}
 use Rattle.std.proofs.lemmas.List.{length-map}
@@ -196,13 +196,6 @@ pub project-fit : (project : ProjectCard) → IsFit Tasks Project project → Is
 project-fit project (row, fields, is, fit, text) =
     (row, fields, is, (fit.0, (fits (text_at fields 2) (given-code (text_at fields 2) fit.1.0), (fits (text_at fields 3) (given-code (text_at fields 3) fit.1.1.0), fit.1.1.1))), text)
 
-or_true : (b : Bool) → (b || true) ≡ true
-or_true true = refl
-or_true false = refl
-
-or_code : (code : List ℕ) → is_code code ≡ true → (is_empty code || is_code code) ≡ true
-or_code code is = ap (λ b. is_empty code || b) is ∙ or_true (is_empty code)
-
 -- the item of the links, where the code of the top is a code
 pub links_item-fit : (parent : Option (List ℕ)) → ((code : List ℕ) → parent ≡ Some code → is_code code ≡ true) → IsFit Plan Wbs (record { row = 0; code = links_code; parent = parent; title = [] })
 links_item-fit None known = (
@@ -218,6 +211,6 @@ links_item-fit (Some code) known =
       0,
       [] ∷ links_code ∷ code ∷ [] ∷ [],
       ap item (sym (cond-true (is_code code) (Some code) None is)),
-      (fits links_code refl, ((or_code code is, refl), ((refl, refl), tt))),
+      (fits links_code refl, ((or_right (is_empty code) (is_code code) is, refl), ((refl, refl), tt))),
       texts ([] ∷ links_code ∷ code ∷ [] ∷ []) (IsUtf8-nil, (code-text links_code refl, (code-text code is, (IsUtf8-nil, tt)))),
     )

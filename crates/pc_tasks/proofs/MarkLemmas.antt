@@ -2,7 +2,7 @@
 use Rattle.std.proofs.Common.{◌≡◌, ℕ, ◌+◌, ◌<◌, ◌==◌, ◌||◌, Bool, true, false, cond, List, [], ◌∷◌, ◌++◌, length, get_or, set, take, refl, sym, ◌∙◌, ap, subst, ⊎_elim, arith}
 use Rattle.std.specs.Prelude.{All, filter, not}
 use Rattle.std.specs.List.{range_with_len}
-use Rattle.std.proofs.lemmas.Bool.{cases_eq}
+use Rattle.std.proofs.lemmas.Bool.{cases_eq, or_right}
 use Rattle.std.proofs.lemmas.Bool.Decides.{nat_tests}
 use Rattle.std.proofs.lemmas.List.{append-nil, get_or-set_other, get_or-set_same, length-set, map-id}
 use Rattle.std.proofs.lemmas.List.Elements.{All-from_get_or, All-head, All-tail}
@@ -11,10 +11,6 @@ use Rattle.std.proofs.lemmas.List.FromFn.{filter_of_map_range_with_len_more, get
 use Rattle.pc_tasks.specs.network.Arrows.{comes_after, comes_before}
 use Rattle.pc_tasks.specs.declared.network.AfterRow.{AfterRow}
 use Rattle.pc_tasks.specs.inside.Marks.{AreMarks}
-
-or_true : (b : Bool) → (b || true) ≡ true
-or_true true = refl
-or_true false = refl
 
 or_false : (b : Bool) → (b || false) ≡ b
 or_false true = refl
@@ -33,7 +29,7 @@ one_more n test more marks t are inside by = record {
   each = λ i below. ⊎_elim
       (λ same. ap (λ k. get_or (set marks t true) k false) same
       ∙ (get_or-set_same marks t true false (omega (arith, are.one_each, inside))
-      ∙ sym (by i ∙ (ap (λ b. test i || b) (same_number t i same) ∙ or_true (test i)))))
+      ∙ sym (by i ∙ or_right (test i) (t == i) (same_number t i same))))
       (λ differs. get_or-set_other marks t i true false differs
       ∙ (are.each i below
       ∙ sym (by i ∙ (ap (λ b. test i || b) (other_number t i differs) ∙ or_false (test i)))))

@@ -4,7 +4,7 @@ use Rattle.std.specs.Prelude.{not, find, is_none, filter}
 use Rattle.std.specs.List.{range_with_len}
 use Rattle.std.proofs.lemmas.Bool.{and_parts}
 use Rattle.std.proofs.lemmas.List.{get_or-map, length-append, length-map, map-append}
-use Rattle.std.proofs.lemmas.List.Elements.{All-append, All-cons, All-nil, All-head, All-tail}
+use Rattle.std.proofs.lemmas.List.Elements.{All-append, All-cons, All-head, All-nil, All-push, All-replicate, All-tail}
 use Rattle.std.proofs.lemmas.List.Filters.{length-filter_both}
 use Rattle.std.proofs.lemmas.List.FromFn.{get_or-range_with_len, length-range_with_len}
 use Rattle.pc_tasks.specs.network.Arrows.{comes_after, comes_before, firsts, lasts}
@@ -17,6 +17,7 @@ use Rattle.pc_model.specs.Codes.{text_at, IsNamedOnce}
 use Rattle.pc_text.specs.Code.{is_code}
 use Rattle.pc_deck.specs.Deck.{Deck, act_codes, item_codes, task_codes}
 use Rattle.pc_deck.specs.Within.{IsFit, IsListWithin, IsWithin, IsWithinLimits}
+use Rattle.pc_deck.proofs.SeenLemmas.{twice_mapped}
 use Rattle.pc_deck.specs.declared.kinds.act.ActCard.{ActCard}
 use Rattle.pc_deck.specs.declared.kinds.project.ProjectCard.{ProjectCard}
 use Rattle.pc_deck.specs.declared.kinds.task.TaskCard.{TaskCard}
@@ -52,9 +53,6 @@ start-given project (row, fields, is, fit, text) = subst Given (sym (ap (λ (p :
 end-given : (project : ProjectCard) → IsFit Tasks Project project → Given project.end
 end-given project (row, fields, is, fit, text) = subst Given (sym (ap (λ (p : ProjectCard). p.end) is)) fit.1.1.0
 
-All-one : {C : Type 0} (P : C → Type 0) (card : C) → P card → All P (card ∷ [])
-All-one P card here = All-cons P card [] here (All-nil P)
-
 -- what is found is one of those
 found-code : (items : List ItemCard) → All (IsFit Tasks Wbs) items → (code : List ℕ) → code_of_top (find (λ item. is_none item.parent) items) ≡ Some code → is_code code ≡ true
 found-code [] all code is = absurd cc
@@ -72,12 +70,10 @@ after-codes j [] = refl
 after-codes j (row ∷ rows) = ap (λ rest. after_code j ∷ rest) (after-codes (j + 1) rows)
 
 first-codes : (deck : Deck) (xs : List ℕ) → map (λ (act : ActCard). act.code) (map (first_link deck) xs) ≡ map (drawn_code 115) xs
-first-codes deck [] = refl
-first-codes deck (i ∷ xs) = ap (λ rest. drawn_code 115 i ∷ rest) (first-codes deck xs)
+first-codes deck xs = sym (twice_mapped (first_link deck) (λ (act : ActCard). act.code) (drawn_code 115) xs (λ i. refl))
 
 last-codes : (deck : Deck) (xs : List ℕ) → map (λ (act : ActCard). act.code) (map (last_link deck) xs) ≡ map (drawn_code 116) xs
-last-codes deck [] = refl
-last-codes deck (i ∷ xs) = ap (λ rest. drawn_code 116 i ∷ rest) (last-codes deck xs)
+last-codes deck xs = sym (twice_mapped (last_link deck) (λ (act : ActCard). act.code) (drawn_code 116) xs (λ i. refl))
 
 length-task_acts : (i : ℕ) (tasks : List TaskCard) → length (task_acts i tasks) ≡ length tasks
 length-task_acts i [] = refl
@@ -161,8 +157,8 @@ module _ (deck : Deck) (within : IsWithin Tasks deck) where
   items-within : IsListWithin Plan Wbs 2 (deck.items ++ links_item deck ∷ [])
   items-within = record {
     few = omega (arith, (within Wbs).few, length-append deck.items (links_item deck ∷ []));
-    fit = All-append (IsFit Plan Wbs) deck.items (links_item deck ∷ []) (λ k d inside. item-fit (get_or deck.items k d) ((within Wbs).fit k d inside))
-        (All-one (IsFit Plan Wbs) (links_item deck) (links_item-fit (top_code deck) (found-code deck.items (within Wbs).fit)));
+    fit = All-push (IsFit Plan Wbs) deck.items (links_item deck) (λ k d inside. item-fit (get_or deck.items k d) ((within Wbs).fit k d inside))
+        (links_item-fit (top_code deck) (found-code deck.items (within Wbs).fit));
     differ = λ coded. items-once;
   }
 
@@ -172,8 +168,8 @@ module _ (deck : Deck) (within : IsWithin Tasks deck) where
       few = omega (arith, events.length-events deck can, few-tasks);
       fit = All-cons (IsFit Plan Event) (drawn_event deck.project.start) (task_events 0 deck.tasks ++ drawn_event deck.project.end ∷ [])
           (event-fit deck.project.start (given-code deck.project.start start-is))
-          (All-append (IsFit Plan Event) (task_events 0 deck.tasks) (drawn_event deck.project.end ∷ []) (task_events-fit 0 deck.tasks (omega (arith, few-tasks)))
-          (All-one (IsFit Plan Event) (drawn_event deck.project.end) (event-fit deck.project.end (given-code deck.project.end end-is))));
+          (All-push (IsFit Plan Event) (task_events 0 deck.tasks) (drawn_event deck.project.end) (task_events-fit 0 deck.tasks (omega (arith, few-tasks)))
+          (event-fit deck.project.end (given-code deck.project.end end-is)));
       differ = λ coded. events.events-differ deck can;
     }
 
@@ -253,7 +249,7 @@ module _ (deck : Deck) (within : IsWithin Tasks deck) where
     }
 
     pub drawn-within : IsWithinLimits (arrows_deck deck)
-    drawn-within Project = record { few = tt; fit = All-one (IsFit Plan Project) deck.project (project-fit deck.project project); differ = λ coded. absurd (let coded' = coded in cc) }
+    drawn-within Project = record { few = tt; fit = All-replicate (IsFit Plan Project) 1 deck.project (project-fit deck.project project); differ = λ coded. absurd (let coded' = coded in cc) }
     drawn-within Wbs = items-within
     drawn-within Event = events-within
     drawn-within Act = acts-within

@@ -30,10 +30,8 @@ pub fn drawn_project(alloc: Global, cards: &TaskCards) -> Result<Project, DeckEr
     ensures project { IfOk result (IsDrawnProject cards.now) }
     ensures refused { IfErr result (Refuses (IsTasksRefusedWith cards.now)) }
 {
-    match sound_rows(alloc, cards) {
-        Ok(afters) => project_of_tasks(alloc, cards, &afters),
-        Err(error) => Err(error),
-    }
+    let afters = sound_rows(alloc, cards)?;
+    project_of_tasks(alloc, cards, &afters)
 }
 
 /// Returns the text of the generated plan, in canonical form.
@@ -44,14 +42,9 @@ pub fn arrows_of(alloc: Global, cards: &TaskCards) -> Result<Vec<u8>, DeckError>
     ensures text { IfOk result (λ text. IsArrowsText cards.now text.items) }
     ensures refused { IfErr result (Refuses (IsTasksRefusedWith cards.now)) }
 {
-    let project = match drawn_project(alloc, cards) {
-        Ok(project) => project,
-        Err(error) => return Err(error),
-    };
-    match deck_text_of(alloc, &project) {
-        Ok(text) => Ok(text),
-        Err(_) => Err(DeckError::OutOfMemory),
-    }
+    let project = drawn_project(alloc, cards)?;
+    let text = deck_text_of(alloc, &project)?;
+    Ok(text)
 }
 
 /// Makes the project of the plan generated from tasks without a fault.
@@ -67,10 +60,8 @@ fn project_of_tasks(
 {
     drawn_deck_keeps_least_costs();
     let plan = drawn_of(alloc, cards, afters)?;
-    match project_of(alloc, plan) {
-        Ok(project) => Ok(project),
-        Err(error) => Err(error),
-    }
+    let project = project_of(alloc, plan)?;
+    Ok(project)
 }
 
 /// Returns the plan generated from tasks without a fault.

@@ -1,31 +1,134 @@
-//! The first fault of cards by themselves, for each kind of card and for all cards.
-ghost use Rattle.std.specs.Prelude.{◌↔◌, IsTrue, ◌≡◌, IfOk, IfErr, OnOk};
-ghost use Rattle.pc_faults.specs.inside.First.{IsFirstIn, Refuses};
-ghost use Rattle.pc_tasks.specs.Misfit.{
-  HasEndsFault,
-  HasNameFault,
-  HasOrderedTaskEstimates,
-  HasAfterFault,
-  HasTaskMisfit,
-  HasNoTaskMisfit,
-};
+//! What the cards of a deck of tasks name, looked up, and the first fault of the cards: of each kind, and of all.
+ghost use Rattle.std.specs.Prelude.{◌≡◌, ◌↔◌, None, IsTrue, IfOk, IfErr, OnOk};
 ghost use Rattle.std.specs.List.{Any};
 ghost use Rattle.pc_deck.specs.Deck.{Deck};
-ghost use Rattle.pc_faults.specs.declared.fault.Fault.{Fault};
 ghost use Rattle.pc_faults.specs.First.{IsFirstFault};
-ghost use Rattle.pc_tasks.specs.Lists.{afters_in};
+ghost use Rattle.pc_faults.specs.declared.fault.Fault.{Fault};
+ghost use Rattle.pc_faults.specs.inside.First.{IsFirstIn, Refuses};
+ghost use Rattle.pc_tasks.specs.Lists.{after_row, afters_in};
+ghost use Rattle.pc_tasks.specs.Misfit.{
+  HasAfterFault,
+  HasEndsFault,
+  HasNameFault,
+  HasNoTaskMisfit,
+  HasOrderedTaskEstimates,
+  HasTaskMisfit,
+};
 
-use crate::afters::find_afters;
 use crate::network::AfterRow;
 use pc_deck::{
-    AcctCard, ItemCard, LoadCard, MoneyCard, PieceCard, StatusCard, TaskCard, TaskCards,
+    AcctCard, AfterCard, ItemCard, LoadCard, MoneyCard, PieceCard, StatusCard, TaskCard, TaskCards,
 };
 use pc_faults::{DeckError, Fault, earliest};
 use pc_text::Code;
-use std::alloc::Global;
+use std::alloc::{AllocError, Global};
+
+/// Looks up once what each card names, and returns which task comes after which.
+///
+/// # Errors
+/// The first fault of any card (F14 to F19, F41), or out of memory.
+pub(crate) fn look_up(alloc: Global, cards: &TaskCards) -> Result<Vec<AfterRow>, DeckError>
+    ensures sound { OnOk result (HasNoTaskMisfit cards.now) }
+    ensures afters { IfOk result (λ rows. rows.items ≡ afters_in cards.now) }
+    ensures first { IfErr result (Refuses (IsFirstFault (HasTaskMisfit cards.now))) }
+{
+    let afters = find_afters(alloc, cards)?;
+    match first_misfit(cards, afters.fault) {
+        Some(fault) => Err(DeckError::Fault(fault)),
+        None => Ok(afters.rows),
+    }
+}
+
+/// Returns the first fault of any card, from that of the AFTER cards.
+fn first_misfit(cards: &TaskCards, of_afters: Option<Fault>) -> Option<Fault>
+    requires { IsFirstIn (λ fault. Any (λ card. HasAfterFault cards.now card fault) cards.now.afters) of_afters }
+    ensures { IsFirstIn (HasTaskMisfit cards.now) result }
+{
+    let of_ends = ends_fault(cards);
+    let of_items = first_fault(cards, cards.items());
+    let of_tasks = first_fault(cards, cards.tasks());
+    let of_pieces = first_fault(cards, cards.pieces());
+    let of_loads = first_fault(cards, cards.loads());
+    let of_accounts = first_fault(cards, cards.accounts());
+    let of_charges = first_fault(cards, cards.charges());
+    let of_togos = first_fault(cards, cards.togos());
+    let of_statuses = first_fault(cards, cards.statuses());
+    let frame = earliest(of_ends, of_items);
+    let work = earliest(of_tasks, of_afters);
+    let parts = earliest(of_pieces, of_loads);
+    let spent = earliest(of_accounts, of_charges);
+    let rest = earliest(of_togos, of_statuses);
+    let plan = earliest(frame, work);
+    let money = earliest(spent, rest);
+    let figures = earliest(parts, money);
+    earliest(plan, figures)
+}
+
+/// Which task comes after which: one row per card without a fault, in card order, and the first fault of any card.
+#[derive(Drop)]
+struct FoundAfters {
+    rows: Vec<AfterRow>,
+    fault: Option<Fault>,
+}
+
+/// Looks up the tasks of each AFTER card.
+fn find_afters(alloc: Global, cards: &TaskCards) -> Result<FoundAfters, AllocError>
+    ensures first { IfOk result (λ found. IsFirstIn
+        (λ fault. Any (λ card. HasAfterFault cards.now card fault) cards.now.afters) found.fault) }
+    ensures rows { IfOk result (λ found. found.fault ≡ None → found.rows.items ≡ afters_in cards.now) }
+{
+    let list = cards.afters();
+    let mut rows = Vec::with_capacity(alloc, list.len())?;
+    let mut fault = None;
+    for card in list {
+        match after_row(cards, card) {
+            Ok(row) => rows.push(row)?,
+            Err(found) => fault = earliest(fault, Some(found)),
+        }
+    }
+    Ok(FoundAfters { rows, fault })
+}
+
+/// Returns the tasks of an AFTER card by their numbers, or the card's first fault.
+fn after_row(cards: &TaskCards, card: &AfterCard) -> Result<AfterRow, Fault>
+    ensures row { IfOk result (λ row. row ≡ after_row cards.now card.now) }
+    ensures faultless { OnOk result ((fault : Fault) → HasAfterFault cards.now card.now fault → ⊥) }
+    ensures first { IfErr result (IsFirstFault (HasAfterFault cards.now card.now)) }
+{
+    let Some(task) = cards.task_named(&card.task) else {
+        return Err(Fault::unknown_activity(card.row, card.task));
+    };
+    let Some(before) = cards.task_named(&card.before) else {
+        return Err(Fault::unknown_activity(card.row, card.before));
+    };
+    if card.task == card.before {
+        return Err(Fault::one_event(card.row, card.task));
+    }
+    Ok(AfterRow { task, before })
+}
+
+/// A card that may have a fault by what it names or by its numbers.
+trait Faulty: Copy {
+    ghost HasFault: { Deck → Self → Fault → Type 0 };
+
+    /// Returns the card's first fault.
+    fn fault(&self, cards: &TaskCards) -> Option<Fault>
+        ensures { IsFirstIn (HasFault cards.now self.now) result };
+}
+
+/// Returns the first fault of the cards.
+fn first_fault<C: Faulty>(cards: &TaskCards, list: &[C]) -> Option<Fault>
+    ensures { IsFirstIn (λ fault. Any (λ card. C.HasFault cards.now card fault) list.now) result }
+{
+    let mut fault = None;
+    for card in list {
+        fault = earliest(fault, card.fault(cards));
+    }
+    fault
+}
 
 /// Returns the fault of the PROJECT card, if the start is the end.
-pub(crate) fn ends_fault(cards: &TaskCards) -> Option<Fault>
+fn ends_fault(cards: &TaskCards) -> Option<Fault>
     ensures { IsFirstIn (HasEndsFault cards.now) result }
 {
     let card = cards.project();
@@ -60,12 +163,6 @@ impl Faulty for ItemCard {
             None => Some(Fault::unknown_item(self.row, code)),
         }
     }
-}
-
-fn is_in_order(task: &TaskCard) -> bool
-    ensures { IsTrue result ↔ HasOrderedTaskEstimates task.now }
-{
-    task.opt <= task.likely && task.likely <= task.pess
 }
 
 impl Faulty for TaskCard {
@@ -145,63 +242,8 @@ impl Faulty for LoadCard {
     }
 }
 
-/// A card that may have a fault by what it names or by its numbers.
-pub(crate) trait Faulty: Copy {
-    ghost HasFault: { Deck → Self → Fault → Type 0 };
-
-    /// Returns the card's first fault.
-    fn fault(&self, cards: &TaskCards) -> Option<Fault>
-        ensures { IsFirstIn (HasFault cards.now self.now) result };
-}
-
-/// Returns the first fault of the cards.
-pub(crate) fn first_fault<C: Faulty>(cards: &TaskCards, list: &[C]) -> Option<Fault>
-    ensures { IsFirstIn (λ fault. Any (λ card. C.HasFault cards.now card fault) list.now) result }
+fn is_in_order(task: &TaskCard) -> bool
+    ensures { IsTrue result ↔ HasOrderedTaskEstimates task.now }
 {
-    let mut fault = None;
-    for card in list {
-        fault = earliest(fault, card.fault(cards));
-    }
-    fault
-}
-
-/// Looks up once what each card names, and returns which task comes after which.
-///
-/// # Errors
-/// The first fault of any card (F14 to F19, F41), or out of memory.
-pub(crate) fn look_up(alloc: Global, cards: &TaskCards) -> Result<Vec<AfterRow>, DeckError>
-    ensures sound { OnOk result (HasNoTaskMisfit cards.now) }
-    ensures afters { IfOk result (λ rows. rows.items ≡ afters_in cards.now) }
-    ensures first { IfErr result (Refuses (IsFirstFault (HasTaskMisfit cards.now))) }
-{
-    let afters = find_afters(alloc, cards)?;
-    match first_misfit(cards, afters.fault) {
-        Some(fault) => Err(DeckError::Fault(fault)),
-        None => Ok(afters.rows),
-    }
-}
-
-/// Returns the first fault of any card, from that of the AFTER cards.
-fn first_misfit(cards: &TaskCards, of_afters: Option<Fault>) -> Option<Fault>
-    requires { IsFirstIn (λ fault. Any (λ card. HasAfterFault cards.now card fault) cards.now.afters) of_afters }
-    ensures { IsFirstIn (HasTaskMisfit cards.now) result }
-{
-    let of_ends = ends_fault(cards);
-    let of_items = first_fault(cards, cards.items());
-    let of_tasks = first_fault(cards, cards.tasks());
-    let of_pieces = first_fault(cards, cards.pieces());
-    let of_loads = first_fault(cards, cards.loads());
-    let of_accounts = first_fault(cards, cards.accounts());
-    let of_charges = first_fault(cards, cards.charges());
-    let of_togos = first_fault(cards, cards.togos());
-    let of_statuses = first_fault(cards, cards.statuses());
-    let frame = earliest(of_ends, of_items);
-    let work = earliest(of_tasks, of_afters);
-    let parts = earliest(of_pieces, of_loads);
-    let spent = earliest(of_accounts, of_charges);
-    let rest = earliest(of_togos, of_statuses);
-    let plan = earliest(frame, work);
-    let money = earliest(spent, rest);
-    let figures = earliest(parts, money);
-    earliest(plan, figures)
+    task.opt <= task.likely && task.likely <= task.pess
 }

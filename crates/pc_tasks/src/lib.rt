@@ -1,7 +1,6 @@
 //! Decks of tasks: which tasks come after which, and the plan of arrows that is generated from them.
 #![tactic(auto)]
 
-mod afters;
 mod arrows;
 mod card_faults;
 mod circle;

@@ -35,16 +35,9 @@ pub(crate) fn sound_rows(alloc: Global, cards: &TaskCards) -> Result<Vec<AfterRo
     ensures sound { OnOk result (HasSoundTasks cards.now) }
     ensures refused { IfErr result (Refuses (IsTasksRefusedWith cards.now)) }
 {
-    let afters = match look_up(alloc, cards) {
-        Ok(afters) => afters,
-        Err(error) => return Err(error),
-    };
-    if let Err(error) = check_items(alloc, cards) {
-        return Err(error);
-    }
-    if let Err(error) = check_tasks(alloc, cards, &afters) {
-        return Err(error);
-    }
+    let afters = look_up(alloc, cards)?;
+    check_items(alloc, cards)?;
+    check_tasks(alloc, cards, &afters)?;
     Ok(afters)
 }
 
@@ -54,9 +47,7 @@ fn check_items(alloc: Global, cards: &TaskCards) -> Result<(), DeckError>
     ensures sound { OnOk result (HasSoundItems cards.now) }
     ensures refused { IfErr result (Refuses (IsTasksRefusedWith cards.now)) }
 {
-    if let Err(error) = tree_of(alloc, cards) {
-        return Err(error);
-    }
+    tree_of(alloc, cards)?;
     match lone_top(cards) {
         Some(fault) => Err(DeckError::Fault(fault)),
         None => Ok(()),

@@ -24,10 +24,8 @@ pub(crate) fn tree_of(alloc: Global, cards: &TaskCards) -> Result<Tree, DeckErro
     ensures refused { IfErr result (Refuses (IsTasksRefusedWith cards.now)) }
 {
     let rows = item_rows(alloc, cards)?;
-    match tree_between(alloc, cards, &rows) {
-        Ok(tree) => Ok(tree),
-        Err(error) => Err(error),
-    }
+    let tree = tree_between(alloc, cards, &rows)?;
+    Ok(tree)
 }
 
 /// Returns the items by the numbers of their parents, in card order.

@@ -2,11 +2,13 @@ use Rattle.std.proofs.Common.{length, ap, sym, ◌∙◌, subst, arith}
 use Rattle.std.proofs.lemmas.List.{length-map}
 use Rattle.pc_faults.specs.inside.First.{Refuses}
 use Rattle.pc_faults.specs.declared.kind.Kind.TheVariants.{Wbs}
-use Rattle.pc_project.specs.Project.{row_of}
+use Rattle.pc_project.specs.Project.{row_of, rows_of}
 use Rattle.pc_project.specs.Refusal.{IsTreeFault}
+use Rattle.pc_faults.proofs.FirstLaws.{refused_by}
+use Rattle.pc_project.proofs.RefusalLaws.{handed_on}
 use Rattle.pc_wbs.specs.Climb.{AreInRange}
+use Rattle.pc_tasks.specs.Refusal.{IsTasksRefusedWith, of_tree}
 use Rattle.pc_tasks.proofs.KnownLemmas.{rows-in_range}
-use Rattle.pc_tasks.proofs.PhaseLemmas.{refused_by_tree}
 use Rattle.pc_tasks.proofs.tree.tree_of.Goals as goal
 
 pub tree_between-requires-clause-each : goal.tree_between-requires-clause-each
@@ -23,7 +25,10 @@ pub tree_between-requires-clause-in_range : goal.tree_between-requires-clause-in
 tree_between-requires-clause-in_range c =
     subst AreInRange (sym (c.deref.ensures.value ∙ c.in_ok-rows.ensures.rows)) (rows-in_range c.args.cards.now c.requires)
 
-pub returns-clause-refused : goal.returns-clause-refused
-returns-clause-refused c =
-    refused_by_tree c.args.cards.now c.in-Err.error c.requires
-    (subst (λ rows. Refuses (IsTreeFault c.args.cards.now.items rows) c.in-Err.error) (c.deref.ensures.value ∙ c.in_ok-rows.ensures.rows) c.in-Err.ensures.refused)
+pub returns-in_err-tree-clause-refused : goal.returns-in_err-tree-clause-refused
+returns-in_err-tree-clause-refused c =
+    let deck = c.args.cards.now in
+    let error = c.in_err-tree.field-0.0 in
+    handed_on (Refuses (IsTasksRefusedWith deck)) c.from_residual-in_err-tree.result error c.from_residual-in_err-tree.ensures.1
+    (refused_by (IsTreeFault deck.items (rows_of deck)) (IsTasksRefusedWith deck) (λ fault at. of_tree c.requires at) error
+    (subst (λ rows. Refuses (IsTreeFault deck.items rows) error) (c.deref.ensures.value ∙ c.in_ok-rows.ensures.rows) c.in_err-tree.ensures.refused))

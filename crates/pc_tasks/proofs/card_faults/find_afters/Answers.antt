@@ -1,15 +1,13 @@
-use Rattle.std.proofs.Common.{◌≡◌, ◌+◌, ◌∙◌, sym, ap, map, subst, None}
-use Rattle.std.specs.Prelude.{Option, Some}
+use Rattle.std.proofs.Common.{◌+◌, ◌∙◌, sym, ap, map, subst}
 use Rattle.std.specs.List.{Any}
 use Rattle.std.proofs.lemmas.List.{take_all}
-use Rattle.pc_faults.specs.declared.fault.Fault.{Fault}
-use Rattle.pc_faults.specs.inside.First.{IsFirstIn, earliest}
+use Rattle.pc_faults.specs.inside.First.{IsFirstIn}
 use Rattle.pc_tasks.specs.Lists.{after_row}
 use Rattle.pc_tasks.specs.Misfit.{HasAfterFault}
-use Rattle.pc_faults.proofs.FirstLaws.{earliest-none}
+use Rattle.pc_faults.proofs.FirstLaws.{earliest-some}
 use Rattle.pc_project.proofs.LoopLaws.{IsFirstBefore, first_with, first_without, first_of_all, first_of_none, map_take_more}
-use Rattle.pc_tasks.proofs.afters.find_afters.Goals.{in-Ok+in_ok-push-in-Ok, in-Err}
-use Rattle.pc_tasks.proofs.afters.find_afters.Goals as goal
+use Rattle.pc_tasks.proofs.card_faults.find_afters.Goals.{in-Ok+in_ok-push-in-Ok, in-Err}
+use Rattle.pc_tasks.proofs.card_faults.find_afters.Goals as goal
 
 pub loop-card-preserved : goal.loop-card-preserved
 loop-card-preserved c =
@@ -28,12 +26,9 @@ loop-card-preserved c =
       | in-Err w ↦ record {
         first = subst (IsFirstBefore has list (i + 1)) (sym (w.fault-is ∙ w.earliest-fault.ensures))
             (first_with has list i c.card-item.result c.loop-card.fault c.loop-card-test.true c.card-item.is before.first w.in-Err.found w.in-Err.ensures.first);
-        rows = λ none. absurd (some_fault c.loop-card.fault w.in-Err.found (sym (w.fault-is ∙ w.earliest-fault.ensures) ∙ none));
+        rows = λ none. absurd (earliest-some c.loop-card.fault w.in-Err.found (sym (w.fault-is ∙ w.earliest-fault.ensures) ∙ none));
       }
     ]
-  where
-    some_fault : (one : Option Fault) (fault : Fault) → earliest one (Some fault) ≡ None → ⊥
-    some_fault one fault h = let never = (earliest-none one (Some fault) h).1 in cc
 
 pub returns-clause-first : goal.returns-clause-first
 returns-clause-first c =

@@ -2,7 +2,7 @@ use Rattle.std.proofs.Common.{◌≡◌, map, take, None}
 use Rattle.pc_tasks.specs.Lists.{after_row}
 use Rattle.pc_tasks.specs.Misfit.{HasAfterFault}
 use Rattle.pc_project.proofs.LoopLaws.{IsFirstBefore}
-use Rattle.pc_tasks.proofs.afters.find_afters.Given as goal
+use Rattle.pc_tasks.proofs.card_faults.find_afters.Given as goal
 
 -- the first fault of the cards so far, and the tasks that they name where none has a fault
 pub record Kept (P Q : Type 0) : Type 0 where
