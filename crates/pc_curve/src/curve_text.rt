@@ -1,13 +1,11 @@
 //! The breakpoints of a curve, a line each.
 ghost use Rattle.std.specs.Prelude.{◌≡◌, ◌+◌, ◌≤◌, ℕ, List, false};
 ghost use Rattle.pc_edges.specs.inside.Writes.{Writes};
-ghost use Rattle.pc_laws.specs.Curve.{Breakpoint, AreBreakpoints};
 ghost use Rattle.pc_flow.specs.Courses.{IsSameCurve, IsFurther, most_looks};
 ghost use Rattle.pc_edges.specs.inside.page.Page.{fresh};
 ghost use Rattle.pc_edges.specs.inside.page.Puts.{Puts};
-ghost use Rattle.pc_curve.specs.Points.{curve_in};
 ghost use Rattle.pc_curve.specs.inside.Breaks.{point_of};
-ghost use Rattle.pc_curve.specs.CurveText.{IsCurveText, curve_text, break_line, slope_text};
+ghost use Rattle.pc_curve.specs.CurveText.{IsCurveText, break_line, slope_text};
 
 use crate::breaks::{Break, Breaks};
 use pc_crash::Steps;
@@ -16,12 +14,34 @@ use pc_edges::{Failed, Sink};
 use pc_flow::Solver;
 use std::sync::ledger::Ledger;
 
-/// Writes the breakpoints of the curve of a solver's network and flushes the sink: one line each, from the all-normal
-/// length down, with its length, its least cost, and the extra cost of one unit less, or a dash at the all-crash
-/// length.
+/// Puts the breakpoints of the curve of a solver's network on a page: one line each, from the all-normal length down,
+/// with its length, its least cost, and the extra cost of one unit less, or a dash at the all-crash length.
 ///
 /// The solver goes from before its first segment to the last one: at most four looks at each activity for each unit by
 /// which the slope rises or the lower end comes down. Allocates nothing.
+pub fn put_curve<O: Sink, L: Ledger>(
+    page: &mut Page,
+    sink: &mut O,
+    solver: &mut Solver<'_>,
+    steps: &mut Steps<L>,
+)
+    requires { solver.old.given ≡ false }
+    ensures text { (text : List ℕ) × IsCurveText solver.old.net text
+        × Puts O.taken O.faults page.old sink.old page.new sink.new text }
+    ensures same { IsSameCurve solver.old solver.new }
+    ensures further { IsFurther solver.old solver.new }
+    ensures counted { steps.new ≤ steps.old + most_looks solver.old solver.new }
+{
+    // Which lengths the two ends of the curve are.
+    let _longest = solver.longest();
+    let _shortest = solver.shortest();
+    let mut breaks = Breaks::new();
+    while let Some(point) = breaks.next(solver, steps) {
+        put_break(page, sink, &point);
+    }
+}
+
+/// Writes the breakpoints of the curve of a solver's network as [`put_curve`] puts them, and flushes the sink.
 ///
 /// # Errors
 ///
@@ -41,32 +61,8 @@ pub fn write_curve<O: Sink, L: Ledger>(
     ensures further { IsFurther solver.old solver.new }
     ensures counted { steps.new ≤ steps.old + most_looks solver.old solver.new }
 {
-    // Which lengths the two ends of the curve are.
-    let _longest = solver.longest();
-    let _shortest = solver.shortest();
-    put_breaks(page, sink, solver, steps);
+    put_curve(page, sink, solver, steps);
     page.finish(sink)
-}
-
-/// Puts the line of each breakpoint.
-fn put_breaks<O: Sink, L: Ledger>(
-    page: &mut Page,
-    sink: &mut O,
-    solver: &mut Solver<'_>,
-    steps: &mut Steps<L>,
-)
-    requires { solver.old.given ≡ false }
-    ensures text { (points : List Breakpoint)
-        × AreBreakpoints (curve_in solver.old.net) solver.old.shortest solver.old.longest points
-        × Puts O.taken O.faults page.old sink.old page.new sink.new (curve_text points) }
-    ensures same { IsSameCurve solver.old solver.new }
-    ensures further { IsFurther solver.old solver.new }
-    ensures counted { steps.new ≤ steps.old + most_looks solver.old solver.new }
-{
-    let mut breaks = Breaks::new();
-    while let Some(point) = breaks.next(solver, steps) {
-        put_break(page, sink, &point);
-    }
 }
 
 /// Puts the line of a breakpoint.

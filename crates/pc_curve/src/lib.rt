@@ -8,5 +8,5 @@ mod curve_text;
 mod points;
 
 pub use breaks::{Break, Breaks, breaks_make_the_list};
-pub use curve_text::write_curve;
+pub use curve_text::{put_curve, write_curve};
 pub use points::{cost_at, point_at};

@@ -12,11 +12,11 @@ use pc_project::{Counts, Project};
 impl Report for Counts {
     ghost IsFor = { λ counts project. counts ≡ project.counts };
 
-    ghost text = { λ counts project. check_text project };
+    ghost IsText = { λ counts project text. text ≡ check_text project };
 
-    fn put_on<O: Sink>(&self, page: &mut Page, sink: &mut O, project: &Project) {
+    fn put_on<O: Sink>(self, page: &mut Page, sink: &mut O, project: &Project) {
         put_code(page, sink, b"accepted ", &project.code());
-        put_counts(page, sink, *self);
+        put_counts(page, sink, self);
     }
 }
 

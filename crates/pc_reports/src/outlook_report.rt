@@ -7,7 +7,7 @@ ghost use Rattle.pc_reports.specs.inside.OutlookText.{IsOutlookFor, IsPricedNetO
 
 use crate::outlook_costs::costs_in;
 use crate::outlook_rows::OutlookRows;
-use crate::report::{Report, write_report};
+use crate::report::Report;
 use pc_crash::CrashNet;
 use pc_edges::page::{Page, put_rows};
 use pc_edges::{Failed, Sink};
@@ -87,17 +87,29 @@ impl OutlookReport {
             (outlook_text project.now self.old) }
         ensures same { self.new ≡ self.old }
     {
-        write_report(&*self, project, sink)
+        let mut page = Page::without_buffer();
+        self.put(&mut page, sink, project);
+        page.finish(sink)
+    }
+
+    /// Puts the text of the report on a page.
+    fn put<O: Sink>(&self, page: &mut Page, sink: &mut O, project: &Project)
+        requires { IsOutlookFor project.now self.now }
+        ensures { Puts O.taken O.faults page.old sink.old page.new sink.new (outlook_text project.now self.now) }
+    {
+        let outlook = &self.outlook;
+        page.put(sink, HEAD);
+        put_rows(page, sink, &OutlookRows { project, outlook });
     }
 }
 
 impl Report for OutlookReport {
     ghost IsFor = { λ report project. IsOutlookFor project report };
 
-    ghost text = { λ report project. outlook_text project report };
+    ghost IsText = { λ report project text. text ≡ outlook_text project report };
 
-    fn put_on<O: Sink>(&self, page: &mut Page, sink: &mut O, project: &Project) {
-        put_outlook(page, sink, project, &self.outlook);
+    fn put_on<O: Sink>(self, page: &mut Page, sink: &mut O, project: &Project) {
+        self.put(page, sink, project);
     }
 }
 
@@ -116,12 +128,4 @@ fn outlook_at(
     let (tree, places) = (project.tree(), project.places());
     let entries = project.book().entries();
     Outlook::build(alloc, tree, places, &costs, project.accounts(), entries)
-}
-
-fn put_outlook<O: Sink>(page: &mut Page, sink: &mut O, project: &Project, outlook: &Outlook)
-    requires { IsOutlookFor project.now outlook.now }
-    ensures { Puts O.taken O.faults page.old sink.old page.new sink.new (outlook_text project.now outlook.now) }
-{
-    page.put(sink, HEAD);
-    put_rows(page, sink, &OutlookRows { project, outlook });
 }

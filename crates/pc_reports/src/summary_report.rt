@@ -5,7 +5,7 @@ ghost use Rattle.pc_edges.specs.inside.page.Puts.{Puts};
 ghost use Rattle.pc_reports.specs.SummaryText.{IsSummary, ChargesCountOnce, summary_text};
 
 use crate::dates::put_dated;
-use crate::report::{Report, write_report};
+use crate::report::Report;
 use crate::summary_rows::{ItemRows, LevelRows};
 use pc_edges::page::{Page, put_rows};
 use pc_edges::{Failed, Sink};
@@ -61,26 +61,30 @@ impl SummaryReport {
             (summary_text project.now self.old) }
         ensures same { self.new ≡ self.old }
     {
-        write_report(&*self, project, sink)
+        let mut page = Page::without_buffer();
+        self.put(&mut page, sink, project);
+        page.finish(sink)
+    }
+
+    /// Puts the text of the report on a page.
+    fn put<O: Sink>(&self, page: &mut Page, sink: &mut O, project: &Project)
+        requires { IsSummary project.now self.now }
+        ensures { Puts O.taken O.faults page.old sink.old page.new sink.new (summary_text project.now self.now) }
+    {
+        let summary = &self.summary;
+        put_dated(page, sink, b"SUMMARY ", &project.code(), project.as_of());
+        page.put(sink, HEAD);
+        put_rows(page, sink, &ItemRows { project, summary });
+        put_rows(page, sink, &LevelRows { project, summary });
     }
 }
 
 impl Report for SummaryReport {
     ghost IsFor = { λ report project. IsSummary project report };
 
-    ghost text = { λ report project. summary_text project report };
+    ghost IsText = { λ report project text. text ≡ summary_text project report };
 
-    fn put_on<O: Sink>(&self, page: &mut Page, sink: &mut O, project: &Project) {
-        put_summary(page, sink, project, &self.summary);
+    fn put_on<O: Sink>(self, page: &mut Page, sink: &mut O, project: &Project) {
+        self.put(page, sink, project);
     }
-}
-
-fn put_summary<O: Sink>(page: &mut Page, sink: &mut O, project: &Project, summary: &Summary)
-    requires { IsSummary project.now summary.now }
-    ensures { Puts O.taken O.faults page.old sink.old page.new sink.new (summary_text project.now summary.now) }
-{
-    put_dated(page, sink, b"SUMMARY ", &project.code(), project.as_of());
-    page.put(sink, HEAD);
-    put_rows(page, sink, &ItemRows { project, summary });
-    put_rows(page, sink, &LevelRows { project, summary });
 }

@@ -7,7 +7,7 @@ ghost use Rattle.pc_reports.specs.Times.{IsTimes};
 ghost use Rattle.pc_reports.specs.TimesText.{times_text};
 ghost use Rattle.pc_reports.specs.inside.View.{IsShownOf, as_shown};
 
-use crate::report::{Report, write_report};
+use crate::report::Report;
 use crate::times::late_to_meet;
 use crate::times_rows::{put_activities, put_events, put_path};
 use crate::view::{Reported, TimesView};
@@ -66,16 +66,16 @@ impl TimesReport {
             (times_text project.now self.old) }
         ensures same { self.new ≡ self.old }
     {
-        write_report(&*self, project, sink)
+        let mut page = Page::without_buffer();
+        self.put(&mut page, sink, project);
+        page.finish(sink)
     }
-}
 
-impl Report for TimesReport {
-    ghost IsFor = { λ report project. IsTimes project report };
-
-    ghost text = { λ report project. times_text project report };
-
-    fn put_on<O: Sink>(&self, page: &mut Page, sink: &mut O, project: &Project) {
+    /// Puts the text of the report on a page.
+    fn put<O: Sink>(&self, page: &mut Page, sink: &mut O, project: &Project)
+        requires { IsTimes project.now self.now }
+        ensures { Puts O.taken O.faults page.old sink.old page.new sink.new (times_text project.now self.now) }
+    {
         // How many events and activities there are, and which numbers of them may be.
         let _net = project.net();
         let view = Reported {
@@ -84,6 +84,16 @@ impl Report for TimesReport {
             late: &self.late,
         };
         put_times(page, sink, project, &view);
+    }
+}
+
+impl Report for TimesReport {
+    ghost IsFor = { λ report project. IsTimes project report };
+
+    ghost IsText = { λ report project text. text ≡ times_text project report };
+
+    fn put_on<O: Sink>(self, page: &mut Page, sink: &mut O, project: &Project) {
+        self.put(page, sink, project);
     }
 }
 

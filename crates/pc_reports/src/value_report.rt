@@ -1,6 +1,7 @@
 //! The report of the value of work.
 ghost use Rattle.std.specs.Prelude.{◌≡◌, ◌<◌, length, IfOk};
 ghost use Rattle.pc_edges.specs.inside.Writes.{Writes};
+ghost use Rattle.pc_edges.specs.inside.page.Puts.{Puts};
 ghost use Rattle.pc_reports.specs.Earned.{IsEarned};
 ghost use Rattle.pc_reports.specs.ValueText.{value_text};
 ghost use Rattle.pc_rollup.specs.figures.Outline.{row_at};
@@ -8,7 +9,7 @@ ghost use Rattle.pc_rollup.specs.figures.Worth.{IsWorthOf};
 
 use crate::dates::put_dated;
 use crate::forecasts::Forecasts;
-use crate::report::{Report, write_report};
+use crate::report::Report;
 use crate::value_rows::{ForecastRows, WorthRows};
 use pc_edges::page::{Page, put_rows};
 use pc_edges::{Failed, Sink};
@@ -68,7 +69,23 @@ impl ValueReport {
             (value_text project.now self.old) }
         ensures same { self.new ≡ self.old }
     {
-        write_report(&*self, project, sink)
+        let mut page = Page::without_buffer();
+        self.put(&mut page, sink, project);
+        page.finish(sink)
+    }
+
+    /// Puts the text of the report on a page.
+    fn put<O: Sink>(&self, page: &mut Page, sink: &mut O, project: &Project)
+        requires { IsEarned project.now self.now }
+        ensures { Puts O.taken O.faults page.old sink.old page.new sink.new (value_text project.now self.now) }
+    {
+        put_dated(page, sink, b"VALUE ", &project.code(), project.as_of());
+        page.put(sink, EVENT_HEAD);
+        let forecasts = self.forecasts();
+        put_rows(page, sink, &ForecastRows { project, forecasts });
+        page.put(sink, ITEM_HEAD);
+        let report = self;
+        put_rows(page, sink, &WorthRows { project, report });
     }
 
     /// Returns the forecasts of events and the slacks of items.
@@ -103,16 +120,10 @@ impl ValueReport {
 impl Report for ValueReport {
     ghost IsFor = { λ report project. IsEarned project report };
 
-    ghost text = { λ report project. value_text project report };
+    ghost IsText = { λ report project text. text ≡ value_text project report };
 
-    fn put_on<O: Sink>(&self, page: &mut Page, sink: &mut O, project: &Project) {
-        put_dated(page, sink, b"VALUE ", &project.code(), project.as_of());
-        page.put(sink, EVENT_HEAD);
-        let forecasts = self.forecasts();
-        put_rows(page, sink, &ForecastRows { project, forecasts });
-        page.put(sink, ITEM_HEAD);
-        let report = self;
-        put_rows(page, sink, &WorthRows { project, report });
+    fn put_on<O: Sink>(self, page: &mut Page, sink: &mut O, project: &Project) {
+        self.put(page, sink, project);
     }
 }
 

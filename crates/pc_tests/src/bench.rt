@@ -4,7 +4,7 @@ ghost use Rattle.pc_crash.specs.inside.Steps.{IsBlankOf};
 
 use crate::curves::solver;
 use pc_crash::{CrashNet, Steps, Term};
-use pc_curve::bench::{bench_deck, write_bench};
+use pc_curve::bench::{bench_deck, put_bench};
 use pc_edges::MemSink;
 use pc_edges::page::Page;
 use pc_net::{Arc, Net};
@@ -106,8 +106,8 @@ fn says<L: Ledger>(
     let mut solver = solver(alloc, net)?;
     let mut page = Page::with_capacity(alloc, 200)?;
     let mut sink = MemSink::new(alloc, 200, 200, &[])?;
-    let written = write_bench(&mut page, &mut sink, 4, &mut solver, &mut steps);
-    Ok(written.is_ok() && sink.bytes() == text)
+    put_bench(&mut page, &mut sink, 4, &mut solver, &mut steps);
+    Ok(page.finish(&mut sink).is_ok() && sink.bytes() == text)
 }
 
 fn says_of_four(alloc: Global, text: &[u8]) -> Option<bool> {

@@ -1,5 +1,4 @@
 -- What contracts within and between crates speak of besides what the clauses of the top calls and the laws reach.
-pub mod Point
 pub mod Handing
 pub mod FormDeck
 pub mod Outcome

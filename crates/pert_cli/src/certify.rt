@@ -1,43 +1,50 @@
 //! `certify`: the certificate of the time-cost curve.
-ghost use Rattle.std.specs.Prelude.{◌≡◌};
-ghost use Rattle.pert_cli.specs.Handing.{IsReply};
-ghost use Rattle.pert_cli.specs.inside.Handing.{Answers};
+ghost use Rattle.std.specs.Prelude.{◌≡◌, IfOk};
+ghost use Rattle.pc_certify.specs.Certificate.{IsCertificate};
+ghost use Rattle.pc_certify.specs.inside.Certificate.{IsReadyFor};
 ghost use Rattle.pc_shell.specs.Priced.{priced_in};
-ghost use Rattle.pc_shell.specs.Sides.{side};
-ghost use Rattle.pert_cli.specs.declared.forms.Form.TheVariants.{Certify};
 
-use crate::solving::solver_region;
-use pc_certify::CertifyError;
+use crate::solving::{priced_net, solver_region};
+use pc_certify::Certificate;
 use pc_crash::CrashNet;
 use pc_edges::Sink;
+use pc_edges::page::Page;
 use pc_project::Project;
-use pc_shell::Status;
+use pc_reports::Report;
 use std::alloc::{AllocError, Global};
 
-/// The words of the form.
-pub(crate) const WORDS: &[u8] = b"certify";
+/// The report of a certificate of a project's curve, which a solver finds while it is printed. So the memory that it
+/// takes does not depend on the number of segments.
+#[derive(Drop)]
+pub(crate) struct CertificateReport<'p> {
+    net: CrashNet<'p>,
+    certificate: Certificate,
+}
 
-/// Answers the form. The memory that it takes does not depend on the number of segments.
-pub(crate) fn answer<O: Sink>(alloc: Global, project: &Project, out: &mut O) -> Status
-    ensures { Answers (IsReply Certify project.now) (side O.taken O.faults out.old out.new) result }
-{
-    match project.priced(alloc) {
-        Ok(net) => answer_by(alloc, project, &net, out),
-        Err(AllocError) => Status::OutOfMemory,
+impl<'p> CertificateReport<'p> {
+    /// Prices the project's network, and takes the memory of the certificate.
+    pub(crate) fn build(
+        alloc: Global,
+        project: &'p Project,
+    ) -> Result<CertificateReport<'p>, AllocError>
+        ensures net { IfOk result (λ report. report.net ≡ priced_in project.now) }
+        ensures ready { IfOk result (λ report. IsReadyFor (priced_in project.now) report.certificate) }
+    {
+        let net = priced_net(alloc, project)?;
+        let region = solver_region(alloc, project)?;
+        let certificate = Certificate::build(alloc, &net, region)?;
+        Ok(CertificateReport { net, certificate })
     }
 }
 
-/// Answers the form by the project's network.
-fn answer_by<O: Sink>(alloc: Global, project: &Project, net: &CrashNet<'_>, out: &mut O) -> Status
-    requires { net.now ≡ priced_in project.now }
-    ensures { Answers (IsReply Certify project.now) (side O.taken O.faults out.old out.new) result }
-{
-    let Ok(region) = solver_region(alloc, project) else {
-        return Status::OutOfMemory;
-    };
-    match pc_certify::certify(alloc, net, region, out) {
-        Ok(()) => Status::Done,
-        Err(CertifyError::WriteFault) => Status::WriteFault,
-        Err(CertifyError::OutOfMemory) => Status::OutOfMemory,
+impl<'p> Report for CertificateReport<'p> {
+    ghost IsFor = { λ report project. (report.net ≡ priced_in project) × IsReadyFor (priced_in project)
+        report.certificate };
+
+    ghost IsText = { λ report project text. IsCertificate (priced_in project) text };
+
+    fn put_on<O: Sink>(self, page: &mut Page, sink: &mut O, _project: &Project) {
+        let CertificateReport { net, certificate } = self;
+        certificate.put_on(page, sink, &net);
     }
 }

@@ -5,8 +5,9 @@ ghost use Rattle.pc_curve.specs.inside.Points.{HasPlaces, IsToCome};
 ghost use Rattle.pc_faults.specs.inside.FaultText.{IsTold};
 ghost use Rattle.pc_shell.specs.Priced.{priced_in};
 ghost use Rattle.pert_cli.specs.Point.{IsCheapest, IsCheapestFor, IsOutside};
-ghost use Rattle.pert_cli.specs.inside.Point.{HasNoSchedule};
+ghost use Rattle.pert_cli.specs.inside.Handing.{IsNoReport};
 
+use crate::deliver::NoAnswer;
 use crate::printed::PrintedSchedule;
 use crate::solving::{SolverTask, priced_net, solve_priced};
 use pc_crash::{CrashNet, Steps};
@@ -17,37 +18,18 @@ use pc_project::Project;
 use std::alloc::{AllocError, Global};
 use std::sync::ledger::Ledger;
 
-/// Why there is no schedule for a length.
-#[derive(Drop)]
-pub(crate) enum NoSchedule {
-    /// The length is outside the project's range.
-    Outside(Fault),
-    OutOfMemory,
-}
-
-impl From<AllocError> for NoSchedule {
-    ghost use Rattle.std.specs.Prelude.{◌≡◌};
-    ghost use Rattle.pert_cli.specs.declared.cheapest.NoSchedule.TheVariants.{OutOfMemory};
-
-    ghost from_gives = { λ _ e. e ≡ OutOfMemory };
-
-    fn from(_: AllocError) -> NoSchedule {
-        NoSchedule::OutOfMemory
-    }
-}
-
 /// Returns a schedule of least cost for a length, in units.
 ///
 /// # Errors
 ///
-/// `Outside` if the length is outside the project's range.
+/// `Refused` if the length is outside the project's range.
 pub(crate) fn cheapest_schedule(
     alloc: Global,
     project: &Project,
     limit: u64,
-) -> Result<PrintedSchedule, NoSchedule>
+) -> Result<PrintedSchedule, NoAnswer>
     ensures cheapest { IfOk result (IsCheapestFor (priced_in project.now) limit) }
-    ensures none { IfErr result (HasNoSchedule (priced_in project.now) limit) }
+    ensures none { IfErr result (IsNoReport (IsOutside (priced_in project.now) limit)) }
 {
     let net = priced_net(alloc, project)?;
     cheapest_priced(alloc, project, &net, limit)
@@ -57,18 +39,18 @@ pub(crate) fn cheapest_schedule(
 ///
 /// # Errors
 ///
-/// `Outside` if the length is outside the project's range.
+/// `Refused` if the length is outside the project's range.
 pub(crate) fn cheapest_priced(
     alloc: Global,
     project: &Project,
     net: &CrashNet<'_>,
     limit: u64,
-) -> Result<PrintedSchedule, NoSchedule>
+) -> Result<PrintedSchedule, NoAnswer>
     requires { net.now ≡ priced_in project.now }
     ensures cheapest { IfOk result (IsCheapestFor (priced_in project.now) limit) }
-    ensures none { IfErr result (HasNoSchedule (priced_in project.now) limit) }
+    ensures none { IfErr result (IsNoReport (IsOutside (priced_in project.now) limit)) }
 {
-    solve_priced(alloc, project, net, &Cheapest { limit }, &mut ())?
+    solve_priced(alloc, project, net, &Cheapest { limit })?
 }
 
 /// The task of finding a schedule of least cost.
@@ -78,20 +60,19 @@ struct Cheapest {
     limit: u64,
 }
 
-impl SolverTask<()> for Cheapest {
-    type Found = Result<PrintedSchedule, NoSchedule>;
+impl SolverTask for Cheapest {
+    type Found = Result<PrintedSchedule, NoAnswer>;
 
-    ghost HasFound = { λ task project old new found. IfOk found (IsCheapestFor (priced_in project) task.limit)
-        × IfErr found (HasNoSchedule (priced_in project) task.limit) };
+    ghost HasFound = { λ task project found. IfOk found (IsCheapestFor (priced_in project) task.limit)
+        × IfErr found (IsNoReport (IsOutside (priced_in project) task.limit)) };
 
     fn run<L: Ledger>(
         &self,
         alloc: Global,
         _project: &Project,
         solver: &mut Solver<'_>,
-        _on: &mut (),
         steps: &mut Steps<L>,
-    ) -> Result<PrintedSchedule, NoSchedule> {
+    ) -> Result<PrintedSchedule, NoAnswer> {
         cheapest_for(alloc, solver, self.limit, steps)
     }
 }
@@ -102,13 +83,13 @@ pub(crate) fn cheapest_for<L: Ledger>(
     solver: &mut Solver<'_>,
     limit: u64,
     steps: &mut Steps<L>,
-) -> Result<PrintedSchedule, NoSchedule>
+) -> Result<PrintedSchedule, NoAnswer>
     requires { solver.old.given ≡ false }
     ensures cheapest { IfOk result (IsCheapestFor solver.old.net limit) }
-    ensures none { IfErr result (HasNoSchedule solver.old.net limit) }
+    ensures none { IfErr result (IsNoReport (IsOutside solver.old.net limit)) }
 {
     if let Some(fault) = outside(solver, limit) {
-        return Err(NoSchedule::Outside(fault));
+        return Err(NoAnswer::Refused(fault));
     }
     Ok(cheapest_at(alloc, solver, limit, steps)?)
 }

@@ -1,61 +1,63 @@
-//! How a report is handed to an output.
-ghost use Rattle.std.specs.Prelude.{◌≡◌, IfOk, OnErr, OnOk};
-ghost use Rattle.std.specs.Result.{ForOk};
-ghost use Rattle.pc_shell.specs.declared.status.Status.TheVariants.{Done, WriteFault};
+//! The one way from a form to its answer: a report is built with all its memory, and then delivered.
 ghost use Rattle.pc_shell.specs.Sides.{side};
-ghost use Rattle.pert_cli.specs.inside.Handing.{Answers};
+ghost use Rattle.pert_cli.specs.inside.Handing.{Delivers};
 
 use pc_edges::page::{PAGE_ROOM, Page};
 use pc_edges::{Failed, Sink};
+use pc_faults::Fault;
 use pc_project::Project;
 use pc_reports::Report;
-use pc_shell::Status;
 use std::alloc::{AllocError, Global};
 
-/// Writes a report on a page, unless there was no memory to build it or for the page.
+/// Why a form has no answer, or not the complete one.
+#[derive(Drop)]
+pub(crate) enum NoAnswer {
+    /// The form refuses the project.
+    Refused(Fault),
+    /// Nothing is written then.
+    OutOfMemory,
+    WriteFault,
+}
+
+impl From<AllocError> for NoAnswer {
+    ghost use Rattle.std.specs.Prelude.{◌≡◌};
+    ghost use Rattle.pert_cli.specs.declared.deliver.NoAnswer.TheVariants.{OutOfMemory};
+
+    ghost from_gives = { λ _ e. e ≡ OutOfMemory };
+
+    fn from(_: AllocError) -> NoAnswer {
+        NoAnswer::OutOfMemory
+    }
+}
+
+impl From<Failed> for NoAnswer {
+    ghost use Rattle.std.specs.Prelude.{◌≡◌};
+    ghost use Rattle.pert_cli.specs.declared.deliver.NoAnswer.TheVariants.{WriteFault};
+
+    ghost from_gives = { λ _ e. e ≡ WriteFault };
+
+    fn from(_: Failed) -> NoAnswer {
+        NoAnswer::WriteFault
+    }
+}
+
+/// Writes a report on `out`, through a page, and flushes `out`.
+///
+/// # Errors
+///
+/// - `OutOfMemory` if there is no memory for the page.
+/// - `WriteFault` if a push or the flush failed.
 pub(crate) fn deliver<R: Report + Drop, O: Sink>(
     alloc: Global,
-    built: Result<R, AllocError>,
+    report: R,
     project: &Project,
     out: &mut O,
-) -> Status
-    requires { ForOk built (λ report. R.IsFor report project.now) }
-    ensures built { IfOk built (λ report. Answers (λ text. text ≡ R.text report project.now)
-        (side O.taken O.faults out.old out.new) result) }
-    ensures none { OnErr built (Answers (λ text. ⊥) (side O.taken O.faults out.old out.new) result) }
+) -> Result<(), NoAnswer>
+    requires { R.IsFor report project.now }
+    ensures { Delivers (R.IsText report project.now) (λ fault. ⊥) (side O.taken O.faults out.old out.new) result }
 {
-    match built {
-        Ok(report) => deliver_built(alloc, &report, project, out),
-        Err(AllocError) => Status::OutOfMemory,
-    }
-}
-
-/// Writes a report that was built on a page, unless there is no memory for the page.
-pub(crate) fn deliver_built<R: Report, O: Sink>(
-    alloc: Global,
-    report: &R,
-    project: &Project,
-    out: &mut O,
-) -> Status
-    requires { R.IsFor report.now project.now }
-    ensures { Answers (λ text. text ≡ R.text report.now project.now) (side O.taken O.faults out.old out.new) result }
-{
-    match Page::with_capacity(alloc, PAGE_ROOM) {
-        Ok(mut page) => {
-            report.put_on(&mut page, out, project);
-            status_of(page.finish(out))
-        }
-        Err(AllocError) => Status::OutOfMemory,
-    }
-}
-
-/// Returns the status of a text that was written, or truncated by a write fault.
-pub(crate) fn status_of(written: Result<(), Failed>) -> Status
-    ensures done { OnOk written (result ≡ Done) }
-    ensures cut { OnErr written (result ≡ WriteFault) }
-{
-    match written {
-        Ok(()) => Status::Done,
-        Err(Failed) => Status::WriteFault,
-    }
+    let mut page = Page::with_capacity(alloc, PAGE_ROOM)?;
+    report.put_on(&mut page, out, project);
+    page.finish(out)?;
+    Ok(())
 }

@@ -1,27 +1,63 @@
 //! The table of the forms: what the words can ask for, and what answers it.
 //!
-//! A form has a variant of `Form`, its name in `usage`, and a line in `of_one_word` or `of_two_words`, and in `answer`;
-//! the rest of it is in a file of its own.
+//! A form has a variant of `Form`, its name in `usage`, and a line in `of_one_word` or `of_two_words`, and in `report`,
+//! where its report is built and delivered.
 ghost use Rattle.std.specs.Prelude.{◌≡◌, [], ◌∷◌, IfNone, IfSome};
 ghost use Rattle.pert_cli.specs.FormDeck.{ReadsSource, sort_of};
-ghost use Rattle.pert_cli.specs.Forms.{IsAskedBy, IsNumbered};
-ghost use Rattle.pert_cli.specs.inside.Handing.{Replies};
+ghost use Rattle.pert_cli.specs.Forms.{IsAskedBy, IsDenial, IsNumbered};
+ghost use Rattle.pert_cli.specs.Handing.{IsReply};
+ghost use Rattle.pert_cli.specs.inside.Handing.{Delivers, Replies};
 ghost use Rattle.pc_shell.specs.Sides.{side};
 ghost use Rattle.pert_cli.specs.declared.forms.Form.TheVariants.{Bench};
 ghost use Rattle.pert_cli.specs.Words.{AskFor, AskForNone, usage_text};
 
-use crate::{
-    arrows, bench, certify, check, curve, load, migrate, normal, optimum, outlook, point, summary,
-    times, value,
-};
+use crate::certify::CertificateReport;
+use crate::cheapest::cheapest_schedule;
+use crate::curve::{CurveLines, CurveReport};
+use crate::deliver::{NoAnswer, deliver};
+use crate::load::LoadReport;
+use crate::migrate::DeckText;
+use crate::normal::normal_schedule;
+use crate::optimum::optimum_of;
+use crate::outlook::outlook_for;
 use pc_cards::sort::Sort;
 use pc_curve::bench::MOST_ACTIVITIES;
 use pc_edges::Sink;
 use pc_load::MAX_DAYS;
 use pc_project::Project;
-use pc_shell::Status;
+use pc_reports::{SummaryReport, TimesReport, ValueReport};
+use pc_shell::{Status, refuse};
 use pc_text::read_number;
 use std::alloc::Global;
+
+// The words of the forms. Four are followed by a number.
+const CHECK: &[u8] = b"check";
+
+const NORMAL: &[u8] = b"normal";
+
+const TIMES: &[u8] = b"times";
+
+const SUMMARY: &[u8] = b"summary";
+
+const VALUE: &[u8] = b"value";
+
+const CURVE: &[u8] = b"curve";
+
+const CERTIFY: &[u8] = b"certify";
+
+const POINT: &[u8] = b"point";
+
+const OUTLOOK: &[u8] = b"outlook";
+
+const BENCH: &[u8] = b"bench";
+
+const MIGRATE: &[u8] = b"migrate";
+
+const OPTIMUM: &[u8] = b"optimum";
+
+const ARROWS: &[u8] = b"arrows";
+
+const LOAD: &[u8] = b"load";
 
 /// Returns the usage line, which names the forms.
 pub(crate) fn usage() -> &'static [u8]
@@ -82,25 +118,25 @@ impl Form {
         ensures form { IfSome result (λ form. IsAskedBy form (word.now ∷ [])) }
         ensures none { IfNone result ((form : Form) → IsAskedBy form (word.now ∷ []) → ⊥) }
     {
-        if word == check::WORDS {
+        if word == CHECK {
             Some(Form::Check)
-        } else if word == normal::WORDS {
+        } else if word == NORMAL {
             Some(Form::Normal)
-        } else if word == times::WORDS {
+        } else if word == TIMES {
             Some(Form::Times)
-        } else if word == summary::WORDS {
+        } else if word == SUMMARY {
             Some(Form::Summary)
-        } else if word == value::WORDS {
+        } else if word == VALUE {
             Some(Form::Value)
-        } else if word == curve::WORDS {
+        } else if word == CURVE {
             Some(Form::Curve)
-        } else if word == certify::WORDS {
+        } else if word == CERTIFY {
             Some(Form::Certify)
-        } else if word == migrate::WORDS {
+        } else if word == MIGRATE {
             Some(Form::Migrate)
-        } else if word == optimum::WORDS {
+        } else if word == OPTIMUM {
             Some(Form::Optimum)
-        } else if word == arrows::WORDS {
+        } else if word == ARROWS {
             Some(Form::Arrows)
         } else {
             None
@@ -112,15 +148,15 @@ impl Form {
         ensures form { IfSome result (λ form. IsAskedBy form (word.now ∷ number.now ∷ [])) }
         ensures none { IfNone result ((form : Form) → IsAskedBy form (word.now ∷ number.now ∷ []) → ⊥) }
     {
-        if word == point::WORDS {
+        if word == POINT {
             read_number(number).map(Form::Point)
-        } else if word == outlook::WORDS {
+        } else if word == OUTLOOK {
             read_number(number).map(Form::Outlook)
-        } else if word == bench::WORDS {
+        } else if word == BENCH {
             read_number(number)
                 .filter(|n| (1..=MOST_ACTIVITIES).contains(n))
                 .map(Form::Bench)
-        } else if word == load::WORDS {
+        } else if word == LOAD {
             read_number(number)
                 .filter(|days| (1..=MAX_DAYS).contains(days))
                 .map(Form::Load)
@@ -173,22 +209,80 @@ impl Form {
         ensures { Replies self project.now (side O.taken O.faults out.old out.new)
             (side E.taken E.faults err.old err.new) result }
     {
+        match self.report(alloc, project, deck, out) {
+            Ok(()) => Status::Done,
+            Err(NoAnswer::Refused(fault)) => refuse(alloc, &fault, err),
+            Err(NoAnswer::OutOfMemory) => Status::OutOfMemory,
+            Err(NoAnswer::WriteFault) => Status::WriteFault,
+        }
+    }
+
+    /// Builds the form's report of a project and delivers it to `out`.
+    fn report<O: Sink>(
+        self,
+        alloc: Global,
+        project: &Project,
+        deck: Vec<u8>,
+        out: &mut O,
+    ) -> Result<(), NoAnswer>
+        requires { IsNumbered self }
+        ensures { Delivers (IsReply self project.now) (IsDenial self project.now)
+            (side O.taken O.faults out.old out.new) result }
+    {
         let room = self.room_of(alloc, deck);
         match self {
-            Form::Check => check::answer(alloc, project, out),
-            Form::Normal => normal::answer(alloc, project, out),
-            Form::Times => times::answer(alloc, project, out),
-            Form::Summary => summary::answer(alloc, project, out),
-            Form::Value => value::answer(alloc, project, out),
-            Form::Curve => curve::answer(alloc, project, out),
-            Form::Certify => certify::answer(alloc, project, out),
-            Form::Point(limit) => point::answer(alloc, limit, project, out, err),
-            Form::Outlook(limit) => outlook::answer(alloc, limit, project, out, err),
-            Form::Bench(n) => bench::answer(alloc, n, project, out),
-            Form::Migrate => migrate::answer(alloc, project, room, out),
-            Form::Optimum => optimum::answer(alloc, project, out),
-            Form::Arrows => arrows::answer(alloc, project, room, out),
-            Form::Load(days) => load::answer(alloc, days, project, out, err),
+            Form::Check => deliver(alloc, project.counts(), project, out),
+            Form::Normal => deliver(alloc, normal_schedule(alloc, project)?, project, out),
+            Form::Times => deliver(alloc, TimesReport::build(alloc, project)?, project, out),
+            Form::Summary => deliver(alloc, SummaryReport::build(alloc, project)?, project, out),
+            Form::Value => deliver(alloc, ValueReport::build(alloc, project)?, project, out),
+            Form::Curve => {
+                let lines = CurveLines::Breakpoints;
+                deliver(
+                    alloc,
+                    CurveReport::build(alloc, project, lines)?,
+                    project,
+                    out,
+                )
+            }
+            Form::Certify => deliver(
+                alloc,
+                CertificateReport::build(alloc, project)?,
+                project,
+                out,
+            ),
+            Form::Point(limit) => {
+                deliver(
+                    alloc,
+                    cheapest_schedule(alloc, project, limit)?,
+                    project,
+                    out,
+                )
+            }
+            Form::Outlook(limit) => deliver(
+                alloc,
+                outlook_for(alloc, project, limit)?,
+                project,
+                out,
+            ),
+            Form::Bench(n) => {
+                let lines = CurveLines::Figures(n);
+                deliver(
+                    alloc,
+                    CurveReport::build(alloc, project, lines)?,
+                    project,
+                    out,
+                )
+            }
+            Form::Migrate => deliver(alloc, DeckText::build(project, room)?, project, out),
+            Form::Optimum => deliver(alloc, optimum_of(alloc, project)?, project, out),
+            Form::Arrows => deliver(alloc, DeckText::build(project, room)?, project, out),
+            Form::Load(days) => deliver(
+                alloc,
+                LoadReport::build(alloc, project, days)?,
+                project,
+                out,
+            ),
         }
     }
 }

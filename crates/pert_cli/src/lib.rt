@@ -1,11 +1,8 @@
 //! The top call of `pert`: words and bytes in, bytes and a status out.
 #![tactic(auto)]
 
-mod arrows;
-mod bench;
 mod certify;
 mod cheapest;
-mod check;
 mod curve;
 mod deliver;
 mod fault_laws;
@@ -16,14 +13,10 @@ mod migrate;
 mod normal;
 mod optimum;
 mod outlook;
-mod point;
 mod printed;
 mod solving;
-mod summary;
 mod tasks;
-mod times;
 mod top;
-mod value;
 
 pub use crate::fault_laws::one_fault;
 pub use crate::top::run;

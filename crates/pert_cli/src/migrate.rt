@@ -1,34 +1,13 @@
-//! `migrate`: the deck in canonical form.
-ghost use Rattle.std.specs.Prelude.{IfOk};
+//! The deck of a project in canonical form, as `migrate` and `arrows` print it.
+ghost use Rattle.std.specs.Prelude.{◌≡◌, IfOk};
 ghost use Rattle.pc_project.specs.deck_text.Written.{IsDeckText};
-ghost use Rattle.pc_shell.specs.Sides.{side};
-ghost use Rattle.pert_cli.specs.Handing.{IsReply};
-ghost use Rattle.pert_cli.specs.inside.Handing.{Answers};
-ghost use Rattle.pert_cli.specs.declared.forms.Form.TheVariants.{Migrate};
 
-use crate::deliver::deliver;
 use pc_edges::Sink;
 use pc_edges::page::Page;
 use pc_project::Project;
 use pc_project::deck_text::deck_text_in;
 use pc_reports::Report;
-use pc_shell::Status;
-use std::alloc::{AllocError, Global};
-
-/// The words of the form.
-pub(crate) const WORDS: &[u8] = b"migrate";
-
-/// Answers the form. `room` is memory that the text may use.
-pub(crate) fn answer<O: Sink>(
-    alloc: Global,
-    project: &Project,
-    room: Vec<u8>,
-    out: &mut O,
-) -> Status
-    ensures { Answers (IsReply Migrate project.now) (side O.taken O.faults out.old out.new) result }
-{
-    deliver(alloc, DeckText::build(project, room), project, out)
-}
+use std::alloc::AllocError;
 
 /// The text of a project's deck.
 #[derive(Drop)]
@@ -50,9 +29,9 @@ impl DeckText {
 impl Report for DeckText {
     ghost IsFor = { λ answer project. IsDeckText project answer.text.items };
 
-    ghost text = { λ answer project. answer.text.items };
+    ghost IsText = { λ answer project text. text ≡ answer.text.items };
 
-    fn put_on<O: Sink>(&self, page: &mut Page, sink: &mut O, _project: &Project) {
+    fn put_on<O: Sink>(self, page: &mut Page, sink: &mut O, _project: &Project) {
         page.put(sink, &self.text);
     }
 }

@@ -2,35 +2,21 @@
 ghost use Rattle.std.specs.Prelude.{◌≡◌, IfOk};
 ghost use Rattle.pc_model.specs.Schedule.{normals};
 ghost use Rattle.pc_times.specs.Times.{AreEarly, AreLengths};
-ghost use Rattle.pc_shell.specs.Sides.{side};
-ghost use Rattle.pert_cli.specs.Handing.{IsReply};
-ghost use Rattle.pert_cli.specs.inside.Handing.{Answers};
 ghost use Rattle.pert_cli.specs.Normal.{IsNormalSchedule};
-ghost use Rattle.pert_cli.specs.declared.forms.Form.TheVariants.{Normal};
 
-use crate::deliver::deliver;
 use crate::printed::PrintedSchedule;
-use pc_edges::Sink;
 use pc_model::Term;
 use pc_net::Net;
 use pc_project::Project;
-use pc_shell::Status;
 use pc_times::early_into;
 use std::alloc::{AllocError, Global};
 
-/// The words of the form.
-pub(crate) const WORDS: &[u8] = b"normal";
-
-/// Answers the form.
-pub(crate) fn answer<O: Sink>(alloc: Global, project: &Project, out: &mut O) -> Status
-    ensures { Answers (IsReply Normal project.now) (side O.taken O.faults out.old out.new) result }
-{
-    deliver(alloc, normal_schedule(alloc, project), project, out)
-}
-
 /// Returns the schedule at the all-normal length of a project: every activity at its normal duration, every event as
 /// early as possible. Linear in events, activities and pieces.
-fn normal_schedule(alloc: Global, project: &Project) -> Result<PrintedSchedule, AllocError>
+pub(crate) fn normal_schedule(
+    alloc: Global,
+    project: &Project,
+) -> Result<PrintedSchedule, AllocError>
     ensures { IfOk result (IsNormalSchedule project.now) }
 {
     let net = project.net();

@@ -65,9 +65,9 @@ impl PrintedSchedule {
 impl Report for PrintedSchedule {
     ghost IsFor = { λ printed project. HasPlaces (priced_in project) printed.times printed.durations };
 
-    ghost text = { λ printed project. printed_text project printed };
+    ghost IsText = { λ printed project text. text ≡ printed_text project printed };
 
-    fn put_on<O: Sink>(&self, page: &mut Page, sink: &mut O, project: &Project) {
+    fn put_on<O: Sink>(self, page: &mut Page, sink: &mut O, project: &Project) {
         put_schedule(page, sink, &self.with_codes(project));
     }
 }

@@ -1,5 +1,5 @@
 //! What a form asks of a solver of the project's curve, and the memory that the solver works in.
-ghost use Rattle.std.specs.Prelude.{◌≡◌, ◌+◌, ◌*◌, ◌≤◌, length, IfOk, OnErr};
+ghost use Rattle.std.specs.Prelude.{◌≡◌, ◌+◌, ◌*◌, ◌≤◌, length, IfOk};
 ghost use Rattle.pc_cells.specs.inside.Spans.{free_of};
 ghost use Rattle.pc_crash.specs.inside.Steps.{IsBlankOf};
 ghost use Rattle.pc_project.specs.Project.{Project as TheProject};
@@ -14,13 +14,13 @@ use std::alloc::{AllocError, Global};
 use std::marker::Brand;
 use std::sync::ledger::{Blank, Ledger};
 
-/// What a form asks of a solver before its first segment. `T` is what it writes on: an output, or nothing.
-pub(crate) trait SolverTask<T> {
+/// What a form asks of a solver before its first segment.
+pub(crate) trait SolverTask {
     /// What the solver finds.
     type Found;
 
-    // What is found for the project, and what the call leaves of what it writes on.
-    ghost HasFound: { Self → TheProject → T → T → Self.Found → Type 0 };
+    // What is found for the project.
+    ghost HasFound: { Self → TheProject → Self.Found → Type 0 };
 
     /// Does the task with a solver of the project's curve.
     fn run<L: Ledger>(
@@ -28,42 +28,37 @@ pub(crate) trait SolverTask<T> {
         alloc: Global,
         project: &Project,
         solver: &mut Solver<'_>,
-        on: &mut T,
         steps: &mut Steps<L>,
     ) -> Self::Found
         requires { IsAtStart project.now solver.old }
-        ensures { HasFound self.now project.now on.old on.new result };
+        ensures { HasFound self.now project.now result };
 }
 
 /// Does a task with a solver of the project's curve, in memory that does not depend on the curve.
-pub(crate) fn solve<T, J: SolverTask<T>>(
+pub(crate) fn solve<J: SolverTask>(
     alloc: Global,
     project: &Project,
     task: &J,
-    on: &mut T,
 ) -> Result<J::Found, AllocError>
-    ensures found { IfOk result (J.HasFound task.now project.now on.old on.new) }
-    ensures none { OnErr result (on.new ≡ on.old) }
+    ensures { IfOk result (J.HasFound task.now project.now) }
 {
     let net = priced_net(alloc, project)?;
-    solve_priced(alloc, project, &net, task, on)
+    solve_priced(alloc, project, &net, task)
 }
 
 /// Does a task as `solve` does, for a caller that has the project's priced network.
-pub(crate) fn solve_priced<T, J: SolverTask<T>>(
+pub(crate) fn solve_priced<J: SolverTask>(
     alloc: Global,
     project: &Project,
     net: &CrashNet<'_>,
     task: &J,
-    on: &mut T,
 ) -> Result<J::Found, AllocError>
     requires { net.now ≡ priced_in project.now }
-    ensures found { IfOk result (J.HasFound task.now project.now on.old on.new) }
-    ensures none { OnErr result (on.new ≡ on.old) }
+    ensures { IfOk result (J.HasFound task.now project.now) }
 {
     let mut solver = Solver::begin(solver_region(alloc, project)?, net);
     let blank = Blank::new(1);
-    Ok(run_counted::<T, J, Brand>(alloc, project, task, &mut solver, on, blank))
+    Ok(run_counted::<J, Brand>(alloc, project, task, &mut solver, blank))
 }
 
 /// Returns the project's network with what its activities may last and cost. Linear in events, activities and pieces.
@@ -75,20 +70,19 @@ pub(crate) fn priced_net(alloc: Global, project: &Project) -> Result<CrashNet<'_
 }
 
 /// Does a task. The steps of the solver are counted in a ledger of their own.
-fn run_counted<T, J: SolverTask<T>, L: Ledger>(
+fn run_counted<J: SolverTask, L: Ledger>(
     alloc: Global,
     project: &Project,
     task: &J,
     solver: &mut Solver<'_>,
-    on: &mut T,
     blank: Blank,
 ) -> J::Found
     requires start { IsAtStart project.now solver.old }
     requires blank { IsBlankOf L.name L.parts blank.name blank.parts }
-    ensures { J.HasFound task.now project.now on.old on.new result }
+    ensures { J.HasFound task.now project.now result }
 {
     let mut steps = Steps::<L>::new(blank);
-    task.run(alloc, project, solver, on, &mut steps)
+    task.run(alloc, project, solver, &mut steps)
 }
 
 /// Takes the memory that a solver of the project's curve works in, whatever the curve is.

@@ -6,4 +6,4 @@ mod report;
 
 pub use deck::{MOST_ACTIVITIES, bench_deck};
 pub use figures::{CurveFigures, figures_of};
-pub use report::write_bench;
+pub use report::put_bench;

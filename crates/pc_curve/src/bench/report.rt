@@ -1,49 +1,40 @@
 //! What the benchmark prints.
 ghost use Rattle.std.specs.Prelude.{◌≡◌, ◌+◌, ◌≤◌, ℕ, List, false};
-ghost use Rattle.pc_edges.specs.inside.Writes.{Writes};
 ghost use Rattle.pc_flow.specs.Courses.{IsFurther, IsSameCurve, most_looks};
 ghost use Rattle.pc_edges.specs.page.Lines.{number_line};
-ghost use Rattle.pc_edges.specs.inside.page.Page.{fresh};
 ghost use Rattle.pc_edges.specs.inside.page.Puts.{Puts};
 ghost use Rattle.pc_curve.specs.bench.Report.{IsBenchText, bench_text, point_line};
 
 use crate::bench::figures::{CurveFigures, figures_of};
 use pc_crash::Steps;
+use pc_edges::Sink;
 use pc_edges::page::{Page, put_line, put_pair};
-use pc_edges::{Failed, Sink};
 use pc_flow::Solver;
 use pc_text::{digits, wide};
 use std::sync::ledger::Ledger;
 
-/// Writes what the benchmark of `n` activities reports of the curve of a solver's network and flushes the sink: the
-/// all-normal and the all-crash length, each with its least cost, the number of breakpoints, and the sum of the least
-/// costs of all lengths.
+/// Puts what the benchmark of `n` activities reports of the curve of a solver's network on a page: the all-normal and
+/// the all-crash length, each with its least cost, the number of breakpoints, and the sum of the least costs of all
+/// lengths.
 ///
 /// The solver goes from before its first segment to the last one: at most four looks at each activity for each unit by
 /// which the slope rises or the lower end comes down. Allocates nothing.
-///
-/// # Errors
-///
-/// Returns `Failed` if a push or the flush failed.
-pub fn write_bench<O: Sink, L: Ledger>(
+pub fn put_bench<O: Sink, L: Ledger>(
     page: &mut Page,
     sink: &mut O,
     n: u64,
     solver: &mut Solver<'_>,
     steps: &mut Steps<L>,
-) -> Result<(), Failed>
-    requires fresh { page.old ≡ fresh }
-    requires before { solver.old.given ≡ false }
+)
+    requires { solver.old.given ≡ false }
     ensures text { (text : List ℕ) × IsBenchText n solver.old.net text
-        × Writes result (O.taken sink.old) (O.taken sink.new) (O.faults sink.old) (O.faults sink.new) text }
-    ensures fresh { page.new ≡ fresh }
+        × Puts O.taken O.faults page.old sink.old page.new sink.new text }
     ensures same { IsSameCurve solver.old solver.new }
     ensures further { IsFurther solver.old solver.new }
     ensures counted { steps.new ≤ steps.old + most_looks solver.old solver.new }
 {
     let figures = figures_of(solver, steps);
     put_figures(page, sink, n, &figures);
-    page.finish(sink)
 }
 
 /// Puts the lines of the figures.

@@ -1,8 +1,11 @@
 -- What handing a text to an output leaves, by the status that it ends with.
 -- Here is what no clause of a top call and no law reaches.
-use Rattle.std.specs.Prelude.{ℕ, List}
+use Rattle.std.specs.Prelude.{ℕ, ⊤, List, Result, Ok, Err}
 use Rattle.pc_faults.specs.declared.fault.Fault.{Fault}
+use Rattle.pc_faults.specs.inside.FaultText.{IsTold}
 use Rattle.pc_project.specs.Project.{Project}
+use Rattle.pert_cli.specs.declared.deliver.NoAnswer.{NoAnswer}
+use Rattle.pert_cli.specs.declared.deliver.NoAnswer.TheVariants as why
 use Rattle.pert_cli.specs.declared.forms.Form.{Form}
 use Rattle.pc_shell.specs.declared.status.Status.{Status}
 use Rattle.pc_shell.specs.declared.status.Status.TheVariants.{Done, OutOfMemory, WriteFault}
@@ -10,6 +13,20 @@ use Rattle.pert_cli.specs.Forms.{IsDenial}
 use Rattle.pc_shell.specs.inside.Refusing.{Refusal}
 use Rattle.pc_shell.specs.Sides.{Side, IsUntouched, Took, TookFront}
 use Rattle.pert_cli.specs.Handing.{IsReply}
+
+-- why there is no report: the form refuses the project with a fault; want of memory comes at any time
+abbrev pub IsNoReport : (Fault → Type 0) → NoAnswer → Type 0
+IsNoReport IsDenied (why.Refused fault) = IsTold fault × IsDenied fault
+IsNoReport IsDenied why.OutOfMemory = ⊤
+IsNoReport IsDenied why.WriteFault = ⊥
+
+-- what a report is delivered as: a text that answers was written, or a fault of the sink came in it; or the form refuses the project, or
+-- there was no memory, and nothing was written
+abbrev pub Delivers : {X A : Type 0} → (List ℕ → Type 0) → (Fault → Type 0) → Side X → Result A NoAnswer → Type 0
+Delivers IsText IsDenied out (Ok _) = (text : List ℕ) × IsText text × Took out text
+Delivers IsText IsDenied out (Err (why.Refused fault)) = IsTold fault × IsDenied fault × IsUntouched out
+Delivers IsText IsDenied out (Err why.OutOfMemory) = IsUntouched out
+Delivers IsText IsDenied out (Err why.WriteFault) = (text : List ℕ) × IsText text × TookFront out text
 
 -- a text that answers was written, or there was no memory for it, or a fault of the sink came in it
 abbrev pub Answers : {X : Type 0} → (List ℕ → Type 0) → Side X → Status → Type 0

@@ -1,4 +1,4 @@
-use Rattle.std.proofs.Common.{List, ℕ, ap}
+use Rattle.std.proofs.Common.{List, ℕ, ap, refl}
 use Rattle.pc_edges.proofs.lemmas.page.PageLaws.{◌⨾◌, Adds-as}
 use Rattle.pc_total.specs.BestText.{best_text}
 use Rattle.pert_cli.proofs.optimum.OptimumAnswerReport.put_on.Goals as goal
@@ -10,6 +10,9 @@ with_codes-requires g c =
 
 pub returns : goal.returns
 returns g c =
-    let best = c.args.self.now.best in
-    Adds-as (best_text c.args.project.now.heading.code best) (ap (λ (name : List ℕ). best_text name best) c.code.ensures) c.put_best.ensures
-    ⨾ Adds-as _ c.with_codes.ensures.plan c.put_plan.ensures
+    let best = c.args.self.best in (
+      _,
+      refl,
+      Adds-as (best_text c.args.project.now.heading.code best) (ap (λ (name : List ℕ). best_text name best) c.code.ensures) c.put_best.ensures
+          ⨾ Adds-as _ c.with_codes.ensures.plan c.put_plan.ensures,
+    )
