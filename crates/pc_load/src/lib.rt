@@ -2,7 +2,6 @@
 //! expected times of activities, by item and by resource.
 #![tactic(auto)]
 
-mod adding;
 mod entries;
 mod loading;
 mod rows;

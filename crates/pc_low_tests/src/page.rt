@@ -1,8 +1,12 @@
 //! Pages: each public function once, and which calls of a sink a page makes, which no clause counts.
 
 use crate::cases::expect_ok_none;
-use pc_edges::page::{Cell, PAGE_ROOM, Page, Rows, put_row, put_rows};
+use pc_edges::page::{
+    Cell, PAGE_ROOM, Page, Rows, put_code, put_line, put_named, put_number, put_pair, put_row,
+    put_rows,
+};
 use pc_edges::{MemSink, Sink};
+use pc_text::Code;
 use std::alloc::{AllocError, Global};
 
 /// The numbers below a number, a line each.
@@ -101,4 +105,28 @@ fn puts_pieces(alloc: Global) -> Result<bool, AllocError> {
 #[test]
 fn pieces_of_every_kind(rt: HostRuntime) {
     assert!(rt; matches!(puts_pieces(rt.alloc()), Ok(true)));
+}
+
+/// Whether each kind of line is put.
+fn are_lines_put(page: &mut Page, sink: &mut MemSink, code: &Code) -> bool {
+    put_line(page, sink, b"WORD ", b"text");
+    put_pair(page, sink, b"PAIR ", b"first", b"second");
+    put_code(page, sink, b"CODE ", code);
+    put_number(page, sink, b"NUMBER ", 17);
+    put_named(page, sink, b"NAMED ", code, 42);
+    page.finish(sink).is_ok()
+}
+
+const LINES: &[u8] = b"WORD text\nPAIR first second\nCODE A-1\nNUMBER 17\nNAMED A-1 42\n";
+
+fn puts_lines(alloc: Global) -> Option<bool> {
+    let code = Code::read(b"A-1")?;
+    let mut page = Page::with_capacity(alloc, 10).ok()?;
+    let mut sink = MemSink::new(alloc, PAGE_ROOM, 7, &[]).ok()?;
+    Some(are_lines_put(&mut page, &mut sink, &code) & (sink.bytes() == LINES))
+}
+
+#[test]
+fn lines_of_every_kind(rt: HostRuntime) {
+    assert!(rt; matches!(puts_lines(rt.alloc()), Some(true)));
 }

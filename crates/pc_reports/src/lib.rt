@@ -4,7 +4,6 @@
 mod check;
 mod dates;
 mod forecasts;
-mod outlook_costs;
 mod outlook_report;
 mod outlook_rows;
 mod report;

@@ -1,11 +1,11 @@
 //! The outlook: what the items will cost at given durations of the activities.
-ghost use Rattle.std.specs.Prelude.{◌≡◌, length, IfOk};
+ghost use Rattle.std.specs.Prelude.{◌≡◌, ◌≤◌, ◌^◌, length, slice_index, IfOk};
+ghost use Rattle.pc_model.specs.Sums.{sum_to};
 ghost use Rattle.pc_edges.specs.inside.Writes.{Writes};
 ghost use Rattle.pc_edges.specs.inside.page.Puts.{Puts};
 ghost use Rattle.pc_reports.specs.OutlookText.{IsOutlook, outlook_text};
-ghost use Rattle.pc_reports.specs.inside.OutlookText.{IsOutlookFor, IsPricedNetOf, TellsTop};
+ghost use Rattle.pc_reports.specs.inside.OutlookText.{AreCostsIn, IsOutlookFor, IsPricedNetOf, TellsTop};
 
-use crate::outlook_costs::costs_in;
 use crate::outlook_rows::OutlookRows;
 use crate::report::Report;
 use pc_crash::CrashNet;
@@ -128,4 +128,18 @@ fn outlook_at(
     let (tree, places) = (project.tree(), project.places());
     let entries = project.book().entries();
     Outlook::build(alloc, tree, places, &costs, project.accounts(), entries)
+}
+
+/// Returns what each activity costs at its duration. Durations are in units, one per activity in card order. Linear in
+/// activities and pieces.
+fn costs_in(alloc: Global, net: &CrashNet<'_>, durations: &[u64]) -> Result<Vec<u64>, AllocError>
+    requires { length durations.now ≡ length net.now.network.arcs }
+    ensures costs { IfOk result (λ costs. AreCostsIn net.now durations.now (length net.now.network.arcs) costs.items) }
+    ensures fit { IfOk result (λ costs. sum_to (length costs.items) (slice_index costs.items) ≤ 2 ^ 60) }
+{
+    let mut costs = Vec::with_capacity(alloc, durations.len())?;
+    for a in 0..net.net().activities() {
+        costs.push(net.activity_cost(a, durations[a as usize]))?;
+    }
+    Ok(costs)
 }

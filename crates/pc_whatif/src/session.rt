@@ -1,5 +1,5 @@
 //! A session, the answers to its lines, the side of a talk that it is, and the laws of its answers to any lines.
-ghost use Rattle.std.specs.Prelude.{◌≡◌, length, IfOk, ℕ, List, None, Some, ◌+◌, ◌≤◌, ◌++◌, [], ◌∷◌, decimal};
+ghost use Rattle.std.specs.Prelude.{◌≡◌, length, IfOk, ℕ, List, None, Some, ◌+◌, ◌≤◌};
 ghost use Rattle.pc_whatif.specs.edits.Editing.{begun};
 ghost use Rattle.pc_whatif.specs.inside.trials.Trials.{trial_cells};
 ghost use Rattle.pc_whatif.specs.inside.Planning.{
@@ -13,6 +13,7 @@ ghost use Rattle.pc_whatif.specs.inside.Planning.{
   Says,
 };
 ghost use Rattle.pc_edges.specs.inside.Writes.{Writes};
+ghost use Rattle.pc_edges.specs.inside.page.Page.{fresh};
 ghost use Rattle.pc_whatif.specs.edits.Reading.{ask_of};
 ghost use Rattle.pc_crash.specs.inside.Steps.{IsBlankOf};
 ghost use Rattle.pc_whatif.specs.Texts.{ok_text, refused_text, cost_text};
@@ -25,14 +26,12 @@ ghost use Rattle.pc_whatif.specs.declared.edits.ask.Ask.TheVariants as asks;
 
 use crate::edits::{Ask, Edit, Edits, Reason, Trial};
 use crate::trials::SessionRegion;
-use arrayvec::ArrayVec;
 use pc_crash::Steps;
 use pc_edges::lines::Answers;
-use pc_edges::page::{PAGE_ROOM, Page};
+use pc_edges::page::{PAGE_ROOM, Page, put_number};
 use pc_edges::{Failed, Sink};
 use pc_project::Project;
 use pc_shell::send;
-use pc_text::digits;
 use std::alloc::{AllocError, Global};
 use std::marker::{Brand, Model};
 use std::sync::ledger::{Blank, Ledger};
@@ -173,7 +172,7 @@ impl Session<'_> {
     {
         // Read for what a session always is: its times are the project's, and its page is empty.
         let _ = &self.page;
-        refuse(Reason::Form, out)
+        refuse(Reason::Form, &mut self.page, out)
     }
 
     /// Applies an edit.
@@ -188,7 +187,7 @@ impl Session<'_> {
                 renew(&mut self.region, &self.edits, a, self.project);
                 accept(out)
             }
-            Err(reason) => refuse(reason, out),
+            Err(reason) => refuse(reason, &mut self.page, out),
         }
     }
 
@@ -204,7 +203,7 @@ impl Session<'_> {
                 renew(&mut self.region, &self.edits, a, self.project);
                 accept(out)
             }
-            Err(reason) => refuse(reason, out),
+            Err(reason) => refuse(reason, &mut self.page, out),
         }
     }
 
@@ -239,7 +238,7 @@ impl Session<'_> {
     {
         let tried = match self.edits.tried(trial) {
             Ok(tried) => tried,
-            Err(reason) => return refuse(reason, out),
+            Err(reason) => return refuse(reason, &mut self.page, out),
         };
         self.edits.begin_trial(&tried);
         let cost = self
@@ -247,9 +246,9 @@ impl Session<'_> {
             .least_cost(self.edits.net(), trial.length, steps);
         self.edits.end_trial();
         let Some(cost) = cost else {
-            return refuse(Reason::OutsideRange, out);
+            return refuse(Reason::OutsideRange, &mut self.page, out);
         };
-        tell_cost(cost, out)
+        tell_cost(cost, &mut self.page, out)
     }
 }
 
@@ -276,9 +275,6 @@ fn counted<O: Sink, L: Ledger>(
     session.answer(line, out, &mut steps)
 }
 
-/// The capacity of a short answer, in bytes.
-const REPLY_ROOM: usize = 32;
-
 /// Writes that the line was accepted.
 fn accept<O: Sink>(out: &mut O) -> Result<(), Failed>
     ensures { Writes result (O.taken out.old) (O.taken out.new) (O.faults out.old) (O.faults out.new) ok_text }
@@ -287,38 +283,25 @@ fn accept<O: Sink>(out: &mut O) -> Result<(), Failed>
 }
 
 /// Writes the number of the reason for which the line was refused.
-fn refuse<O: Sink>(reason: Reason, out: &mut O) -> Result<(), Failed>
-    ensures { Writes result (O.taken out.old) (O.taken out.new) (O.faults out.old) (O.faults out.new)
+fn refuse<O: Sink>(reason: Reason, page: &mut Page, out: &mut O) -> Result<(), Failed>
+    requires { page.old ≡ fresh }
+    ensures text { Writes result (O.taken out.old) (O.taken out.new) (O.faults out.old) (O.faults out.new)
         (refused_text reason) }
+    ensures fresh { page.new ≡ fresh }
 {
-    send(out, reply(b"NO ", reason.number()).as_slice())
+    put_number(page, out, b"NO ", reason.number());
+    page.finish(out)
 }
 
 /// Writes the least cost of a trial.
-fn tell_cost<O: Sink>(cost: u64, out: &mut O) -> Result<(), Failed>
-    ensures { Writes result (O.taken out.old) (O.taken out.new) (O.faults out.old) (O.faults out.new) (cost_text cost) }
+fn tell_cost<O: Sink>(cost: u64, page: &mut Page, out: &mut O) -> Result<(), Failed>
+    requires { page.old ≡ fresh }
+    ensures text { Writes result (O.taken out.old) (O.taken out.new) (O.faults out.old) (O.faults out.new)
+        (cost_text cost) }
+    ensures fresh { page.new ≡ fresh }
 {
-    send(out, reply(b"COST ", cost).as_slice())
-}
-
-/// Returns a line with a word and a number.
-fn reply(word: &[u8], number: u64) -> ArrayVec<u8, REPLY_ROOM>
-    requires { length word.now ≤ 8 }
-    ensures { result.items ≡ word.now ++ (decimal number ++ 10 ∷ []) }
-{
-    let mut line = ArrayVec::new();
-    put(&mut line, word);
-    put(&mut line, digits(number).bytes());
-    put(&mut line, b"\n");
-    line
-}
-
-/// Appends a piece to the line.
-fn put(line: &mut ArrayVec<u8, REPLY_ROOM>, piece: &[u8])
-    requires { length line.old.items + length piece.now ≤ REPLY_ROOM }
-    ensures { line.new.items ≡ line.old.items ++ piece.now }
-{
-    line.try_extend_from_slice(piece).unwrap();
+    put_number(page, out, b"COST ", cost);
+    page.finish(out)
 }
 
 /// Shows that after any lines the project is the deck's with the standing edits applied in order.

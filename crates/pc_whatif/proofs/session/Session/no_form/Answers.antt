@@ -7,4 +7,4 @@ use Rattle.pc_whatif.proofs.session.Session.no_form.Goals as goal
 pub returns : goal.returns
 returns g c =
     let text = refused_text Form in
-    (text, stays c.args.self.now None text (standing_as _ c.args.self.now c.self.view_is c.self.invariant.renewed) refl refl, c.refuse.ensures)
+    (text, stays c.args.self.now None text (standing_as _ c.args.self.now c.self.view_is c.self.invariant.renewed) refl refl, c.refuse.ensures.text)

@@ -20,7 +20,7 @@ returns-in-Err-clause-answered g c =
       text,
       stays c.args.self.now (Some (asks.Try trial)) text (standing_as _ c.args.self.now c.self.view_is c.self.invariant.renewed)
           (subst (λ (p : Planning). IsTrialText p.editing trial text) c.self.view_is (refused c.in-Err.reason c.in-Err.ensures.refused refl)) refl,
-      c.refuse.ensures,
+      c.refuse.ensures.text,
     )
 
 pub returns-in_default-clause-answered : goal.returns-in_default-clause-answered
@@ -36,7 +36,7 @@ returns-in_default-clause-answered g c =
       text,
       tried_out c.args.self.now a.project.now a.edits.editing c.end_trial.new.self.editing _ _ trial text editing
           c.least_cost-cost.ensures.kept c.self.invariant.renewed c.self.view_is is,
-      c.refuse-in_default.ensures,
+      c.refuse-in_default.ensures.text,
     )
 
 pub returns-clause-answered : goal.returns-clause-answered
@@ -53,5 +53,5 @@ returns-clause-answered g c =
       text,
       tried_out c.args.self.now a.project.now a.edits.editing c.end_trial.new.self.editing _ _ trial text editing
           c.least_cost-cost.ensures.kept c.self.invariant.renewed c.self.view_is is,
-      c.tell_cost.ensures,
+      c.tell_cost.ensures.text,
     )

@@ -3,7 +3,7 @@ use Rattle.pc_rollup.specs.Totals.{amount_at}
 use Rattle.pc_load.proofs.AddLaws.{added_none, begun_none, added_more, added_all, grown, grown_fits, still_small}
 use Rattle.pc_load.proofs.ColumnLaws.{place_within}
 use Rattle.pc_load.proofs.ShareLaws.{share_grows}
-use Rattle.pc_load.proofs.adding.add.Goals as goal
+use Rattle.pc_load.proofs.table.add.Goals as goal
 
 pub loop-k-init : goal.loop-k-init
 loop-k-init c = record {

@@ -1,7 +1,7 @@
 use Rattle.std.proofs.Common.{◌≡◌, ◌*◌}
 use Rattle.pc_load.specs.Share.{share}
 use Rattle.pc_load.proofs.AddLaws.{IsAddedTo}
-use Rattle.pc_load.proofs.adding.add.Given as goal
+use Rattle.pc_load.proofs.table.add.Given as goal
 
 abbrev pub invariant-loop-k : goal.invariant-loop-k
 invariant-loop-k l = record {

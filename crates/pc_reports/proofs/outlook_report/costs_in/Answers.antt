@@ -2,7 +2,7 @@ use Rattle.std.proofs.Common.{ℕ, length, subst, ap, arith}
 use Rattle.pc_model.specs.Network.{Network}
 use Rattle.pc_reports.specs.inside.OutlookText.{AreCostsIn}
 use Rattle.pc_reports.proofs.OutlookLaws.{costs_more, costs_fit}
-use Rattle.pc_reports.proofs.outlook_costs.costs_in.Goals as goal
+use Rattle.pc_reports.proofs.outlook_report.costs_in.Goals as goal
 
 pub loop-a-preserved : goal.loop-a-preserved
 loop-a-preserved c = costs_more _ _ _ _ _ _ c.loop-a.invariant c.in_ok-push.ensures.items c.activity_cost.ensures.cost c.activity_cost.ensures.limit
