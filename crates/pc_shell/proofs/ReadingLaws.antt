@@ -1,8 +1,12 @@
 -- What reading a deck says of its bytes, where the source tells them.
-use Rattle.std.proofs.Common.{◌≡◌, ◌≤◌, ℕ, ◌<◌, List, length, Option, Some, None, Result, Ok, Err, ap, arith, length-append}
-use Rattle.std.specs.Prelude.{IfSome, IfOk, IfErr}
+use Rattle.std.proofs.Common.{◌≡◌, ◌≤◌, ℕ, ◌<◌, ◌↔◌, List, length, Option, Some, None, Result, Ok, Err, Vec, inl, inr, refl, ap, arith, length-append}
+use Rattle.std.proofs.lemmas.Bool.{cases_lt}
+use Rattle.std.specs.Prelude.{IfSome, IfOk, IfErr, IsErrOf}
 use Rattle.std.specs.Io.KnownBytes.{Consumes}
 use Rattle.pc_deck.specs.Limits.{longest_deck}
+use Rattle.pc_edges.specs.declared.loading.LoadError.{LoadError}
+use Rattle.pc_edges.specs.declared.loading.LoadError.TheVariants as load
+use Rattle.pc_edges.specs.inside.Loading.{HasLoaded}
 use Rattle.pc_faults.specs.inside.FaultText.{IsTold}
 use Rattle.pc_faults.specs.Faults.{too_long as fault_too_long}
 use Rattle.pc_faults.specs.inside.First.{Refuses}
@@ -12,9 +16,9 @@ use Rattle.pc_faults.specs.declared.fault.Fault.{Fault}
 use Rattle.pc_project.specs.Project.{Project}
 use Rattle.pc_shell.specs.declared.reading.NoProject.{NoProject}
 use Rattle.pc_shell.specs.declared.reading.NoProject.TheVariants.{Refused, ReadFault, OutOfMemory}
-use Rattle.pc_shell.specs.Sides.{Side, IsReadToEnd, OfBytes}
+use Rattle.pc_shell.specs.Sides.{Side, side, IsReadToEnd, OfBytes}
 use Rattle.pc_shell.specs.Reading.{HasProjectBy, HasRefusal, HasRefusalBy, too_long as took_too_much, faulty}
-use Rattle.pc_shell.specs.inside.Reading.{HasNoDeck, HasNoProjectBy, IsNoProjectBy, IsWholeDeck, lacking}
+use Rattle.pc_shell.specs.inside.Reading.{HasNoDeck, HasNoProjectBy, IsNoProjectBy, IsWholeDeck, lacking, unread}
 use Rattle.pc_shell.specs.Verdict.{IsFault, too_long}
 use Rattle.pc_shell.proofs.SideLaws.{of_one, of_the_deck}
 
@@ -23,6 +27,15 @@ of_a_long_deck : (left left_after : Option (List ℕ)) (bytes : List ℕ) → Co
 of_a_long_deck None left_after bytes consumed long = tt
 of_a_long_deck (Some deck) None bytes consumed long = absurd consumed
 of_a_long_deck (Some deck) (Some rest) bytes consumed long = omega (arith, ap length consumed, length-append bytes rest, long)
+
+-- a source that was not read to its end has no deck
+pub unread_deck : {S A : Type 0} (left : S → Option (List ℕ)) (faults : S → ℕ) (old new : S) (error : LoadError) → HasLoaded {A = A} (Err error) longest_deck left faults old new
+    → (bytes : List ℕ) → Consumes (left old) (left new) bytes → IsErrOf {T = Vec ℕ A} (Err error) load.TooLong ↔ (longest_deck < length bytes)
+    → HasNoDeck (side left faults old new) (unread error)
+unread_deck left faults old new load.ReadFault loaded bytes took long =
+    (loaded.fault refl, (bytes, took, elim (cases_lt longest_deck (length bytes)) [ inl above ↦ absurd (let never = long.1 above in cc) | inr within ↦ within ]))
+unread_deck left faults old new load.TooLong loaded bytes took long = (refl, took_too_much refl (bytes, took, long.0 refl))
+unread_deck left faults old new load.OutOfMemory loaded bytes took long = tt
 
 -- the project that a whole deck makes is that of the source
 pub whole_has : {S : Type 0} (Makes : List ℕ → Project → Type 0) (source : Side S) (bytes : List ℕ) → IsWholeDeck source bytes

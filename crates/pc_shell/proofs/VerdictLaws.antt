@@ -1,13 +1,7 @@
 -- Verdicts on a deck: accepted, or refused with a fault, and never both.
-use Rattle.std.proofs.Common.{◌≡◌, ℕ, ◌≤◌, List, length, sym, subst, refl, arith, Result, Ok, Err}
-use Rattle.std.specs.Prelude.{IfErr}
-use Rattle.pc_deck.specs.Limits.{longest_deck}
+use Rattle.std.proofs.Common.{◌≡◌, ℕ, List, sym, subst, refl, arith}
 use Rattle.pc_faults.specs.declared.fault.Fault.{Fault as ADeckFault}
-use Rattle.pc_faults.specs.declared.fault.DeckError.{DeckError}
-use Rattle.pc_faults.specs.declared.fault.DeckError.TheVariants.{Fault, OutOfMemory}
 use Rattle.pc_deck.specs.Deck.{Deck}
-use Rattle.pc_deck.specs.Read.{IsDeckOf}
-use Rattle.pc_faults.specs.inside.First.{Refuses}
 use Rattle.pc_faults.specs.inside.FaultText.{IsTold}
 use Rattle.pc_deck.proofs.ToldLemmas.{told_of-refusal}
 use Rattle.pc_deck.proofs.DeckLaws.{one_deck, not_both as cards_not_refused}
@@ -17,13 +11,6 @@ use Rattle.pc_project.specs.Project.{Project}
 use Rattle.pc_project.specs.Figures.{IsProjectOfDeck}
 use Rattle.pc_project.proofs.OneProjectLaws.{one_project_of}
 use Rattle.pc_shell.specs.Verdict.{IsAccepted, IsFault, IsProjectOf, too_long, card_refusal, project_refusal}
-
--- the refusal of a project is the fault of its deck
-pub refused_project : {A : Type 0} (result : Result A DeckError) (bytes : List ℕ) (deck : Deck) → length bytes ≤ longest_deck →
-    IsDeckOf bytes deck → IfErr result (Refuses (IsRefusedWith deck)) → IfErr result (Refuses (IsFault bytes))
-refused_project (Ok project) bytes deck short cards refused = tt
-refused_project (Err (Fault fault)) bytes deck short cards refused = project_refusal deck short cards refused
-refused_project (Err OutOfMemory) bytes deck short cards refused = tt
 
 -- each fault of a deck can be told
 pub told_of-fault : (bytes : List ℕ) (fault : ADeckFault) → IsFault bytes fault → IsTold fault

@@ -2,16 +2,12 @@
 //! a call ends, the line that refuses a deck, and the way from one word to the project of a deck.
 #![tactic(auto)]
 
-mod one_word;
 mod reading;
-mod refusing;
 mod sending;
 mod status;
 mod words;
 
-pub use crate::one_word::project_named;
 pub use crate::reading::{NoProject, load_deck, project_in};
-pub use crate::refusing::refuse;
-pub use crate::sending::send;
+pub use crate::sending::{refuse, send};
 pub use crate::status::Status;
-pub use crate::words::{deck_name, words_of};
+pub use crate::words::{deck_name, project_named, words_of};

@@ -1,8 +1,7 @@
 //! From a deck to its project, or to why there is none.
-ghost use Rattle.std.specs.Prelude.{◌≡◌, ◌≤◌, length, IfOk, IfErr};
+ghost use Rattle.std.specs.Prelude.{◌≡◌, IfOk, IfErr};
 ghost use Rattle.pc_edges.specs.Pulls.{IsReadWithin};
 ghost use Rattle.pc_edges.specs.declared.loading.TheConstants.{STREAM_ROOM};
-ghost use Rattle.pc_faults.specs.inside.First.{Refuses};
 ghost use Rattle.pc_deck.specs.Limits.{longest_deck};
 ghost use Rattle.pc_shell.specs.inside.Reading.{
   HasNoDeck,
@@ -11,15 +10,16 @@ ghost use Rattle.pc_shell.specs.inside.Reading.{
   IsNoProjectOf,
   IsWholeDeck,
   lacking,
+  unread,
 };
 ghost use Rattle.pc_shell.specs.Sides.{side};
-ghost use Rattle.pc_shell.specs.Verdict.{IsFault, IsProjectOf};
+ghost use Rattle.pc_shell.specs.Verdict.{IsProjectOf};
 
 use pc_deck::{DECK_LIMIT, read_cards_by};
 use pc_edges::{LoadError, Source, load};
 use pc_faults::{DeckError, Fault, TOO_LONG};
 use pc_project::{Project, project_of};
-use std::alloc::Global;
+use std::alloc::{AllocError, Global};
 
 /// Why there is no project.
 #[derive(Debug, Drop)]
@@ -29,6 +29,39 @@ pub enum NoProject {
     /// The source had a fault.
     ReadFault,
     OutOfMemory,
+}
+
+impl From<AllocError> for NoProject {
+    ghost use Rattle.pc_shell.specs.declared.reading.NoProject.TheVariants.{OutOfMemory};
+
+    ghost from_gives = { λ _ why. why ≡ OutOfMemory };
+
+    fn from(_: AllocError) -> NoProject {
+        NoProject::OutOfMemory
+    }
+}
+
+impl From<LoadError> for NoProject {
+    ghost from_gives = { λ error why. why ≡ unread error };
+
+    fn from(error: LoadError) -> NoProject {
+        match error {
+            LoadError::ReadFault => NoProject::ReadFault,
+            LoadError::TooLong => NoProject::Refused(TOO_LONG),
+            LoadError::OutOfMemory => NoProject::OutOfMemory,
+        }
+    }
+}
+
+impl From<DeckError> for NoProject {
+    ghost from_gives = { λ error why. why ≡ lacking error };
+
+    fn from(error: DeckError) -> NoProject {
+        match error {
+            DeckError::Fault(fault) => NoProject::Refused(fault),
+            DeckError::OutOfMemory => NoProject::OutOfMemory,
+        }
+    }
 }
 
 /// Reads a deck of any sort to its end and returns its bytes.
@@ -44,12 +77,8 @@ pub fn load_deck<S: Source>(alloc: Global, source: &mut S) -> Result<Vec<u8>, No
     // fails, and each pull before that one gave at least one byte.
     ensures stops { IsReadWithin longest_deck STREAM_ROOM S.left S.faults S.pulls source.old source.new }
 {
-    match load(alloc, source, DECK_LIMIT) {
-        Ok(bytes) => Ok(bytes),
-        Err(LoadError::ReadFault) => Err(NoProject::ReadFault),
-        Err(LoadError::TooLong) => Err(NoProject::Refused(TOO_LONG)),
-        Err(LoadError::OutOfMemory) => Err(NoProject::OutOfMemory),
-    }
+    let bytes = load(alloc, source, DECK_LIMIT)?;
+    Ok(bytes)
 }
 
 /// Reads a plan to its end and returns its project.
@@ -65,10 +94,8 @@ pub(crate) fn read_project<S: Source>(alloc: Global, source: &mut S) -> Result<P
     ensures stops { IsReadWithin longest_deck STREAM_ROOM S.left S.faults S.pulls source.old source.new }
 {
     let key = source.key();
-    match load_deck(alloc, source) {
-        Ok(bytes) => project_in(alloc, key, &bytes),
-        Err(why) => Err(why),
-    }
+    let bytes = load_deck(alloc, source)?;
+    project_in(alloc, key, &bytes)
 }
 
 /// Returns the project of a complete plan. `key` is the key of the hash by which cards are looked up.
@@ -83,32 +110,7 @@ pub fn project_in(alloc: Global, key: u128, bytes: &[u8]) -> Result<Project, NoP
     if bytes.len() > DECK_LIMIT {
         return Err(NoProject::Refused(TOO_LONG));
     }
-    match project_or_fault(alloc, key, bytes) {
-        Ok(project) => Ok(project),
-        Err(error) => Err(NoProject::of(error)),
-    }
-}
-
-impl NoProject {
-    /// Returns why there is no project if a deck was read and then refused.
-    pub fn of(error: DeckError) -> NoProject
-        ensures { result ≡ lacking error }
-    {
-        match error {
-            DeckError::Fault(fault) => NoProject::Refused(fault),
-            DeckError::OutOfMemory => NoProject::OutOfMemory,
-        }
-    }
-}
-
-/// Returns the project of a deck that is not too long.
-fn project_or_fault(alloc: Global, key: u128, bytes: &[u8]) -> Result<Project, DeckError>
-    requires { length bytes.now ≤ longest_deck }
-    ensures accepted { IfOk result (IsProjectOf bytes.now) }
-    ensures refused { IfErr result (Refuses (IsFault bytes.now)) }
-{
-    match read_cards_by(alloc, key, bytes) {
-        Ok(cards) => project_of(alloc, cards),
-        Err(e) => Err(e),
-    }
+    let cards = read_cards_by(alloc, key, bytes)?;
+    let project = project_of(alloc, cards)?;
+    Ok(project)
 }

@@ -1,7 +1,13 @@
-//! Writing a text to a sink.
+//! Writing a text to a sink, and the line that refuses a deck.
 ghost use Rattle.pc_edges.specs.inside.Writes.{Writes};
+ghost use Rattle.pc_faults.specs.inside.FaultText.{IsTold};
+ghost use Rattle.pc_shell.specs.inside.Refusing.{Refusal};
+ghost use Rattle.pc_shell.specs.Sides.{side};
 
+use crate::status::Status;
 use pc_edges::{Failed, Sink, push_all};
+use pc_faults::{Fault, fault_line};
+use std::alloc::Global;
 
 /// Pushes the text and flushes the sink. Takes no memory.
 ///
@@ -13,4 +19,18 @@ pub fn send<O: Sink>(sink: &mut O, text: &[u8]) -> Result<(), Failed>
 {
     push_all(sink, text)?;
     sink.flush()
+}
+
+/// Writes the line of a fault on `err`, flushes it and returns the status.
+pub fn refuse<E: Sink>(alloc: Global, fault: &Fault, err: &mut E) -> Status
+    requires { IsTold fault.now }
+    ensures { Refusal fault.now (side E.taken E.faults err.old err.new) result }
+{
+    let Ok(line) = fault_line(alloc, fault) else {
+        return Status::OutOfMemory;
+    };
+    match send(err, line.bytes()) {
+        Ok(()) => Status::Refused,
+        Err(Failed) => Status::WriteFault,
+    }
 }

@@ -1,7 +1,17 @@
-//! The words that a program was started with.
-ghost use Rattle.std.specs.Prelude.{◌≡◌, ◌↔◌, length, IsSome};
+//! The words that a program was started with, and the deck that the only word names.
+ghost use Rattle.std.specs.Prelude.{◌≡◌, ◌↔◌, length, IfOk, IfErr, IsSome};
+ghost use Rattle.pc_deck.specs.Limits.{longest_deck};
+ghost use Rattle.pc_edges.specs.Pulls.{IsReadWithin};
+ghost use Rattle.pc_edges.specs.declared.loading.TheConstants.{STREAM_ROOM};
+ghost use Rattle.pc_shell.specs.inside.OneWord.{EndsWithout, IsProjectNamed};
+ghost use Rattle.pc_shell.specs.Sides.{side};
 
-use std::alloc::AllocError;
+use crate::reading::{NoProject, read_project};
+use crate::sending::{refuse, send};
+use crate::status::Status;
+use pc_edges::{Failed, Sink, Source};
+use pc_project::Project;
+use std::alloc::{AllocError, Global};
 use std::env;
 use std::io::ErrorKind;
 use std::rt::Env;
@@ -26,5 +36,40 @@ pub fn deck_name(words: &[String]) -> Option<&str>
     match words {
         [word] => Some(word.as_str()),
         _ => None,
+    }
+}
+
+/// Returns the project of the deck that the one word names.
+///
+/// It pulls as [`load_deck`](crate::load_deck) does.
+///
+/// # Errors
+///
+/// The status with which the call ends. If there is not exactly one word, nothing is read and `err` gets the usage
+/// line; if the deck is refused, `err` gets the line of its fault.
+pub fn project_named<D: Source, E: Sink>(
+    alloc: Global,
+    words: &[String],
+    usage: &[u8],
+    deck: &mut D,
+    err: &mut E,
+) -> Result<Project, Status>
+    ensures project { IfOk result (IsProjectNamed words.now (side D.left D.faults deck.old deck.new)
+        (side E.taken E.faults err.old err.new)) }
+    ensures none { IfErr result (EndsWithout words.now usage.now (side D.left D.faults deck.old deck.new)
+        (side E.taken E.faults err.old err.new)) }
+    ensures stops { IsReadWithin longest_deck STREAM_ROOM D.left D.faults D.pulls deck.old deck.new }
+{
+    if words.len() != 1 {
+        return match send(err, usage) {
+            Ok(()) => Err(Status::Usage),
+            Err(Failed) => Err(Status::WriteFault),
+        };
+    }
+    match read_project(alloc, deck) {
+        Ok(project) => Ok(project),
+        Err(NoProject::Refused(fault)) => Err(refuse(alloc, &fault, err)),
+        Err(NoProject::ReadFault) => Err(Status::ReadFault),
+        Err(NoProject::OutOfMemory) => Err(Status::OutOfMemory),
     }
 }

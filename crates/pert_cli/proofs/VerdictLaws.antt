@@ -1,18 +1,13 @@
 -- Verdicts on a deck of either sort: accepted, of one project, or refused with a fault that can be told, and never both.
-use Rattle.std.proofs.Common.{◌≡◌, ℕ, ◌<◌, ◌≤◌, List, length, Result, Ok, Err, refl, sym, subst, arith}
-use Rattle.std.specs.Prelude.{IfErr, IfOk}
+use Rattle.std.proofs.Common.{◌≡◌, ℕ, ◌<◌, List, length, refl, sym, subst, arith}
 use Rattle.pc_cards.specs.declared.sort.Sort.{Sort}
 use Rattle.pc_cards.specs.declared.sort.Sort.TheVariants.{Plan, Tasks}
 use Rattle.pc_deck.specs.Deck.{Deck}
 use Rattle.pc_deck.specs.Limits.{longest_deck}
-use Rattle.pc_deck.specs.Read.{IsReadAs}
 use Rattle.pc_deck.proofs.DeckLaws.{not_both_as as cards_not_refused, one_deck_as}
 use Rattle.pc_deck.proofs.ToldLemmas.{told_of-refusal_as}
 use Rattle.pc_faults.specs.inside.FaultText.{IsTold}
 use Rattle.pc_faults.specs.Faults.{too_long as fault_too_long}
-use Rattle.pc_faults.specs.inside.First.{Refuses}
-use Rattle.pc_faults.specs.declared.fault.DeckError.{DeckError}
-use Rattle.pc_faults.specs.declared.fault.DeckError.TheVariants as error
 use Rattle.pc_faults.specs.declared.fault.Fault.{Fault}
 use Rattle.pc_project.specs.Project.{Project}
 use Rattle.pc_project.proofs.SoundLaws.{HasSoundParts, sound_parts}
@@ -26,19 +21,6 @@ use Rattle.pert_cli.specs.Tasks.{IsAcceptedTasks, IsDrawnOf, IsTasksFault, card_
 use Rattle.pert_cli.specs.Verdicts.{AcceptedAs, IsFaultAs, IsMadeAs, RefusedAs}
 
 -- ---- decks of tasks
-
--- the project that is drawn of the tasks is that of their deck
-pub drawn_tasks : {E : Type 0} (result : Result Project E) (bytes : List ℕ) (tasks : Deck) → length bytes ≤ longest_deck → IsReadAs Tasks bytes tasks
-    → IfOk result (IsDrawnProject tasks) → IfOk result (IsDrawnOf bytes)
-drawn_tasks (Ok project) bytes tasks short cards drawn = record { tasks = tasks; short = short; cards = cards; drawn = drawn }
-drawn_tasks (Err error) bytes tasks short cards drawn = tt
-
--- the refusal of tasks is the fault of their deck
-pub refused_tasks : {A : Type 0} (result : Result A DeckError) (bytes : List ℕ) (tasks : Deck) → length bytes ≤ longest_deck → IsReadAs Tasks bytes tasks
-    → IfErr result (Refuses (IsTasksRefusedWith tasks)) → IfErr result (Refuses (IsTasksFault bytes))
-refused_tasks (Ok project) bytes tasks short cards refused = tt
-refused_tasks (Err (error.Fault fault)) bytes tasks short cards refused = tasks_refusal tasks short cards refused
-refused_tasks (Err error.OutOfMemory) bytes tasks short cards refused = tt
 
 -- each fault of a deck of tasks can be told
 pub told_of-tasks : (bytes : List ℕ) (fault : Fault) → IsTasksFault bytes fault → IsTold fault

@@ -15,12 +15,13 @@ ghost use Rattle.pert_cli.specs.inside.FormDeck.{HasNoProjectFor};
 ghost use Rattle.pert_cli.specs.Forms.{IsNumbered};
 
 use crate::forms::Form;
-use crate::tasks::drawn_or_fault;
 use pc_cards::sort::Sort;
 use pc_curve::bench::{MOST_ACTIVITIES, bench_deck};
+use pc_deck::read_tasks_by;
 use pc_edges::{FIXED_KEY, Source};
 use pc_project::Project;
 use pc_shell::{NoProject, load_deck, project_in};
+use pc_tasks::drawn_project;
 use std::alloc::Global;
 
 /// Returns the project of a form's deck: its own deck, and then nothing is read, or the source's.
@@ -55,14 +56,10 @@ fn read_as<S: Source>(
     ensures stops { IsReadWithin longest_deck STREAM_ROOM S.left S.faults S.pulls source.old source.new }
 {
     let key = source.key();
-    match load_deck(alloc, source) {
-        Ok(bytes) => {
-            let project = project_as(alloc, key, sort, &bytes);
-            *deck = bytes;
-            project
-        }
-        Err(why) => Err(why),
-    }
+    let bytes = load_deck(alloc, source)?;
+    let project = project_as(alloc, key, sort, &bytes);
+    *deck = bytes;
+    project
 }
 
 /// Returns the project of a deck of a sort that is not too long. Cards are looked up by this key.
@@ -83,10 +80,9 @@ fn drawn_in(alloc: Global, key: u128, bytes: &[u8]) -> Result<Project, NoProject
     ensures project { IfOk result (IsDrawnOf bytes.now) }
     ensures none { IfErr result (IsNoProjectBy IsTasksFault bytes.now) }
 {
-    match drawn_or_fault(alloc, key, bytes) {
-        Ok(project) => Ok(project),
-        Err(error) => Err(NoProject::of(error)),
-    }
+    let tasks = read_tasks_by(alloc, key, bytes)?;
+    let project = drawn_project(alloc, &tasks)?;
+    Ok(project)
 }
 
 /// Returns the project of the benchmark's deck, which is read like any deck.
@@ -96,8 +92,6 @@ fn bench_project(alloc: Global, n: u64) -> Result<Project, NoProject>
     ensures project { IfOk result (IsProjectOf (bench_deck_text n)) }
     ensures none { IfErr result (IsNoProjectOf (bench_deck_text n)) }
 {
-    let Ok(deck) = bench_deck(alloc, n) else {
-        return Err(NoProject::OutOfMemory);
-    };
+    let deck = bench_deck(alloc, n)?;
     project_in(alloc, FIXED_KEY, &deck)
 }

@@ -15,7 +15,6 @@ mod optimum;
 mod outlook;
 mod printed;
 mod solving;
-mod tasks;
 mod top;
 
 pub use crate::fault_laws::one_fault;

@@ -3,6 +3,9 @@
 -- Here is what no clause of a top call and no law reaches.
 use Rattle.std.specs.Prelude.{ℕ, ◌≤◌, List, length, ⊤}
 use Rattle.std.specs.Io.KnownBytes.{Consumes}
+use Rattle.pc_edges.specs.declared.loading.LoadError.{LoadError}
+use Rattle.pc_edges.specs.declared.loading.LoadError.TheVariants as load
+use Rattle.pc_faults.specs.Faults.{too_long as fault_too_long}
 use Rattle.pc_faults.specs.declared.fault.DeckError.{DeckError}
 use Rattle.pc_faults.specs.declared.fault.DeckError.TheVariants as error
 use Rattle.pc_faults.specs.declared.fault.Fault.{Fault}
@@ -39,6 +42,12 @@ HasNoProjectBy Has source OutOfMemory = ⊤
 -- why a deck was not read: for none of its own faults, since these are found only where it was
 abbrev pub HasNoDeck : {X : Type 0} → Side X → NoProject → Type 0
 HasNoDeck source why = HasNoProjectBy (λ bytes fault. ⊥) source why
+
+-- why there is no project, where the source was not read to its end
+abbrev pub unread : LoadError → NoProject
+unread load.ReadFault = ReadFault
+unread load.TooLong = Refused fault_too_long
+unread load.OutOfMemory = OutOfMemory
 
 -- why there is no project, where a deck that was read is refused so
 abbrev pub lacking : DeckError → NoProject

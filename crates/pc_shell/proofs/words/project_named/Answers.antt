@@ -7,7 +7,7 @@ use Rattle.pc_shell.specs.inside.OneWord.{not_one_word, no_memory, deck_unread, 
 use Rattle.pc_shell.specs.inside.Refusing.{Refusal}
 use Rattle.pc_shell.specs.Sides.{side}
 use Rattle.pc_shell.proofs.OneWordLaws.{after_refusal}
-use Rattle.pc_shell.proofs.one_word.project_named.Goals as goal
+use Rattle.pc_shell.proofs.words.project_named.Goals as goal
 
 pub returns-in-Ok-clause-none : goal.returns-in-Ok-clause-none
 returns-in-Ok-clause-none g c = not_one_word (λ one. absurd (omega (arith, one, c.if-words-ne1.true))) c.in-Ok.ensures.ok refl
