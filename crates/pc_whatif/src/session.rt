@@ -1,5 +1,5 @@
 //! A session, the answers to its lines, the side of a talk that it is, and the laws of its answers to any lines.
-ghost use Rattle.std.specs.Prelude.{◌≡◌, length, IfOk, ℕ, List, None, Some, ◌≤◌};
+ghost use Rattle.std.specs.Prelude.{◌≡◌, length, IfOk, ℕ, List, None, Some};
 ghost use Rattle.pc_whatif.specs.edits.Editing.{begun};
 ghost use Rattle.pc_whatif.specs.inside.trials.Trials.{trial_cells};
 ghost use Rattle.pc_whatif.specs.inside.Planning.{
