@@ -8,4 +8,3 @@ pub mod KeptLaws
 pub mod InsideLaws
 pub mod StandingLaws
 pub mod BegunLaws
-pub mod EditingLaws

@@ -1,5 +1,5 @@
 -- What a session's region keeps when numbers in its spans change.
-use Rattle.std.proofs.Common.{◌≡◌, ℕ, ◌-◌, ◌<◌, ◌≤◌, List, length, set, sym, ◌∙◌, ap, subst, arith}
+use Rattle.std.proofs.Common.{◌≡◌, ℕ, ◌<◌, ◌≤◌, List, length, set, sym, ◌∙◌, ap, subst, arith}
 use Rattle.std.specs.Prelude.{Some, unwrap_or}
 use Rattle.std.proofs.lemmas.List.{length-set}
 use Rattle.pc_cells.specs.Spans.{Cells}
