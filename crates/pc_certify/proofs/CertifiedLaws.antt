@@ -19,7 +19,6 @@ use Rattle.pc_check.specs.Certified.{AreCertified, AreCurve}
 use Rattle.pc_check.proofs.GoodLines.{curve_of}
 use Rattle.pc_check.specs.Texts.{IsCertified}
 use Rattle.pc_cert.specs.Document.{head_lines, segment_lines, end_lines, document_lines}
-use Rattle.pc_cert.specs.Document.{HasSmallNumbers}
 use Rattle.pc_certify.specs.Complete.{begun_lines}
 use Rattle.pc_certify.specs.Complete.{IsComplete}
 use Rattle.pc_certify.proofs.RowLaws.{part_of}
@@ -100,11 +99,6 @@ pub document_fits : (net : PricedNetwork) (normal crash : List ℕ) (segments : 
 document_fits net normal crash segments head fit =
     AllFit-append (head_lines net normal crash) (flat_map (segment_lines net) segments ++ end_lines) head
     (fit_all net segments (recursion_from_All (λ seg. AreWritable (segment_lines net seg)) segments fit))
-
--- where each segment's lines can be spelled if its numbers are small, and they are
-pub fit_where_small : (net : PricedNetwork) (segments : List Segment) → All (λ seg. HasSmallNumbers net seg → AreWritable (segment_lines net seg)) segments → All (HasSmallNumbers net) segments
-    → All (λ seg. AreWritable (segment_lines net seg)) segments
-fit_where_small net segments fit small = λ k d lt. fit k d lt (small k d lt)
 
 walk_known_each : (arcs : List Arc) (e f : ℕ) (walk : List ℕ) → IsWalk arcs e walk f → ByRecursion (λ a. a < length arcs) walk
 walk_known_each arcs e f [] leads = tt

@@ -52,9 +52,6 @@ has_front (x ∷ xs) (y ∷ ys) rest p q same =
 place_same : (p q : Place) → Some p ≡ Some q → p ≡ q
 place_same p q e = cc
 
-nowhere : (place : Place) → None ≡ Some place → ⊥
-nowhere place e = absurd cc
-
 contrary : (fail : Fail) → None ≡ Some fail → ⊥
 contrary fail e = absurd cc
 

@@ -1,5 +1,5 @@
 -- Lines that go on to a page many at a time.
-use Rattle.std.proofs.Common.{◌≡◌, ℕ, ◌+◌, ◌≤◌, List, [], ◌++◌, length, take, drop, refl, sym, ap, ◌∙◌, subst, arith}
+use Rattle.std.proofs.Common.{◌≡◌, ℕ, ◌+◌, ◌≤◌, List, [], ◌++◌, length, take, drop, sym, ap, ◌∙◌, subst, arith}
 use Rattle.std.proofs.Common.{append_assoc, append-nil, length-drop, length-take-le, take-add, take-take, take_at, drop_at}
 use Rattle.std.proofs.lemmas.Slice.{take-put_mid}
 use borrow.Rule.Slice.PartMut.{put_mid, same_len_mid}
@@ -27,14 +27,6 @@ Gathers-then {d} {e} {f} {before} {middle} {after} {x} {y} g h = record {
       ∙ ap (λ t. t ++ y) g.rest
       ∙ append_assoc before x y;
 }
-
--- what was put on the page is no longer gathered
-pub Gathers-put : {d e : Desk} {lines : List ℕ} → Adds d e lines → Gathers d lines e [] []
-Gathers-put {d} {e} {lines} put = record { front = lines; put = put; rest = refl }
-
--- a text was added to what is gathered
-pub Gathers-added : (d : Desk) (before text : List ℕ) → Gathers d before d (before ++ text) text
-Gathers-added d before text = record { front = []; put = Adds-nil d; rest = refl }
 
 -- where nothing was gathered before, and what is gathered now is put, the text was put
 pub Gathers-all : {d e f : Desk} {before after text : List ℕ} → before ≡ [] → Gathers d before e after text → Adds e f after → Adds d f text

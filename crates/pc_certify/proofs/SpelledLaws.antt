@@ -1,18 +1,13 @@
 -- The lines as they were spelled last.
-use Rattle.std.proofs.Common.{◌≡◌, ℕ, ◌+◌, ◌<◌, ◌≤◌, Bool, List, [], ◌∷◌, ◌++◌, length, take, get_or, set, decimal, sym, ap, subst, ◌∙◌, arith, append_assoc, ⊎_elim}
+use Rattle.std.proofs.Common.{◌≡◌, ℕ, ◌+◌, ◌<◌, ◌≤◌, Bool, List, [], ◌∷◌, ◌++◌, length, take, get_or, decimal, sym, ap, subst, ◌∙◌, arith, append_assoc, ⊎_elim}
 use Rattle.std.specs.Prelude.{codes}
 use Rattle.std.proofs.lemmas.Bool.{cases_eq}
-use Rattle.std.proofs.lemmas.List.{get_or_append_left, get_or_push, get_or-set_same, get_or-set_other, length-append, length-set}
-use Rattle.pc_model.specs.Codes.{text_at}
-use Rattle.pc_crash.specs.Priced.{PricedNetwork}
+use Rattle.std.proofs.lemmas.List.{get_or_append_left, get_or_push, length-append}
 use Rattle.pc_cert.specs.declared.line.CertLine.TheVariants.{Event}
 use Rattle.pc_text.specs.Fields.{spaced}
 use Rattle.pc_cert.specs.inside.Fields.{bit_text}
 use Rattle.pc_cert.specs.Text.{text_of}
 use Rattle.pc_cert.proofs.EventLaws.{front_of}
-use Rattle.pc_certify.specs.inside.Spelled.{SpellsEvent, SpellsAct, AreEventsSpelled, AreActsSpelled}
-use Rattle.pc_certify.specs.declared.last_lines.EventRow.{EventRow}
-use Rattle.pc_certify.specs.declared.last_lines.ActRow.{ActRow}
 
 -- what holds of each row of a list holds of one more
 pub each_more : {X : Type 0} (P : ℕ → X → Type 0) (rows : List X) (row d : X) (n : ℕ) → length rows ≡ n →
@@ -20,26 +15,6 @@ pub each_more : {X : Type 0} (P : ℕ → X → Type 0) (rows : List X) (row d :
 each_more P rows row d n long each last i below =
     ⊎_elim (λ here. subst (λ k. P k (get_or (rows ++ row ∷ []) k d)) (sym here) (subst (P n) (sym (get_or_push rows row d n long)) last))
     (λ other. subst (P i) (sym (get_or_append_left rows (row ∷ []) d i (omega (arith, long, below, other)))) (each i (omega (arith, below, other)))) (cases_eq i n)
-
--- what holds of each row of a list holds after one of them has changed
-pub each_with : {X : Type 0} (P : ℕ → X → Type 0) (rows : List X) (row d : X) (n a : ℕ) → length rows ≡ n →
-    ((i : ℕ) → i < n → P i (get_or rows i d)) → P a row → a < n → (i : ℕ) → i < n → P i (get_or (set rows a row) i d)
-each_with P rows row d n a long each new known i below =
-    ⊎_elim (λ here. subst (λ k. P k (get_or (set rows a row) k d)) (sym here) (subst (P a) (sym (get_or-set_same rows a row d (omega (arith, long, known)))) new))
-    (λ other. subst (P i) (sym (get_or-set_other rows a i row d other)) (each i below)) (cases_eq i a)
-
-pub event_said : (net : PricedNetwork) (rows : List EventRow) (e : ℕ) (row : EventRow) → AreEventsSpelled net rows →
-    e < net.network.events → SpellsEvent (text_at net.events e) row → AreEventsSpelled net (set rows e row)
-event_said net rows e row are known spells = record {
-  one_each = length-set rows e row ∙ are.one_each;
-  each = each_with (λ i r. SpellsEvent (text_at net.events i) r) rows row _ net.network.events e are.one_each are.each spells known;
-}
-
-pub act_said : (net : PricedNetwork) (rows : List ActRow) (a : ℕ) (row : ActRow) → AreActsSpelled net rows → a < length net.network.arcs → SpellsAct net a row → AreActsSpelled net (set rows a row)
-act_said net rows a row are known spells = record {
-  one_each = length-set rows a row ∙ are.one_each;
-  each = each_with (λ i r. SpellsAct net i r) rows row _ (length net.network.arcs) a are.one_each are.each spells known;
-}
 
 -- ---- the line of an event, cut behind its code
 
