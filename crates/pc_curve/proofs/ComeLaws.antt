@@ -1,10 +1,10 @@
 -- The way down to a length.
-use Rattle.std.proofs.Common.{◌≡◌, ℕ, ◌+◌, ◌<◌, ◌≤◌, Bool, true, false, if◌then◌else◌, inl, inr, sym, ◌∙◌, ap, arith}
+use Rattle.std.proofs.Common.{◌≡◌, ℕ, ◌+◌, ◌<◌, ◌≤◌, Bool, true, false, if◌then◌else◌, inl, inr, sym, ◌∙◌, arith}
 use Rattle.std.specs.Prelude.{◌↔◌, IsFalse}
 use Rattle.std.proofs.lemmas.Bool.{cases_Bool, cases_lt}
 use Rattle.pc_flow.specs.Courses.{Course, upper_of, lower_of, IsLevel, IsSameCurve}
-use Rattle.pc_flow.specs.inside.Courses.{present, IsOnCurve, HasEnded, IsNext}
-use Rattle.pc_curve.specs.inside.Points.{IsToCome, IsThere}
+use Rattle.pc_flow.specs.inside.Courses.{HasEnded, IsNext}
+use Rattle.pc_curve.specs.inside.Points.{IsToCome}
 
 -- one step comes before the first segment
 abbrev step_before : Bool → ℕ
@@ -13,14 +13,6 @@ step_before given = if given then 0 else 1
 -- how far it is down from the present segment, and that step
 abbrev pub left : Course → ℕ
 left c = step_before c.given + lower_of c
-
--- a segment that comes down to the length holds it
-pub is-there : (c : Course) (limit : ℕ) → IsToCome c limit → c.given ≡ true → IsOnCurve c → lower_of c ≤ limit → IsThere c limit
-is-there c limit to_come given whole low = record {
-  given = given;
-  whole = whole;
-  holds = record { above = low; below = to_come.below given };
-}
 
 -- above the length there is a next segment
 pub goes-on : (c : Course) (limit : ℕ) → IsToCome c limit → (c.given ≡ true → lower_of c ≤ limit → ⊥) → (r : Bool) → IsFalse r ↔ HasEnded c → r ≡ true
@@ -31,8 +23,6 @@ goes-on c limit to_come high r decides =
     ]
 
 module _ (c d : Course) (limit : ℕ) (to_come : IsToCome c limit) (level : c.given ≡ false → IsLevel c) (same : IsSameCurve c d) (next : IsNext c d) where
-  ordered : (present d).lower ≤ (present d).upper
-  ordered = next.whole.right.proper.ordered
 
   -- before the first segment all of the range is left
   begins : c.given ≡ false → upper_of d ≡ lower_of c
@@ -65,17 +55,3 @@ module _ (c d : Course) (limit : ℕ) (to_come : IsToCome c limit) (level : c.gi
       | inr none ↦ omega (arith, next.first none, to_come.within)
     ];
   }
-
-  pub less-left : (c.given ≡ true → lower_of c ≤ limit → ⊥) → left d < left c
-  less-left high =
-      let after : step_before d.given ≡ 0 = ap step_before next.given in
-      elim (cases_Bool c.given) [
-        | inl had ↦
-            let before : step_before c.given ≡ 0 = ap step_before had in
-            let long : lower_of d < upper_of d = next.long (omega (arith, joined, not_low high had, to_come.above)) in
-            omega (arith, after, before, long, joined)
-        | inr none ↦
-            let before : step_before c.given ≡ 1 = ap step_before none in
-            let lower : lower_of d ≤ upper_of d = ordered in
-            omega (arith, after, before, lower, joined)
-      ]

@@ -6,12 +6,12 @@ use Rattle.pc_edges.specs.inside.page.Puts.{Desk, Adds}
 use Rattle.pc_edges.proofs.lemmas.page.PageLaws.{Adds-nil, Adds-then, Adds-as}
 use Rattle.pc_flow.specs.Courses.{Course, IsSameCurve}
 use Rattle.pc_flow.proofs.LookLaws.{same-stays, same-joins}
-use Rattle.pc_laws.specs.Curve.{Breakpoint, AreBreakpoints}
+use Rattle.pc_laws.specs.Curve.{Breakpoint}
 use Rattle.pc_curve.specs.declared.breaks.Break.{Break}
 use Rattle.pc_curve.specs.Points.{curve_in}
 use Rattle.pc_curve.specs.Breaks.{IsNextBreakpoint, AreBreakpointsTo}
 use Rattle.pc_curve.specs.inside.Breaks.{IsNextBreak, StandsAt, StandsBy, point_of}
-use Rattle.pc_curve.proofs.ListLaws.{list-begins, list-grows, list-whole}
+use Rattle.pc_curve.proofs.ListLaws.{list-begins, list-grows}
 use Rattle.pc_curve.specs.CurveText.{break_line, curve_text}
 
 -- one line more
@@ -64,15 +64,3 @@ pub fewer : (c d : Course) (last : Option ℕ) (b : Break) → IsNextBreak c las
     → still_to_come d (Some b.length) < still_to_come c last
 fewer c d None b next same place = omega (arith, place.within, same.longest)
 fewer c d (Some last) b next same place = omega (arith, next.ahead)
-
--- after the one at the shortest length they are all of them
-pub put-whole : (from c : Course) (last : Option ℕ) (old new : Desk) → ArePutTo from last c old new → last ≡ Some c.shortest
-    → (points : List Breakpoint) × AreBreakpoints (curve_in from.net) from.shortest from.longest points × Adds old new (curve_text points)
-put-whole from c last old new put ends =
-    let stands : StandsAt c.shortest c = subst (λ (l : Option ℕ). StandsBy l c) ends put.place in
-    let at : last ≡ Some from.shortest = ends ∙ ap (λ (n : ℕ). Some n) put.same.shortest in (
-      put.points,
-      list-whole (curve_in from.net) from.shortest from.longest put.points (omega (arith, stands.within, put.same.shortest, put.same.longest))
-          (subst (λ (l : Option ℕ). AreBreakpointsTo (curve_in from.net) from.shortest from.longest l put.points) at put.breaks),
-      put.text,
-    )
