@@ -1,10 +1,10 @@
 -- Tables of items that are made period by period.
-use Rattle.std.proofs.Common.{◌≡◌, ℕ, ◌+◌, ◌*◌, ◌<◌, ⊎_elim, List, [], ◌++◌, length, take, drop, ap, sym, refl, ◌∙◌, subst, length-append, length-drop, suc, arith}
+use Rattle.std.proofs.Common.{◌≡◌, ℕ, ◌+◌, ◌*◌, ◌<◌, ⊎_elim, List, ◌++◌, length, take, drop, ap, sym, refl, ◌∙◌, subst, length-append, length-drop, suc, arith}
 use Rattle.std.specs.Prelude.{ℤ}
 use Rattle.std.proofs.lemmas.Bool.{cases_eq}
 use Rattle.std.proofs.lemmas.List.{take-append-le, drop-append-le}
 use Rattle.std.proofs.Math.Seq.{drop_at, take_all}
-use Rattle.std.proofs.Math.Nat.{suc-mul, zero-mul}
+use Rattle.std.proofs.Math.Nat.{suc-mul}
 use Rattle.pc_wbs.specs.declared.tree.ItemRow.{ItemRow}
 use Rattle.pc_wbs.specs.Climb.{AreInRange, IsBelow, IsLeaf, IsTree}
 use Rattle.pc_rollup.specs.Totals.{amount_at}
@@ -21,10 +21,6 @@ use Rattle.pc_load.proofs.ColumnLaws.{before_next}
 pub record AreRolledTo (tree : List ItemRow) (leaves : Table) (n : ℕ) (cells : List ℤ) : Type 0 where
   pub whole : length cells ≡ n * length tree
   pub each : (k : ℕ) → k < n → AreRolledUp tree (column leaves k) (column_of (length tree) cells k)
-
--- none
-pub rolled_none : (tree : List ItemRow) (leaves : Table) → AreRolledTo tree leaves 0 []
-rolled_none tree leaves = record { whole = sym (zero-mul (length tree)); each = λ k lt. absurd (omega arith) }
 
 -- one period more
 pub rolled_more : (tree : List ItemRow) (leaves : Table) (n : ℕ) (cells totals : List ℤ) → AreRolledTo tree leaves n cells →
