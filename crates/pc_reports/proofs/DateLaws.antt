@@ -2,15 +2,13 @@
 use Rattle.std.proofs.Common.{◌≡◌, ℕ, ◌+◌, ◌-◌, ◌<◌, ◌⊎◌, ◌&&◌, true, false, int_le, ℤ, pos, neg_ℤ, ◌/◌, inl, inr, refl, List, []}
 use Rattle.std.proofs.Common.{◌∷◌, ◌++◌, length, slice_index, slice_index_or, sym, ap, ◌∙◌, subst, ⊎_elim, arith, length-append}
 use Rattle.std.proofs.lemmas.List.{get_or_append_left, get_or-append_right}
-use Rattle.std.proofs.lemmas.Bool.{cases_Bool, true≢false}
+use Rattle.std.proofs.lemmas.Bool.{cases_Bool}
 use Rattle.std.proofs.lemmas.Int.{ints}
 use Rattle.std.proofs.Math.Nat.{eq-or-lt_of_le}
 use Rattle.pc_days.specs.Calendar.{no_date, text_of_day}
 use Rattle.pc_days.specs.Dates.{IsAfterSixths, IsPrintedDay, IsRoundedUp}
 use Rattle.pc_days.proofs.Sixths.{after_sixths, after_sixths-only}
-use Rattle.pc_days.specs.Dates.{NamesDay}
-use Rattle.pc_days.proofs.CalendarLaws.{names_its_day}
-use Rattle.pc_reports.specs.Times.{IsDate, AreDates, date_of, day_after, printed, past}
+use Rattle.pc_reports.specs.Times.{IsDate, AreDates, date_of, day_after}
 
 -- the dates of the first times
 pub record AreDatesTo (start : ℤ) (times : List ℕ) (count : ℕ) (dates : List (List ℕ)) : Type 0 where
@@ -82,20 +80,3 @@ date_of-printed start n day after there =
 pub date_of-past : (start : ℤ) (n : ℕ) → ((day : ℤ) → IsAfterSixths start (pos n) day → IsPrintedDay day → ⊥) → no_date ≡ date_of start n
 unfolding date_of
 date_of-past start n none = rw (is_past (day_after start n) (none (day_after start n) (after-day start n))) refl
-
--- so the function tells how the relation does
-pub IsDate-date_of : (start : ℤ) (n : ℕ) → IsDate start n (date_of start n)
-IsDate-date_of start n =
-    elim (cases_Bool (int_le (neg_ℤ (pos 25_567)) (day_after start n) && int_le (day_after start n) (pos 2_932_896))) [
-      | inl is ↦ let there : IsPrintedDay (day_after start n) = in_print (day_after start n) is in
-          printed (day_after start n) (after-day start n) there
-          (subst (λ text. NamesDay text (day_after start n)) (date_of-printed start n (day_after start n) (after-day start n) there)
-          (names_its_day (day_after start n) there))
-      | inr isnt ↦ past (none isnt) (sym (date_of-past start n (none isnt)))
-    ]
-  where
-    in_print : (day : ℤ) → (int_le (neg_ℤ (pos 25_567)) day && int_le day (pos 2_932_896)) ≡ true → IsPrintedDay day
-    in_print day is = (grind (arith, ints), grind (arith, ints))
-
-    none : (int_le (neg_ℤ (pos 25_567)) (day_after start n) && int_le (day_after start n) (pos 2_932_896)) ≡ false → (day : ℤ) → IsAfterSixths start (pos n) day → IsPrintedDay day → ⊥
-    none isnt day after there = true≢false (sym (is_printed (day_after start n) (subst IsPrintedDay (only-day start n day after) there)) ∙ isnt)
