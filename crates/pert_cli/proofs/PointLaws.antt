@@ -1,9 +1,7 @@
 -- Lengths of a network's range and their schedules.
-use Rattle.std.proofs.Common.{◌≡◌, ℕ, List, ◌++◌, refl, sym, subst}
+use Rattle.std.proofs.Common.{◌≡◌, ℕ, List, ◌++◌, sym, subst}
 use Rattle.pc_faults.specs.declared.fault.Fault.{Fault}
-use Rattle.pc_faults.specs.inside.FaultText.{IsTold}
 use Rattle.pc_crash.specs.Priced.{PricedNetwork}
-use Rattle.pc_model.specs.Schedule.{IsAllCrashLength, IsAllNormalLength}
 use Rattle.pc_project.specs.Project.{Project}
 use Rattle.pc_rollup.specs.figures.Outlook.{amounts_at, IsWholeOutlook, Outlook as TheOutlook}
 use Rattle.pc_reports.specs.OutlookText.{IsOutlook, outlook_text}
@@ -12,23 +10,13 @@ use Rattle.pert_cli.specs.declared.forms.Form.TheVariants.{Point, Outlook}
 use Rattle.pc_shell.specs.Priced.{priced_in}
 use Rattle.pert_cli.specs.Handing.{IsReply}
 use Rattle.pert_cli.specs.Normal.{Printed, printed_text}
-use Rattle.pc_curve.specs.Range.{IsRange, IsLengthInRange}
+use Rattle.pc_curve.specs.Range.{IsLengthInRange}
 use Rattle.pc_curve.proofs.RangeLaws.{outside_range}
 use Rattle.pert_cli.specs.Point.{IsCheapestFor, IsOutside}
 
 -- no length is both one of the network and none
 pub within_not_outside : (net : PricedNetwork) (limit : ℕ) (fault : Fault) → IsLengthInRange net limit → IsOutside net limit fault → ⊥
 within_not_outside net limit fault inside out = outside_range net out.shortest out.longest limit out.range out.outside inside
-
--- the fault of a length that is none can be told
-pub told_of-outside : (net : PricedNetwork) (limit : ℕ) (fault : Fault) → IsOutside net limit fault → IsTold fault
-told_of-outside net limit fault out = subst IsTold (sym out.is) refl
-
--- the range of a network that is another
-pub range_of : (net other : PricedNetwork) (shortest longest : ℕ) → net ≡ other → IsAllCrashLength net.network net.terms shortest →
-    IsAllNormalLength net.network net.terms longest → IsRange other shortest longest
-range_of net other shortest longest same crash normal =
-    subst (λ (n : PricedNetwork). IsRange n shortest longest) same (record { all_crash = crash; all_normal = normal })
 
 -- the text of a schedule of least cost for the length answers `point`
 pub point_reply : (project : Project) (limit : ℕ) (printed : Printed) (text : List ℕ) → IsCheapestFor (priced_in project) limit printed →

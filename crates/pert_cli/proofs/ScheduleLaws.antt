@@ -1,5 +1,5 @@
 -- The schedule at the all-normal length: its durations, its times and its cost are right.
-use Rattle.std.proofs.Common.{◌≡◌, ℕ, List, length, slice_index, sym, ◌∙◌, ap, subst, arith}
+use Rattle.std.proofs.Common.{◌≡◌, List, length, slice_index, sym, ◌∙◌, ap, subst, arith}
 use Rattle.std.proofs.lemmas.List.{length-map}
 use Rattle.pc_model.specs.declared.Term.{Term}
 use Rattle.pc_model.specs.Network.{Network, IsLongest}
@@ -9,11 +9,10 @@ use Rattle.pc_model.specs.Pieces.{knees_of}
 use Rattle.pc_model.proofs.Schedules.Durations.{normals-at}
 use Rattle.pc_model.proofs.Costs.NormalCost.{all_normal_least_cost, all_normal_schedule, cost_of-normals}
 use Rattle.pc_crash.specs.inside.Priced.{AreDurations}
-use Rattle.pc_reports.specs.Schedule.{schedule_text}
 use Rattle.pc_times.specs.Times.{AreEarly, AreLengths}
 use Rattle.pc_project.specs.Project.{Project}
 use Rattle.pc_project.specs.Planned.{IsPlanned}
-use Rattle.pert_cli.specs.Normal.{IsNormalSchedule, Printed, printed_text}
+use Rattle.pert_cli.specs.Normal.{IsNormalSchedule, Printed}
 
 -- the normal durations are lengths of the activities
 pub normals-lengths : (project : Project) → IsPlanned project → AreLengths project.network (normals project.terms)
@@ -48,11 +47,3 @@ normal_schedule project printed planned normal early longest cost = record {
       (slice_index printed.times) printed.length printed.cost planned.in_range planned.sound planned.terms early.each longest
       (cost ∙ cost_of-normals project.terms (knees_of project.terms project.pieces))).least;
 }
-
--- the text of a printed schedule, from its parts
-pub printed_text-is : (project : Project) (printed : Printed) (total cost : ℕ) (events activities : List (List ℕ))
-    (times durations : List ℕ) → total ≡ printed.length → cost ≡ printed.cost → events ≡ project.events → times ≡ printed.times →
-    activities ≡ project.activities → durations ≡ printed.durations →
-    schedule_text total cost events times activities durations ≡ printed_text project printed
-printed_text-is project printed total cost events activities times durations same_total same_cost same_events same_times same_activities same_durations =
-    λ i. schedule_text (same_total i) (same_cost i) (same_events i) (same_times i) (same_activities i) (same_durations i)
