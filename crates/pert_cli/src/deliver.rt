@@ -30,17 +30,6 @@ impl From<AllocError> for NoAnswer {
     }
 }
 
-impl From<Failed> for NoAnswer {
-    ghost use Rattle.std.specs.Prelude.{◌≡◌};
-    ghost use Rattle.pert_cli.specs.declared.deliver.NoAnswer.TheVariants.{WriteFault};
-
-    ghost from_gives = { λ _ e. e ≡ WriteFault };
-
-    fn from(_: Failed) -> NoAnswer {
-        NoAnswer::WriteFault
-    }
-}
-
 /// Writes a report on `out`, through a page, and flushes `out`.
 ///
 /// # Errors
@@ -58,6 +47,8 @@ pub(crate) fn deliver<R: Report + Drop, O: Sink>(
 {
     let mut page = Page::with_capacity(alloc, PAGE_ROOM)?;
     report.put_on(&mut page, out, project);
-    page.finish(out)?;
-    Ok(())
+    match page.finish(out) {
+        Ok(()) => Ok(()),
+        Err(Failed) => Err(NoAnswer::WriteFault),
+    }
 }
