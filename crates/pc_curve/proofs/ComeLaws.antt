@@ -23,7 +23,6 @@ goes-on c limit to_come high r decides =
     ]
 
 module _ (c d : Course) (limit : ℕ) (to_come : IsToCome c limit) (level : c.given ≡ false → IsLevel c) (same : IsSameCurve c d) (next : IsNext c d) where
-
   -- before the first segment all of the range is left
   begins : c.given ≡ false → upper_of d ≡ lower_of c
   begins none =
