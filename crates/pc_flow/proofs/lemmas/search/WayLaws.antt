@@ -5,7 +5,7 @@ use Rattle.pc_model.specs.Greatest.{StandsBelow}
 use Rattle.pc_model.specs.Walk.{from_of, to_of}
 use Rattle.pc_model.specs.Network.{IsInRange}
 use Rattle.pc_crash.specs.Priced.{PricedNetwork}
-use Rattle.pc_crash.specs.declared.linking.Link.{Link}
+use Rattle.pc_crash.specs.declared.link_table.Link.{Link}
 use Rattle.pc_crash.specs.inside.Links.{activities_of, link_at}
 use Rattle.pc_laws.specs.Stair.{unit_length}
 use Rattle.pc_flow.specs.board.Sheets.{Sheet, rank_of, flow_of}

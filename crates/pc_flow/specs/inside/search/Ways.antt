@@ -2,7 +2,7 @@
 use Rattle.std.specs.Prelude.{◌≡◌, ◌<◌, ℕ, Bool, true, false, List, length}
 use Rattle.pc_model.specs.Walk.{from_of, to_of}
 use Rattle.pc_crash.specs.Priced.{PricedNetwork}
-use Rattle.pc_crash.specs.declared.linking.Link.{Link}
+use Rattle.pc_crash.specs.declared.link_table.Link.{Link}
 use Rattle.pc_crash.specs.inside.Links.{link_at}
 use Rattle.pc_flow.specs.board.Sheets.{Sheet, flow_of}
 use Rattle.pc_flow.specs.declared.search.way.Way.{Way}
