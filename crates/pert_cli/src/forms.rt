@@ -237,52 +237,32 @@ impl Form {
             Form::Summary => deliver(alloc, SummaryReport::build(alloc, project)?, project, out),
             Form::Value => deliver(alloc, ValueReport::build(alloc, project)?, project, out),
             Form::Curve => {
-                let lines = CurveLines::Breakpoints;
-                deliver(
-                    alloc,
-                    CurveReport::build(alloc, project, lines)?,
-                    project,
-                    out,
-                )
+                let report = CurveReport::build(alloc, project, CurveLines::Breakpoints)?;
+                deliver(alloc, report, project, out)
             }
-            Form::Certify => deliver(
-                alloc,
-                CertificateReport::build(alloc, project)?,
-                project,
-                out,
-            ),
+            Form::Certify => {
+                let report = CertificateReport::build(alloc, project)?;
+                deliver(alloc, report, project, out)
+            }
             Form::Point(limit) => {
-                deliver(
-                    alloc,
-                    cheapest_schedule(alloc, project, limit)?,
-                    project,
-                    out,
-                )
+                let schedule = cheapest_schedule(alloc, project, limit)?;
+                deliver(alloc, schedule, project, out)
             }
-            Form::Outlook(limit) => deliver(
-                alloc,
-                outlook_for(alloc, project, limit)?,
-                project,
-                out,
-            ),
+            Form::Outlook(limit) => {
+                let report = outlook_for(alloc, project, limit)?;
+                deliver(alloc, report, project, out)
+            }
             Form::Bench(n) => {
-                let lines = CurveLines::Figures(n);
-                deliver(
-                    alloc,
-                    CurveReport::build(alloc, project, lines)?,
-                    project,
-                    out,
-                )
+                let report = CurveReport::build(alloc, project, CurveLines::Figures(n))?;
+                deliver(alloc, report, project, out)
             }
             Form::Migrate => deliver(alloc, DeckText::build(project, room)?, project, out),
             Form::Optimum => deliver(alloc, optimum_of(alloc, project)?, project, out),
             Form::Arrows => deliver(alloc, DeckText::build(project, room)?, project, out),
-            Form::Load(days) => deliver(
-                alloc,
-                LoadReport::build(alloc, project, days)?,
-                project,
-                out,
-            ),
+            Form::Load(days) => {
+                let report = LoadReport::build(alloc, project, days)?;
+                deliver(alloc, report, project, out)
+            }
         }
     }
 }
