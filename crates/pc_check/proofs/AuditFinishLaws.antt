@@ -8,6 +8,7 @@ use Rattle.pc_check.specs.declared.checker.Fail.{Fail}
 use Rattle.pc_check.specs.declared.checker.Verdict.{Verdict}
 use Rattle.pc_check.specs.declared.checker.Verdict.TheVariants.{Yes, No}
 use Rattle.pc_check.specs.Failures.{failure_of}
+use Rattle.pc_check.specs.inside.Certified.{Finds as ChecksTo}
 use Rattle.pc_check.specs.Texts.{IsFailing, malformed, missing, Finds}
 
 contrary : (fail : Fail) → None ≡ Some fail → ⊥
