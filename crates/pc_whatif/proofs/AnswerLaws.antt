@@ -30,10 +30,6 @@ use Rattle.pc_whatif.proofs.LineLaws.{ask_of-kept}
 
 -- ---- one line
 
--- the standing times of a session, whatever it is called
-pub standing_as : (p old : Planning) → p ≡ old → IsRenewed p.project p.editing p.region → IsRenewed old.project old.editing old.region
-standing_as p old same standing = subst (λ (q : Planning). IsRenewed q.project q.editing q.region) same standing
-
 -- a session of these parts
 abbrev planning_of : Project → Editing → SessionRegion → Planning
 planning_of project editing region = record { project = project; editing = editing; region = region }

@@ -8,9 +8,8 @@ use Rattle.pc_whatif.specs.edits.Editing.{net_trying}
 use Rattle.pc_whatif.specs.inside.edits.Editing.{Edits, net_in}
 use Rattle.pc_curve.specs.Range.{IsLengthInRange}
 use Rattle.pc_whatif.specs.Planning.{IsTrialText, refused}
-use Rattle.pc_whatif.specs.inside.Planning.{Planning}
 use Rattle.pc_whatif.specs.Texts.{cost_text, refused_text}
-use Rattle.pc_whatif.proofs.AnswerLaws.{standing_as, stays, tried_out, trial_costs, trial_outside}
+use Rattle.pc_whatif.proofs.AnswerLaws.{stays_as, tried_out, trial_costs, trial_outside}
 use Rattle.pc_whatif.proofs.session.Session.try_out.Goals as goal
 
 pub returns-in-Err-clause-answered : goal.returns-in-Err-clause-answered
@@ -18,8 +17,7 @@ returns-in-Err-clause-answered g c =
     let trial = c.args.trial.now in
     let text = refused_text c.in-Err.reason in (
       text,
-      stays c.args.self.now (Some (asks.Try trial)) text (standing_as _ c.args.self.now c.self.view_is c.self.invariant.renewed)
-          (subst (λ (p : Planning). IsTrialText p.editing trial text) c.self.view_is (refused c.in-Err.reason c.in-Err.ensures.refused refl)) refl,
+      stays_as c.args.self.now _ (Some (asks.Try trial)) text c.self.view_is c.self.invariant.renewed (refused c.in-Err.reason c.in-Err.ensures.refused refl) refl,
       c.refuse.ensures.text,
     )
 
