@@ -1,62 +1,40 @@
 //! The benchmark: its figures, that it reads nothing, and the certificates of its decks.
 
-use crate::testing::{Edges, SMALL, Task, USAGE, check_of, expect_ok_none, left_by, run_of};
+use crate::testing::{
+    Edges, SMALL, Task, UNREADABLE, check_of, expect_ok_none, first_wrong_run, left_by, run_of,
+};
 use pc_curve::bench::{MOST_ACTIVITIES, bench_deck};
 use std::alloc::{AllocError, Global};
 
-// The deck has a fault at once.
-const UNREADABLE: Edges = Edges {
-    failing_deck: 1,
-    ..SMALL
-};
-
-// A number of activities, and the figures of the curve of the deck that has so many.
-const FIGURES: &[(&str, &[u8])] = &[
+// Words that ask for the curve of the deck with so many activities, with the status, the output and the error output
+// that they give. The deck is not read.
+const FIGURES: &[(&[&str], &str, u8, &str, &str)] = &[
     (
-        "1",
-        b"BENCH 1\nNORMAL 10 74\nCRASH 7 83\nBREAKS 2\nSUM 314\n",
+        &["bench", "1"],
+        "",
+        0,
+        "BENCH 1\nNORMAL 10 74\nCRASH 7 83\nBREAKS 2\nSUM 314\n",
+        "",
     ),
     (
-        "4",
-        b"BENCH 4\nNORMAL 28 211\nCRASH 18 291\nBREAKS 4\nSUM 2683\n",
+        &["bench", "4"],
+        "",
+        0,
+        "BENCH 4\nNORMAL 28 211\nCRASH 18 291\nBREAKS 4\nSUM 2683\n",
+        "",
     ),
     (
-        "400",
-        b"BENCH 400\nNORMAL 3069 22170\nCRASH 1898 31246\nBREAKS 25\nSUM 29299862\n",
+        &["bench", "400"],
+        "",
+        0,
+        "BENCH 400\nNORMAL 3069 22170\nCRASH 1898 31246\nBREAKS 25\nSUM 29299862\n",
+        "",
     ),
 ];
 
-/// The first of these numbers of which other figures are left, or none.
-fn first_wrong_figures(alloc: Global) -> Result<Option<usize>, AllocError> {
-    for (i, &(n, figures)) in FIGURES.iter().enumerate() {
-        if !left_by(alloc, &run_of(&["bench", n], ""), UNREADABLE)?.is(0, figures, b"") {
-            return Ok(Some(i));
-        }
-    }
-    Ok(None)
-}
-
 #[test]
 fn the_benchmark_reads_nothing(rt: HostRuntime) {
-    expect_ok_none(&rt, first_wrong_figures(rt.alloc()));
-}
-
-// Numbers of which there is no deck, or that are none.
-const NUMBERS: &[&str] = &["0", "4001", "04", "-1", "", "10000000000000"];
-
-/// The first of these numbers that is not refused, or none.
-fn first_accepted(alloc: Global) -> Result<Option<usize>, AllocError> {
-    for (i, &n) in NUMBERS.iter().enumerate() {
-        if !left_by(alloc, &run_of(&["bench", n], ""), UNREADABLE)?.is(2, b"", USAGE) {
-            return Ok(Some(i));
-        }
-    }
-    Ok(None)
-}
-
-#[test]
-fn the_benchmark_has_1_to_4000_activities(rt: HostRuntime) {
-    expect_ok_none(&rt, first_accepted(rt.alloc()));
+    expect_ok_none(&rt, first_wrong_run(rt.alloc(), UNREADABLE, FIGURES));
 }
 
 // Edges that give and take much at once.
@@ -67,24 +45,45 @@ const LARGE: Edges = Edges {
     ..SMALL
 };
 
-// The two statuses of a certificate of the benchmark's deck: as it is written, and as it is checked.
-fn certified(alloc: Global, n: u64) -> Result<(u8, u8), AllocError> {
-    let deck = bench_deck(alloc, n.clamp(1, MOST_ACTIVITIES))?;
+// How many activities the decks have.
+const DECKS: &[u64] = &[4, 40];
+
+// Whether a certificate of the deck passes its check.
+fn passes(alloc: Global, deck: &[u8], cert: &[u8]) -> Result<bool, AllocError> {
+    let check = Task {
+        deck,
+        ..check_of(&["deck"], "", cert)
+    };
+    Ok(left_by(alloc, &check, LARGE)?.is_accepted())
+}
+
+// Whether a certificate of the deck is written, and passes its check.
+fn is_certified(alloc: Global, deck: &[u8]) -> Result<bool, AllocError> {
     let certify = Task {
-        deck: &deck,
+        deck,
         ..run_of(&["certify"], "")
     };
     let written = left_by(alloc, &certify, LARGE)?;
-    let check = Task {
-        deck: &deck,
-        ..check_of(&["deck"], "", &written.out)
-    };
-    let checked = left_by(alloc, &check, LARGE)?;
-    Ok((written.status, checked.status))
+    Ok(written.is_accepted() & passes(alloc, deck, written.out())?)
+}
+
+// Whether this is so for the benchmark's deck of so many activities.
+fn is_bench_certified(alloc: Global, n: u64) -> Result<bool, AllocError> {
+    let deck = bench_deck(alloc, n.clamp(1, MOST_ACTIVITIES))?;
+    is_certified(alloc, &deck)
+}
+
+// The first of these decks whose certificate does not pass, or none.
+fn first_uncertified(alloc: Global) -> Result<Option<usize>, AllocError> {
+    for (i, &n) in DECKS.iter().enumerate() {
+        if !is_bench_certified(alloc, n)? {
+            return Ok(Some(i));
+        }
+    }
+    Ok(None)
 }
 
 #[test]
 fn certificates_of_the_benchmark_pass(rt: HostRuntime) {
-    assert!(rt; certified(rt.alloc(), 4).ok() == Some((0, 0)));
-    assert!(rt; certified(rt.alloc(), 40).ok() == Some((0, 0)));
+    expect_ok_none(&rt, first_uncertified(rt.alloc()));
 }

@@ -1,6 +1,6 @@
 //! Checks of certificates over sources and sinks in memory: what each status leaves behind.
 
-use crate::testing::{Edges, SMALL, WHOLE, check_of, expect_ok_none, left_by};
+use crate::testing::{Edges, SMALL, WHOLE, check_of, expect_ok_none, leaves};
 use std::alloc::{AllocError, Global};
 
 const HEAD: &[u8] = b"CERT 1 E1 3 3\nNORMAL\nSTEP A\nSTEP B\nCRASH\nSTEP A\nSTEP B\n";
@@ -45,8 +45,14 @@ fn first_wrong_check(alloc: Global, pulled: usize) -> Result<Option<usize>, Allo
     let edges = Edges { pulled, ..SMALL };
     for (i, &(parts, status, line)) in CHECKS.iter().enumerate() {
         let cert = parts.concat(alloc)?;
-        let left = left_by(alloc, &check_of(&["deck"], WHOLE, &cert), edges)?;
-        if !left.is(status, line, b"") {
+        if !leaves(
+            alloc,
+            &check_of(&["deck"], WHOLE, &cert),
+            edges,
+            status,
+            line,
+            b"",
+        )? {
             return Ok(Some(i));
         }
     }
@@ -60,12 +66,10 @@ fn certificates_come_in_pieces(rt: HostRuntime) {
     }
 }
 
-fn is_asked_for(alloc: Global) -> Result<bool, AllocError> {
-    let left = left_by(alloc, &check_of(&[], WHOLE, b""), SMALL)?;
-    Ok(left.is(2, b"", b"usage: pert_check DECK\n"))
-}
+const USAGE: &[u8] = b"usage: pert_check DECK\n";
 
 #[test]
 fn asks_for_one_word(rt: HostRuntime) {
-    assert!(rt; matches!(is_asked_for(rt.alloc()), Ok(true)));
+    let task = check_of(&[], WHOLE, b"");
+    assert!(rt; matches!(leaves(rt.alloc(), &task, SMALL, 2, b"", USAGE), Ok(true)));
 }

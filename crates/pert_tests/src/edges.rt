@@ -1,49 +1,86 @@
-//! Each call of an edge fails in turn, in runs of each form and in checks: a pull gives 100 bytes at most, a push takes
-//! 7.
+//! Each call of an edge fails in turn, in runs of each form, in checks and in sessions: a pull gives 100 bytes at most,
+//! a push takes 7.
 
+use crate::testing::Call::{self, CheckRun, Run, SessionRun};
+use crate::testing::Edge::{self, Deck, Second};
 use crate::testing::{
-    AT_WORK, CERTIFICATE, Edge, TASKS, WHOLE, check_of, expect_ok_none, first_wrong_pull,
-    first_wrong_push, run_of,
+    AT_WORK, CERTIFICATE, TASKS, Task, WHOLE, expect_ok_none, stops_at_each_pull,
+    stops_at_each_push,
 };
 use std::alloc::{AllocError, Global};
 
-// Words, a deck, and how many pulls read it: the last of them finds its end. The words ask for each form, for lengths
-// that the deck does not have, and for nothing; the last deck is none.
-pub(crate) const RUNS: &[(&[&str], &str, u64)] = &[
-    (&["check"], WHOLE, 4),
-    (&["normal"], WHOLE, 4),
-    (&["times"], WHOLE, 4),
-    (&["summary"], WHOLE, 4),
-    (&["summary"], AT_WORK, 5),
-    (&["value"], WHOLE, 4),
-    (&["value"], AT_WORK, 5),
-    (&["curve"], WHOLE, 4),
-    (&["certify"], WHOLE, 4),
-    (&["point", "6"], WHOLE, 4),
-    (&["outlook", "6"], WHOLE, 4),
-    (&["bench", "4"], WHOLE, 0),
-    (&["migrate"], WHOLE, 4),
-    (&["optimum"], WHOLE, 4),
-    (&["arrows"], TASKS, 3),
-    (&["load", "7"], WHOLE, 4),
-    (&["point", "4"], WHOLE, 4),
-    (&["point", "10"], WHOLE, 4),
-    (&["outlook", "10"], WHOLE, 4),
-    (&[], WHOLE, 0),
-    (&["point", "06"], WHOLE, 0),
-    (&["point", "-1"], WHOLE, 0),
-    (&["curve", "x"], WHOLE, 0),
-    (&["CURVE"], WHOLE, 0),
-    (&["bench", "0"], WHOLE, 0),
-    (&["certify"], "END\n", 2),
-    (&["arrows"], "END\n", 2),
+/// A call, its words, a deck, the second input, one of the two, and how many pulls read that: the last of them finds
+/// its end.
+pub(crate) type CallRow = (
+    Call,
+    &'static [&'static str],
+    &'static str,
+    &'static str,
+    Edge,
+    u64,
+);
+
+/// Words that ask for each form, for lengths that the deck does not have, and for nothing; decks that are none; and
+/// checks and sessions that are refused or not.
+pub(crate) const RUNS: &[CallRow] = &[
+    (Run, &["check"], WHOLE, "", Deck, 4),
+    (Run, &["normal"], WHOLE, "", Deck, 4),
+    (Run, &["times"], WHOLE, "", Deck, 4),
+    (Run, &["summary"], WHOLE, "", Deck, 4),
+    (Run, &["summary"], AT_WORK, "", Deck, 5),
+    (Run, &["value"], WHOLE, "", Deck, 4),
+    (Run, &["value"], AT_WORK, "", Deck, 5),
+    (Run, &["curve"], WHOLE, "", Deck, 4),
+    (Run, &["certify"], WHOLE, "", Deck, 4),
+    (Run, &["point", "6"], WHOLE, "", Deck, 4),
+    (Run, &["outlook", "6"], WHOLE, "", Deck, 4),
+    (Run, &["bench", "4"], WHOLE, "", Deck, 0),
+    (Run, &["migrate"], WHOLE, "", Deck, 4),
+    (Run, &["optimum"], WHOLE, "", Deck, 4),
+    (Run, &["arrows"], TASKS, "", Deck, 3),
+    (Run, &["load", "7"], WHOLE, "", Deck, 4),
+    (Run, &["point", "4"], WHOLE, "", Deck, 4),
+    (Run, &["point", "10"], WHOLE, "", Deck, 4),
+    (Run, &["outlook", "10"], WHOLE, "", Deck, 4),
+    (Run, &[], WHOLE, "", Deck, 0),
+    (Run, &["point", "06"], WHOLE, "", Deck, 0),
+    (Run, &["point", "-1"], WHOLE, "", Deck, 0),
+    (Run, &["curve", "x"], WHOLE, "", Deck, 0),
+    (Run, &["CURVE"], WHOLE, "", Deck, 0),
+    (Run, &["bench", "0"], WHOLE, "", Deck, 0),
+    (Run, &["certify"], "END\n", "", Deck, 2),
+    (Run, &["arrows"], "END\n", "", Deck, 2),
+    (CheckRun, &["deck"], WHOLE, CERTIFICATE, Deck, 4),
+    (CheckRun, &["deck"], WHOLE, CERTIFICATE, Second, 4),
+    (CheckRun, &["deck"], WHOLE, "END\n", Deck, 4),
+    (CheckRun, &["deck"], WHOLE, "END\n", Second, 1),
+    (CheckRun, &["deck"], "END\n", CERTIFICATE, Deck, 2),
+    (CheckRun, &["deck"], "END\n", CERTIFICATE, Second, 0),
+    (CheckRun, &[], WHOLE, CERTIFICATE, Deck, 0),
+    (CheckRun, &[], WHOLE, CERTIFICATE, Second, 0),
+    (SessionRun, &["deck"], WHOLE, "CURVE\n", Deck, 4),
+    (SessionRun, &["deck"], "END\n", "CURVE\n", Deck, 2),
+    (SessionRun, &["deck", "lines"], WHOLE, "CURVE\n", Deck, 0),
+    (SessionRun, &[], WHOLE, "CURVE\n", Deck, 0),
 ];
 
-/// The first of these runs of which a pull that fails leaves another thing than it must, or none.
-fn first_wrong_run_by_pull(alloc: Global) -> Result<Option<usize>, AllocError> {
-    for (i, &(words, deck, pulls)) in RUNS.iter().enumerate() {
-        let task = run_of(words, deck);
-        if first_wrong_pull(alloc, &task, Edge::Deck, pulls)?.is_some() {
+/// What such a call does.
+pub(crate) fn task_of(row: &CallRow) -> (Task<'static>, Edge, u64) {
+    let &(call, words, deck, second, edge, pulls) = row;
+    let task = Task {
+        call,
+        words,
+        deck: deck.as_bytes(),
+        second: second.as_bytes(),
+    };
+    (task, edge, pulls)
+}
+
+/// The first of these calls of which a pull that fails leaves another thing than it must, or none.
+fn first_wrong_by_pull(alloc: Global) -> Result<Option<usize>, AllocError> {
+    for (i, row) in RUNS.iter().enumerate() {
+        let (task, edge, pulls) = task_of(row);
+        if !stops_at_each_pull(alloc, &task, edge, pulls)? {
             return Ok(Some(i));
         }
     }
@@ -51,14 +88,15 @@ fn first_wrong_run_by_pull(alloc: Global) -> Result<Option<usize>, AllocError> {
 }
 
 #[test]
-fn each_pull_of_a_run_fails(rt: HostRuntime) {
-    expect_ok_none(&rt, first_wrong_run_by_pull(rt.alloc()));
+fn each_pull_fails(rt: HostRuntime) {
+    expect_ok_none(&rt, first_wrong_by_pull(rt.alloc()));
 }
 
-/// The first of these runs of which a push that fails leaves another thing than it must, or none.
-fn first_wrong_run_by_push(alloc: Global) -> Result<Option<usize>, AllocError> {
-    for (i, &(words, deck, _)) in RUNS.iter().enumerate() {
-        if first_wrong_push(alloc, &run_of(words, deck))?.is_some() {
+/// The first of these calls of which a push that fails leaves another thing than it must, or none.
+fn first_wrong_by_push(alloc: Global) -> Result<Option<usize>, AllocError> {
+    for (i, row) in RUNS.iter().enumerate() {
+        let (task, _, _) = task_of(row);
+        if !stops_at_each_push(alloc, &task)? {
             return Ok(Some(i));
         }
     }
@@ -66,49 +104,6 @@ fn first_wrong_run_by_push(alloc: Global) -> Result<Option<usize>, AllocError> {
 }
 
 #[test]
-fn each_push_of_a_run_fails(rt: HostRuntime) {
-    expect_ok_none(&rt, first_wrong_run_by_push(rt.alloc()));
-}
-
-// The words of a check, a deck and a certificate, and how many pulls read each.
-const CHECKS: &[(&[&str], &str, u64, &str, u64)] = &[
-    (&["deck"], WHOLE, 4, CERTIFICATE, 4),
-    (&["deck"], WHOLE, 4, "END\n", 1),
-    (&["deck"], "END\n", 2, CERTIFICATE, 0),
-    (&[], WHOLE, 0, CERTIFICATE, 0),
-];
-
-/// The same of these checks, whose pulls of the deck and of the certificate fail.
-fn first_wrong_check_by_pull(alloc: Global) -> Result<Option<usize>, AllocError> {
-    for (i, &(words, deck, of_deck, cert, of_cert)) in CHECKS.iter().enumerate() {
-        let task = check_of(words, deck, cert.as_bytes());
-        if first_wrong_pull(alloc, &task, Edge::Deck, of_deck)?.is_some() {
-            return Ok(Some(i));
-        }
-        if first_wrong_pull(alloc, &task, Edge::Second, of_cert)?.is_some() {
-            return Ok(Some(i));
-        }
-    }
-    Ok(None)
-}
-
-#[test]
-fn each_pull_of_a_check_fails(rt: HostRuntime) {
-    expect_ok_none(&rt, first_wrong_check_by_pull(rt.alloc()));
-}
-
-/// The same of these checks, whose pushes fail.
-fn first_wrong_check_by_push(alloc: Global) -> Result<Option<usize>, AllocError> {
-    for (i, &(words, deck, _, cert, _)) in CHECKS.iter().enumerate() {
-        let task = check_of(words, deck, cert.as_bytes());
-        if first_wrong_push(alloc, &task)?.is_some() {
-            return Ok(Some(i));
-        }
-    }
-    Ok(None)
-}
-
-#[test]
-fn each_push_of_a_check_fails(rt: HostRuntime) {
-    expect_ok_none(&rt, first_wrong_check_by_push(rt.alloc()));
+fn each_push_fails(rt: HostRuntime) {
+    expect_ok_none(&rt, first_wrong_by_push(rt.alloc()));
 }

@@ -57,6 +57,17 @@ impl<'a> Sink for Listener<'a> {
     }
 }
 
+/// The status of a session on the small deck that pulls its lines from `edits` and answers them on `out`.
+fn status_on<C: Source, O: Sink>(
+    alloc: Global,
+    words: &[String],
+    edits: &mut C,
+    out: &mut O,
+) -> u8 {
+    let mut deck = SureSource::new(WHOLE.as_bytes());
+    session_run(alloc, words, &mut deck, edits, out, &mut SureSink::new())
+}
+
 /// The status of the session, how many lines it pulled, how many pulls came when they should not, and whether the last
 /// answer was flushed.
 fn waited(alloc: Global) -> Result<(u8, usize, u64, bool), AllocError> {
@@ -72,9 +83,7 @@ fn waited(alloc: Global) -> Result<(u8, usize, u64, bool), AllocError> {
         taken: SureSink::new(),
         flushed: &flushed,
     };
-    let mut deck = SureSource::new(WHOLE.as_bytes());
-    let mut err = SureSink::new();
-    let status = session_run(alloc, &words, &mut deck, &mut edits, &mut out, &mut err);
+    let status = status_on(alloc, &words, &mut edits, &mut out);
     Ok((
         status,
         edits.given,

@@ -1,67 +1,57 @@
 //! What a top call leaves does not depend on the key of the hash by which names are looked up; without a key the deck
 //! is not read.
 
-use crate::edges::RUNS;
+use crate::edges::{RUNS, task_of};
 use crate::sessions::LINES;
 use crate::testing::{
-    CERTIFICATE, Left, SMALL, Task, WHOLE, check_of, expect_ok_none, left_by, owned, run_of,
-    session_of, status_of,
+    CERTIFICATE, Left, SMALL, Task, WHOLE, check_of, expect_ok_none, left_by, left_from, session_of,
 };
-use pc_edges::{MemSink, MemSource, ReadSource};
+use pc_edges::ReadSource;
 use std::alloc::{AllocError, Global};
 
-/// What a task leaves behind if its deck is read with this key.
+/// What a task leaves if its deck is read with this key.
 fn left_with(alloc: Global, task: &Task<'_>, key: Option<u128>) -> Result<Left, AllocError> {
-    let words = owned(alloc, task.words)?;
-    let mut deck = ReadSource::new(task.deck).with_key(key);
-    let mut second = MemSource::new(alloc, task.second, SMALL.pulled.max(1), &[0])?;
-    let mut out = MemSink::new(alloc, SMALL.room, SMALL.pushed.max(1), &[0])?;
-    let mut err = MemSink::new(alloc, SMALL.room, SMALL.pushed.max(1), &[0])?;
-    let status = status_of(
+    left_from(
         alloc,
-        task.call,
-        &words,
-        &mut deck,
-        &mut second,
-        &mut out,
-        &mut err,
-    );
-    Ok(Left {
-        status,
-        out: out.bytes().to_vec(alloc)?,
-        err: err.bytes().to_vec(alloc)?,
-    })
+        task,
+        &mut ReadSource::new(task.deck).with_key(key),
+        SMALL,
+    )
 }
 
-/// Whether a task leaves the same with two keys as with the key of a source in memory.
-fn is_same_with_two_keys(alloc: Global, task: &Task<'_>) -> Result<bool, AllocError> {
+const KEYS: &[u128] = &[1, u128::MAX];
+
+/// Whether a task leaves the same with each key as with the key of a source in memory.
+fn is_same_with_each_key(alloc: Global, task: &Task<'_>) -> Result<bool, AllocError> {
     let fixed = left_by(alloc, task, SMALL)?;
-    let low = left_with(alloc, task, Some(1))?;
-    let high = left_with(alloc, task, Some(u128::MAX))?;
-    Ok(low.is(fixed.status, &fixed.out, &fixed.err) & high.is(fixed.status, &fixed.out, &fixed.err))
+    for &key in KEYS {
+        if !left_with(alloc, task, Some(key))?.is_same(&fixed) {
+            return Ok(false);
+        }
+    }
+    Ok(true)
 }
 
-/// The first of the runs that depends on the key, or none.
-fn first_run_by_key(alloc: Global) -> Result<Option<usize>, AllocError> {
-    for (i, &(words, deck, _)) in RUNS.iter().enumerate() {
-        if !is_same_with_two_keys(alloc, &run_of(words, deck))? {
+/// The first of the calls that depends on the key, or none.
+fn first_by_key(alloc: Global) -> Result<Option<usize>, AllocError> {
+    for (i, row) in RUNS.iter().enumerate() {
+        let (task, _, _) = task_of(row);
+        if !is_same_with_each_key(alloc, &task)? {
             return Ok(Some(i));
         }
     }
     Ok(None)
 }
 
-/// Whether a session is the same with two keys.
+/// Whether a session is the same with each key.
 fn is_session_the_same(alloc: Global) -> Result<bool, AllocError> {
     let lines = LINES.concat(alloc)?;
-    is_same_with_two_keys(alloc, &session_of(&["deck"], WHOLE, &lines))
+    is_same_with_each_key(alloc, &session_of(&["deck"], WHOLE, &lines))
 }
 
 #[test]
 fn no_answer_depends_on_the_key(rt: HostRuntime) {
-    expect_ok_none(&rt, first_run_by_key(rt.alloc()));
-    let check = check_of(&["deck"], WHOLE, CERTIFICATE.as_bytes());
-    assert!(rt; matches!(is_same_with_two_keys(rt.alloc(), &check), Ok(true)));
+    expect_ok_none(&rt, first_by_key(rt.alloc()));
     assert!(rt; matches!(is_session_the_same(rt.alloc()), Ok(true)));
 }
 

@@ -1,8 +1,8 @@
 //! Runs over sources and sinks in memory: what each status leaves behind.
 
 use crate::testing::{
-    AT_WORK, CERTIFICATE, Edges, MIGRATED, SMALL, Task, USAGE, WHOLE, expect_ok_none,
-    first_wrong_run, left_by, run_of,
+    AT_WORK, CERTIFICATE, Edges, MIGRATED, SMALL, Task, UNREADABLE, USAGE, WHOLE, expect_ok_none,
+    first_wrong_run, leaves, run_of,
 };
 use std::alloc::{AllocError, Global};
 
@@ -136,56 +136,43 @@ const RUNS: &[(&[&str], &str, u8, &str, &str)] = &[
 
 #[test]
 fn answers_or_refuses_decks(rt: HostRuntime) {
-    expect_ok_none(&rt, first_wrong_run(rt.alloc(), RUNS));
+    expect_ok_none(&rt, first_wrong_run(rt.alloc(), SMALL, RUNS));
 }
 
-// Words that ask for no form: nothing is read.
-const WORDS: &[&[&str]] = &[
-    &[],
-    &["NORMAL"],
-    &["normal", "check"],
-    &["times "],
-    &[""],
-    &["point"],
-    &["point", "06"],
-    &["point", "-1"],
-    &["point", ""],
-    &["point", "12345678901234"],
-    &["point", "6", "7"],
-    &["6", "point"],
-    &["curve", "6"],
-    &["curve", "x"],
-    &["CURVE"],
+// Words that ask for no form, or for a benchmark of which there is no deck: nothing is read.
+const WORDS: &[(&[&str], &str, u8, &str, &str)] = &[
+    (&[], WHOLE, 2, "", USAGE),
+    (&["NORMAL"], WHOLE, 2, "", USAGE),
+    (&["normal", "check"], WHOLE, 2, "", USAGE),
+    (&["times "], WHOLE, 2, "", USAGE),
+    (&[""], WHOLE, 2, "", USAGE),
+    (&["point"], WHOLE, 2, "", USAGE),
+    (&["point", "06"], WHOLE, 2, "", USAGE),
+    (&["point", "-1"], WHOLE, 2, "", USAGE),
+    (&["point", ""], WHOLE, 2, "", USAGE),
+    (&["point", "12345678901234"], WHOLE, 2, "", USAGE),
+    (&["point", "6", "7"], WHOLE, 2, "", USAGE),
+    (&["6", "point"], WHOLE, 2, "", USAGE),
+    (&["curve", "6"], WHOLE, 2, "", USAGE),
+    (&["curve", "x"], WHOLE, 2, "", USAGE),
+    (&["CURVE"], WHOLE, 2, "", USAGE),
+    (&["bench", "0"], "", 2, "", USAGE),
+    (&["bench", "4001"], "", 2, "", USAGE),
+    (&["bench", "04"], "", 2, "", USAGE),
+    (&["bench", "-1"], "", 2, "", USAGE),
+    (&["bench", ""], "", 2, "", USAGE),
+    (&["bench", "10000000000000"], "", 2, "", USAGE),
 ];
-
-/// The first of these words that leave anything but the usage line, or none. The deck has a fault at once.
-fn first_wrong_words(alloc: Global) -> Result<Option<usize>, AllocError> {
-    let edges = Edges {
-        failing_deck: 1,
-        ..SMALL
-    };
-    for (i, &words) in WORDS.iter().enumerate() {
-        if !left_by(alloc, &run_of(words, WHOLE), edges)?.is(2, b"", USAGE) {
-            return Ok(Some(i));
-        }
-    }
-    Ok(None)
-}
 
 #[test]
 fn refuses_words(rt: HostRuntime) {
-    expect_ok_none(&rt, first_wrong_words(rt.alloc()));
-}
-
-fn is_cut(alloc: Global) -> Result<bool, AllocError> {
-    let edges = Edges { room: 5, ..SMALL };
-    let left = left_by(alloc, &run_of(&["curve"], WHOLE), edges)?;
-    Ok(left.is(5, b"9 45 ", b""))
+    expect_ok_none(&rt, first_wrong_run(rt.alloc(), UNREADABLE, WORDS));
 }
 
 #[test]
 fn an_output_may_be_full(rt: HostRuntime) {
-    assert!(rt; matches!(is_cut(rt.alloc()), Ok(true)));
+    let (task, edges) = (run_of(&["curve"], WHOLE), Edges { room: 5, ..SMALL });
+    assert!(rt; matches!(leaves(rt.alloc(), &task, edges, 5, b"9 45 ", b""), Ok(true)));
 }
 
 fn is_refused(alloc: Global) -> Result<bool, AllocError> {
@@ -198,8 +185,8 @@ fn is_refused(alloc: Global) -> Result<bool, AllocError> {
         deck: &deck,
         ..run_of(&["normal"], "")
     };
-    let left = left_by(alloc, &task, edges)?;
-    Ok(left.is(1, b"", b"F1 record 0: more than 67108864 bytes\n"))
+    let fault = b"F1 record 0: more than 67108864 bytes\n";
+    leaves(alloc, &task, edges, 1, b"", fault)
 }
 
 #[test]

@@ -2,8 +2,8 @@
 //! in turn.
 
 use crate::testing::{
-    Edge, Edges, SMALL, Task, WHOLE, expect_ok_none, first_wrong_pull, first_wrong_push,
-    leaves_all, left_by, session_of,
+    Edges, SMALL, Task, UNREADABLE, WHOLE, expect_ok_none, failing_push, leaves, leaves_all,
+    session_of,
 };
 use std::alloc::{AllocError, Global};
 
@@ -38,8 +38,8 @@ fn are_answered(alloc: Global, pulled: usize) -> Result<bool, AllocError> {
     let lines = LINES.concat(alloc)?;
     let answers = ANSWERS.concat(alloc)?;
     let edges = Edges { pulled, ..SMALL };
-    let left = left_by(alloc, &session_of(&["deck"], WHOLE, &lines), edges)?;
-    Ok(left.is(0, &answers, b""))
+    let task = session_of(&["deck"], WHOLE, &lines);
+    leaves(alloc, &task, edges, 0, &answers, b"")
 }
 
 #[test]
@@ -53,24 +53,24 @@ const USAGE: &[u8] = b"usage: pert_whatif DECK\n";
 
 const NO_PROJECT: &[u8] = b"F3 record 1: first card is not PROJECT\n";
 
-// Words and a deck that give no project, with the status and the error output. The words are refused before the deck is
-// read.
-const REFUSED: &[(&[&str], &str, u64, u8, &[u8])] = &[
-    (&[], WHOLE, 1, 2, USAGE),
-    (&["deck", "lines"], WHOLE, 1, 2, USAGE),
-    (&["deck"], "END\n", 0, 1, NO_PROJECT),
+// Words and a deck that give no project, and edges, with the status and the error output. The words are refused before
+// the deck is read.
+const REFUSED: &[(&[&str], &str, Edges, u8, &[u8])] = &[
+    (&[], WHOLE, UNREADABLE, 2, USAGE),
+    (&["deck", "lines"], WHOLE, UNREADABLE, 2, USAGE),
+    (&["deck"], "END\n", UNREADABLE_LINES, 1, NO_PROJECT),
 ];
+
+const UNREADABLE_LINES: Edges = Edges {
+    failing_second: 1,
+    ..SMALL
+};
 
 /// The first of these that leaves another thing than it must, or none.
 fn first_wrong_refusal(alloc: Global) -> Result<Option<usize>, AllocError> {
-    for (i, &(words, deck, failing_deck, status, err)) in REFUSED.iter().enumerate() {
-        let edges = Edges {
-            failing_deck,
-            failing_second: 1,
-            ..SMALL
-        };
-        let left = left_by(alloc, &session_of(words, deck, b"CURVE\n"), edges)?;
-        if !left.is(status, b"", err) {
+    for (i, &(words, deck, edges, status, err)) in REFUSED.iter().enumerate() {
+        let task = session_of(words, deck, b"CURVE\n");
+        if !leaves(alloc, &task, edges, status, b"", err)? {
             return Ok(Some(i));
         }
     }
@@ -80,25 +80,6 @@ fn first_wrong_refusal(alloc: Global) -> Result<Option<usize>, AllocError> {
 #[test]
 fn no_line_is_read_without_a_project(rt: HostRuntime) {
     expect_ok_none(&rt, first_wrong_refusal(rt.alloc()));
-}
-
-// Decks, and how many pulls read each.
-const DECKS: &[(&str, u64)] = &[(WHOLE, 4), ("END\n", 2)];
-
-/// The first of these decks of which a pull that fails leaves another thing than it must, or none.
-fn first_wrong_deck(alloc: Global) -> Result<Option<usize>, AllocError> {
-    for (i, &(deck, pulls)) in DECKS.iter().enumerate() {
-        let task = session_of(&["deck"], deck, b"CURVE\n");
-        if first_wrong_pull(alloc, &task, Edge::Deck, pulls)?.is_some() {
-            return Ok(Some(i));
-        }
-    }
-    Ok(None)
-}
-
-#[test]
-fn each_pull_of_the_deck_fails(rt: HostRuntime) {
-    expect_ok_none(&rt, first_wrong_deck(rt.alloc()));
 }
 
 /// How many lines end in the bytes.
@@ -127,30 +108,32 @@ fn failing_at(pull: usize) -> Edges {
     }
 }
 
-/// Lets each pull of the lines fail in turn, where each gives a byte, and the one behind them, which the session does
-/// not come to. Answers the first that leaves another thing than it must: status 4 and the answers to the whole lines
-/// before.
-fn first_wrong_line(alloc: Global, lines: &[u8]) -> Result<Option<u64>, AllocError> {
-    let task = session_of(&["deck"], WHOLE, lines);
-    for given in 0..=lines.len() {
-        let pull = given.saturating_add(1);
-        let answers = answers_to(alloc, &lines[..given])?;
-        if !left_by(alloc, &task, failing_at(pull))?.is(4, &answers, b"") {
-            return Ok(Some(pull as u64));
-        }
-    }
-    let behind = lines.len().saturating_add(2);
-    leaves_all(alloc, &task, failing_at(behind), behind as u64)
+/// Whether the session leaves status 4 and the answers to the lines that were given in full where the next pull fails.
+fn is_unread_after(alloc: Global, task: &Task<'_>, given: &[u8]) -> Result<bool, AllocError> {
+    let answers = answers_to(alloc, given)?;
+    let edges = failing_at(given.len().saturating_add(1));
+    leaves(alloc, task, edges, 4, &answers, b"")
 }
 
-fn first_wrong_line_of_all(alloc: Global) -> Result<Option<u64>, AllocError> {
-    let lines = LINES.concat(alloc)?;
-    first_wrong_line(alloc, &lines)
+/// Lets each pull of the lines fail in turn, where each gives a byte, and the one after them, which the session does
+/// not come to. Returns whether each leaves what it must: the last what the session leaves without a failure.
+fn stops_at_each_line(alloc: Global, lines: &[u8]) -> Result<bool, AllocError> {
+    let task = session_of(&["deck"], WHOLE, lines);
+    for given in 0..=lines.len() {
+        if !is_unread_after(alloc, &task, &lines[..given])? {
+            return Ok(false);
+        }
+    }
+    leaves_all(alloc, &task, failing_at(lines.len().saturating_add(2)))
+}
+
+fn stops_at_each_of_the_lines(alloc: Global) -> Result<bool, AllocError> {
+    stops_at_each_line(alloc, &LINES.concat(alloc)?)
 }
 
 #[test]
 fn each_pull_of_the_lines_fails(rt: HostRuntime) {
-    assert!(rt; matches!(first_wrong_line_of_all(rt.alloc()), Ok(None)));
+    assert!(rt; matches!(stops_at_each_of_the_lines(rt.alloc()), Ok(true)));
 }
 
 /// How many bytes of the answers were taken before each push and each flush.
@@ -167,50 +150,33 @@ fn taken_before(alloc: Global) -> Result<Vec<usize>, AllocError> {
     Ok(all)
 }
 
-/// Edges at which this push or flush fails.
-fn failing_call(call: u64) -> Edges {
-    Edges {
-        failing_push: call,
-        ..SMALL
-    }
-}
-
-/// Lets each push and each flush of the answers fail in turn, and the call behind them, which the session does not come
-/// to. Answers the first that leaves another thing than it must: status 5 and what the calls before took.
-fn first_wrong_answer(alloc: Global, task: &Task<'_>) -> Result<Option<u64>, AllocError> {
-    let answers = ANSWERS.concat(alloc)?;
+/// Lets each push and each flush of the answers fail in turn, and the call after them, which the session does not come
+/// to. Returns whether each failure leaves status 5 and what the calls before took, and the last run what the session
+/// leaves without a failure.
+fn stops_at_each_call(
+    alloc: Global,
+    task: &Task<'_>,
+    answers: &[u8],
+    taken_before: &[usize],
+) -> Result<bool, AllocError> {
     let mut call: u64 = 1;
-    for taken in taken_before(alloc)? {
+    for &taken in taken_before {
         let front = &answers[..taken.min(answers.len())];
-        if !left_by(alloc, task, failing_call(call))?.is(5, front, b"") {
-            return Ok(Some(call));
+        if !leaves(alloc, task, failing_push(call), 5, front, b"")? {
+            return Ok(false);
         }
         call = call.saturating_add(1);
     }
-    leaves_all(alloc, task, failing_call(call), call)
+    leaves_all(alloc, task, failing_push(call))
 }
 
-fn first_wrong_answer_of_all(alloc: Global) -> Result<Option<u64>, AllocError> {
-    let lines = LINES.concat(alloc)?;
-    first_wrong_answer(alloc, &session_of(&["deck"], WHOLE, &lines))
+fn stops_at_each_answer(alloc: Global) -> Result<bool, AllocError> {
+    let (lines, answers) = (LINES.concat(alloc)?, ANSWERS.concat(alloc)?);
+    let task = session_of(&["deck"], WHOLE, &lines);
+    stops_at_each_call(alloc, &task, &answers, &taken_before(alloc)?)
 }
 
 #[test]
 fn each_push_and_flush_of_the_answers_fails(rt: HostRuntime) {
-    assert!(rt; matches!(first_wrong_answer_of_all(rt.alloc()), Ok(None)));
-}
-
-/// The first of the refusals of which a push that fails leaves another thing than it must, or none.
-fn first_wrong_refusal_by_push(alloc: Global) -> Result<Option<usize>, AllocError> {
-    for (i, &(words, deck, _, _, _)) in REFUSED.iter().enumerate() {
-        if first_wrong_push(alloc, &session_of(words, deck, b"CURVE\n"))?.is_some() {
-            return Ok(Some(i));
-        }
-    }
-    Ok(None)
-}
-
-#[test]
-fn each_push_of_a_refusal_fails(rt: HostRuntime) {
-    expect_ok_none(&rt, first_wrong_refusal_by_push(rt.alloc()));
+    assert!(rt; matches!(stops_at_each_answer(rt.alloc()), Ok(true)));
 }

@@ -1,6 +1,6 @@
 //! Runs on a deck of tasks and on the plan that is drawn of it.
 
-use crate::testing::{TASKS, WHOLE, expect_ok_none, first_wrong_run};
+use crate::testing::{SMALL, TASKS, WHOLE, expect_ok_none, first_wrong_run};
 
 const DRAWN: &str = "PROJECT,K1,S,T,2024-01-01,1,,Tasks,2\n\
 ASOF,2024-01-01\n\
@@ -48,5 +48,5 @@ const RUNS: &[(&[&str], &str, u8, &str, &str)] = &[
 
 #[test]
 fn draws_or_refuses_decks(rt: HostRuntime) {
-    expect_ok_none(&rt, first_wrong_run(rt.alloc(), RUNS));
+    expect_ok_none(&rt, first_wrong_run(rt.alloc(), SMALL, RUNS));
 }

@@ -84,8 +84,8 @@ CLOSE\n\
 END\n";
 
 /// The usage line of `run`.
-pub(crate) const USAGE: &[u8] =
-    b"usage: pert check | normal | times | summary | value | curve | certify | point L | outlook L | \
+pub(crate) const USAGE: &str =
+    "usage: pert check | normal | times | summary | value | curve | certify | point L | outlook L | \
 bench N | migrate | optimum | arrows | load P\n";
 
 /// The top calls.
@@ -157,27 +157,52 @@ pub(crate) const SMALL: Edges = Edges {
     failing_push: 0,
 };
 
-/// The status of a call, and what it left on the output and the error output.
+/// Edges of which nothing can be read.
+pub(crate) const UNREADABLE: Edges = Edges {
+    failing_deck: 1,
+    failing_second: 1,
+    ..SMALL
+};
+
+/// The status of a call, and the output and the error output as it left them.
 #[derive(Drop)]
 pub(crate) struct Left {
-    pub(crate) status: u8,
-    pub(crate) out: Vec<u8>,
-    pub(crate) err: Vec<u8>,
+    status: u8,
+    out: MemSink,
+    err: MemSink,
 }
 
 impl Left {
-    /// Whether this and nothing else was left.
+    /// Returns whether this and nothing else was left.
     pub(crate) fn is(&self, status: u8, out: &[u8], err: &[u8]) -> bool {
-        self.status == status && self.out.as_slice() == out && self.err.as_slice() == err
+        (self.status == status) & (self.out.bytes() == out) & (self.err.bytes() == err)
+    }
+
+    /// Returns whether the other is the same.
+    pub(crate) fn is_same(&self, other: &Left) -> bool {
+        self.is(other.status, other.out.bytes(), other.err.bytes())
+    }
+
+    /// Returns the bytes on the output.
+    pub(crate) fn out(&self) -> &[u8] {
+        self.out.bytes()
+    }
+
+    /// Returns whether the call ended with status 0.
+    pub(crate) fn is_accepted(&self) -> bool {
+        self.status == 0
     }
 }
 
-/// What a task leaves behind at these edges.
-pub(crate) fn left_by(alloc: Global, task: &Task<'_>, edges: Edges) -> Result<Left, AllocError> {
+/// Returns what a task leaves that reads its deck from this source.
+pub(crate) fn left_from<D: Source>(
+    alloc: Global,
+    task: &Task<'_>,
+    deck: &mut D,
+    edges: Edges,
+) -> Result<Left, AllocError> {
     let words = owned(alloc, task.words)?;
-    let pulled = edges.pulled.max(1);
-    let pushed = edges.pushed.max(1);
-    let mut deck = MemSource::new(alloc, task.deck, pulled, &[edges.failing_deck])?;
+    let (pulled, pushed) = (edges.pulled.max(1), edges.pushed.max(1));
     let mut second = MemSource::new(alloc, task.second, pulled, &[edges.failing_second])?;
     let mut out = MemSink::new(alloc, edges.room, pushed, &[edges.failing_push])?;
     let mut err = MemSink::new(alloc, edges.room, pushed, &[edges.failing_push])?;
@@ -185,20 +210,34 @@ pub(crate) fn left_by(alloc: Global, task: &Task<'_>, edges: Edges) -> Result<Le
         alloc,
         task.call,
         &words,
-        &mut deck,
+        deck,
         &mut second,
         &mut out,
         &mut err,
     );
-    Ok(Left {
-        status,
-        out: out.bytes().to_vec(alloc)?,
-        err: err.bytes().to_vec(alloc)?,
-    })
+    Ok(Left { status, out, err })
+}
+
+/// Returns what a task leaves at these edges.
+pub(crate) fn left_by(alloc: Global, task: &Task<'_>, edges: Edges) -> Result<Left, AllocError> {
+    let mut deck = MemSource::new(alloc, task.deck, edges.pulled.max(1), &[edges.failing_deck])?;
+    left_from(alloc, task, &mut deck, edges)
+}
+
+/// Returns whether a task leaves this and nothing else at these edges.
+pub(crate) fn leaves(
+    alloc: Global,
+    task: &Task<'_>,
+    edges: Edges,
+    status: u8,
+    out: &[u8],
+    err: &[u8],
+) -> Result<bool, AllocError> {
+    Ok(left_by(alloc, task, edges)?.is(status, out, err))
 }
 
 /// The status of a call on its two inputs and its two outputs.
-pub(crate) fn status_of<D: Source>(
+fn status_of<D: Source>(
     alloc: Global,
     call: Call,
     words: &[String],
@@ -244,26 +283,24 @@ fn failing_pull(edge: Edge, pull: u64) -> Edges {
     }
 }
 
-/// Lets each of so many pulls fail in turn, and then the one behind them, which the task does not come to. Answers the
-/// first that leaves another thing than it must: status 4 and nothing written, or behind the last what the task leaves
-/// without a failure.
-pub(crate) fn first_wrong_pull(
+/// Lets each of so many pulls fail in turn, and then the one after them, which the task does not come to. Returns
+/// whether each failure leaves status 4 and nothing written, and the last run what the task leaves without a failure.
+pub(crate) fn stops_at_each_pull(
     alloc: Global,
     task: &Task<'_>,
     edge: Edge,
     pulls: u64,
-) -> Result<Option<u64>, AllocError> {
+) -> Result<bool, AllocError> {
     for pull in 1..=pulls {
-        if !left_by(alloc, task, failing_pull(edge, pull))?.is(4, b"", b"") {
-            return Ok(Some(pull));
+        if !leaves(alloc, task, failing_pull(edge, pull), 4, b"", b"")? {
+            return Ok(false);
         }
     }
-    let behind = pulls.saturating_add(1);
-    leaves_all(alloc, task, failing_pull(edge, behind), behind)
+    leaves_all(alloc, task, failing_pull(edge, pulls.saturating_add(1)))
 }
 
 /// The small edges, of which this push or flush fails, on each output.
-fn failing_push(call: u64) -> Edges {
+pub(crate) fn failing_push(call: u64) -> Edges {
     Edges {
         failing_push: call,
         ..SMALL
@@ -276,47 +313,56 @@ fn front(text: &[u8], pushes: usize) -> &[u8] {
     &text[..taken]
 }
 
-/// Lets each push and the flush of what a task writes fail in turn, and then the call behind them, which it does not
-/// come to. Answers the first that leaves another thing than it must: status 5 and what the calls before took of the
-/// text, or behind the flush what the task leaves without a failure.
-pub(crate) fn first_wrong_push(alloc: Global, task: &Task<'_>) -> Result<Option<u64>, AllocError> {
-    let whole = left_by(alloc, task, SMALL)?;
-    let pushes = whole.out.len().max(whole.err.len()).div_ceil(SMALL.pushed);
-    for before in 0..=pushes {
-        let call = (before as u64).saturating_add(1);
-        let left = left_by(alloc, task, failing_push(call))?;
-        if !left.is(5, front(&whole.out, before), front(&whole.err, before)) {
-            return Ok(Some(call));
-        }
-    }
-    let behind = (pushes as u64).saturating_add(2);
-    leaves_all(alloc, task, failing_push(behind), behind)
-}
-
-/// The number of a call, unless the task leaves at these edges what it leaves at sound ones.
-pub(crate) fn leaves_all(
+/// Returns whether the task leaves status 5 and what the pushes before took of the text where the next call fails.
+fn is_cut_after(
     alloc: Global,
     task: &Task<'_>,
-    edges: Edges,
-    call: u64,
-) -> Result<Option<u64>, AllocError> {
-    let whole = left_by(alloc, task, SMALL)?;
-    let left = left_by(alloc, task, edges)?;
-    if left.is(whole.status, &whole.out, &whole.err) {
-        return Ok(None);
-    }
-    Ok(Some(call))
+    whole: &Left,
+    pushes: usize,
+) -> Result<bool, AllocError> {
+    let edges = failing_push((pushes as u64).saturating_add(1));
+    let (out, err) = (
+        front(whole.out.bytes(), pushes),
+        front(whole.err.bytes(), pushes),
+    );
+    leaves(alloc, task, edges, 5, out, err)
 }
 
-/// The first of these runs that leaves another thing than it must, or none. A run has its words, a deck, the status,
-/// the output and the error output.
+/// Lets each push and the flush of what a task writes fail in turn, and then the call after them, which it does not
+/// come to. Returns whether each failure leaves status 5 and what the calls before took of the text, and the last run
+/// what the task leaves without a failure.
+fn is_cut_at_each_push(alloc: Global, task: &Task<'_>, whole: &Left) -> Result<bool, AllocError> {
+    let longest = whole.out.bytes().len().max(whole.err.bytes().len());
+    let pushes = longest.div_ceil(SMALL.pushed);
+    for before in 0..=pushes {
+        if !is_cut_after(alloc, task, whole, before)? {
+            return Ok(false);
+        }
+    }
+    leaves_all(alloc, task, failing_push((pushes as u64).saturating_add(2)))
+}
+
+/// The same for what the task leaves at sound edges.
+pub(crate) fn stops_at_each_push(alloc: Global, task: &Task<'_>) -> Result<bool, AllocError> {
+    is_cut_at_each_push(alloc, task, &left_by(alloc, task, SMALL)?)
+}
+
+/// Returns whether the task leaves at these edges what it leaves at sound ones.
+pub(crate) fn leaves_all(alloc: Global, task: &Task<'_>, edges: Edges) -> Result<bool, AllocError> {
+    let whole = left_by(alloc, task, SMALL)?;
+    Ok(left_by(alloc, task, edges)?.is_same(&whole))
+}
+
+/// Returns the first of these runs that leaves another thing at these edges than it must, or `None`. A run has its
+/// words, a deck, the status, the output and the error output.
 pub(crate) fn first_wrong_run(
     alloc: Global,
+    edges: Edges,
     runs: &[(&[&str], &str, u8, &str, &str)],
 ) -> Result<Option<usize>, AllocError> {
     for (i, &(words, deck, status, out, err)) in runs.iter().enumerate() {
-        let left = left_by(alloc, &run_of(words, deck), SMALL)?;
-        if !left.is(status, out.as_bytes(), err.as_bytes()) {
+        let (out, err) = (out.as_bytes(), err.as_bytes());
+        if !leaves(alloc, &run_of(words, deck), edges, status, out, err)? {
             return Ok(Some(i));
         }
     }
