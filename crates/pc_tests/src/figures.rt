@@ -15,35 +15,53 @@ const DECK: &[u8] =
 EVENT,T,\nACT,A,S,T,1.1,3,4,5,4,2,10,7,\nACCT,X,1.1,10,\nACCT,Y,1.2,30,\nCHARGE,X,2024-01-03,6\n\
 CHARGE,Y,2024-01-04,5\nTOGO,X,2024-01-05,9\nSTATUS,A,S,2024-01-02\nEND\n";
 
-/// The second item of the summary with its level, the amounts of the first item, and those of the second level.
-fn summary_of(
-    alloc: Global,
-    project: &Project,
-) -> Option<(OutlineRow, SummaryAmounts, SummaryAmounts)> {
+const SUMMARY: SummaryAmounts = SummaryAmounts {
+    budget: 40,
+    actual: 11,
+    to_go: 34,
+    latest: 45,
+    overrun: 5,
+};
+
+/// Whether the second item stands in the summary at its level, and the first item and the second level have these
+/// amounts.
+fn is_summary(alloc: Global, project: &Project) -> bool {
     let entries = project.book().entries();
     let tree = project.tree();
     let Ok(summary) = Summary::build(alloc, tree, project.accounts(), entries) else {
-        return None;
+        return false;
     };
     if tree.len() != 3 || summary.items() != 3 || summary.depth() != 2 {
-        return None;
+        return false;
     }
-    Some((summary.row(1), summary.of_item(0), summary.of_level(1)))
+    let amounts = [summary.of_item(0), summary.of_level(1)];
+    (summary.row(1) == OutlineRow { item: 1, level: 2 }) & (amounts == [SUMMARY; 2])
 }
 
-/// What the work of the first item is worth.
-fn worth_of(alloc: Global, project: &Project) -> Option<WorthAmounts> {
+const WORTH: WorthAmounts = WorthAmounts {
+    budget: 40,
+    actual: 11,
+    value: 9,
+    overrun: 2,
+};
+
+/// Whether the work of the first item is worth this.
+fn is_worth(alloc: Global, project: &Project) -> Option<bool> {
     let entries = project.book().entries();
     let (tree, places, states) = (project.tree(), project.places(), project.states());
     let worth = Worth::build(alloc, tree, places, states, project.accounts(), entries).ok()?;
-    if tree.len() != 3 {
-        return None;
-    }
-    Some(worth.of_item(0))
+    Some(tree.len() == 3 && worth.of_item(0) == WORTH)
 }
 
-/// The third item of the outlook with its level, and what the first one is going to cost where the activity costs 24.
-fn outlook_of(alloc: Global, project: &Project) -> Option<(OutlineRow, OutlookAmounts)> {
+const OUTLOOK: OutlookAmounts = OutlookAmounts {
+    budget: 40,
+    outlook: 54,
+    change: 14,
+};
+
+/// Whether the third item stands in the outlook at its level, and the first one is going to cost this where the
+/// activity costs 24.
+fn is_outlook(alloc: Global, project: &Project) -> Option<bool> {
     let entries = project.book().entries();
     let (tree, places) = (project.tree(), project.places());
     if tree.len() != 3 || places.len() != 1 {
@@ -53,14 +71,15 @@ fn outlook_of(alloc: Global, project: &Project) -> Option<(OutlineRow, OutlookAm
     if outlook.items() != 3 {
         return None;
     }
-    Some((outlook.row(2), outlook.of_item(0)))
+    let is_third = outlook.row(2) == OutlineRow { item: 2, level: 2 };
+    Some(is_third & (outlook.of_item(0) == OUTLOOK))
 }
 
 const LOAD: &[u8] =
     b"LOAD P 2\nPERIOD                0 2024-01-01\nPERIOD                1 2024-01-03\nITEMS\nRESOURCES\n";
 
 /// Whether tables of a caller, without amounts in two periods of two days, are written to a bare sink.
-fn load_of(alloc: Global, project: &Project) -> Option<bool> {
+fn is_load(alloc: Global, project: &Project) -> Option<bool> {
     let items = project.tree().len();
     let resources = project.resource_count();
     if items != 3 || resources != 0 {
@@ -73,64 +92,21 @@ fn load_of(alloc: Global, project: &Project) -> Option<bool> {
     Some(sink.bytes() == LOAD)
 }
 
-/// The figures of a project.
-#[derive(Clone, Copy)]
-pub(crate) struct ReportFigures {
-    summary: Option<(OutlineRow, SummaryAmounts, SummaryAmounts)>,
-    worth: Option<WorthAmounts>,
-    outlook: Option<(OutlineRow, OutlookAmounts)>,
-    load: Option<bool>,
-}
-
-/// These figures of a project.
-pub(crate) fn figures_of(alloc: Global, project: &Project) -> ReportFigures {
-    ReportFigures {
-        summary: summary_of(alloc, project),
-        worth: worth_of(alloc, project),
-        outlook: outlook_of(alloc, project),
-        load: load_of(alloc, project),
-    }
-}
-
-const WHOLE: SummaryAmounts = SummaryAmounts {
-    budget: 40,
-    actual: 11,
-    to_go: 34,
-    latest: 45,
-    overrun: 5,
-};
-
-const WORTH: WorthAmounts = WorthAmounts {
-    budget: 40,
-    actual: 11,
-    value: 9,
-    overrun: 2,
-};
-
-const OUTLOOK: OutlookAmounts = OutlookAmounts {
-    budget: 40,
-    outlook: 54,
-    change: 14,
-};
-
-/// Whether these are the figures of the deck's project.
-fn are_figures(figures: &ReportFigures) -> [bool; 4] {
-    let second = OutlineRow { item: 1, level: 2 };
-    let third = OutlineRow { item: 2, level: 2 };
+/// Whether a project has the summary, the worth, the outlook and the load of this deck's.
+pub(crate) fn has_figures(alloc: Global, project: &Project) -> [bool; 4] {
     [
-        figures.summary == Some((second, WHOLE, WHOLE)),
-        figures.worth == Some(WORTH),
-        figures.outlook == Some((third, OUTLOOK)),
-        figures.load == Some(true),
+        is_summary(alloc, project),
+        is_worth(alloc, project) == Some(true),
+        is_outlook(alloc, project) == Some(true),
+        is_load(alloc, project) == Some(true),
     ]
 }
 
-fn are_told(alloc: Global) -> Option<[bool; 4]> {
-    let figures = asked(alloc, DECK, b"", b"")?.figures?;
-    Some(are_figures(&figures))
+fn are_figures(alloc: Global) -> Option<[bool; 4]> {
+    asked(alloc, DECK, b"", b"")?.figures
 }
 
 #[test]
 fn figures_of_items(rt: HostRuntime) {
-    expect_all(&rt, &are_told(rt.alloc()).unwrap_or([false; 4]));
+    expect_all(&rt, &are_figures(rt.alloc()).unwrap_or([false; 4]));
 }

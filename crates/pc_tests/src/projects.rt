@@ -2,7 +2,7 @@
 //! one place.
 ghost use Rattle.std.specs.Prelude.{◌≤◌, length};
 
-use crate::figures::{ReportFigures, figures_of};
+use crate::figures::has_figures;
 use pc_deck::read_cards;
 use pc_project::{Project, deck_text_of, project_of};
 use std::alloc::{AllocError, Global};
@@ -14,7 +14,8 @@ pub(crate) struct DeckFacts {
     pub(crate) text: Option<bool>,
     /// Whether the text of the project's deck is the expected one.
     pub(crate) text_again: Option<bool>,
-    pub(crate) figures: Option<ReportFigures>,
+    /// Which of its figures are those of the deck of `figures`.
+    pub(crate) figures: Option<[bool; 4]>,
 }
 
 /// Whether a text is the expected one; none for want of memory.
@@ -40,7 +41,7 @@ pub(crate) fn asked(alloc: Global, deck: &[u8], text: &[u8], again: &[u8]) -> Op
         });
     };
     let of_project = is_same(deck_text_of(alloc, &project), again);
-    let figures = figures_of(alloc, &project);
+    let figures = has_figures(alloc, &project);
     let_go(project);
     Some(DeckFacts {
         text: of_deck,

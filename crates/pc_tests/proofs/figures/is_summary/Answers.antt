@@ -1,6 +1,6 @@
 use Rattle.std.proofs.Common.{arith}
 use Rattle.pc_rollup.proofs.lemmas.figures.DepthLaws.{levels_same}
-use Rattle.pc_tests.proofs.figures.summary_of.Goals as goal
+use Rattle.pc_tests.proofs.figures.is_summary.Goals as goal
 
 pub build-requires : goal.build-requires
 build-requires c =
