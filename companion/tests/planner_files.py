@@ -7,6 +7,7 @@ plans with just the features that the format has.
 from collections.abc import Iterator, Sequence
 from datetime import date, datetime, timedelta
 from decimal import Decimal
+from itertools import chain
 from xml.sax.saxutils import escape, quoteattr
 
 from pert_companion.calendar import Calendar, Shift
@@ -302,7 +303,7 @@ def xer_calendar_text(calendar: Calendar) -> str:
 def _xer_table(name: str, rows: Sequence[dict[str, object]]) -> str:
     if not rows:
         return ""
-    fields = list(dict.fromkeys(key for row in rows for key in row))
+    fields = list(dict.fromkeys(chain.from_iterable(rows)))
     lines = [f"%T\t{name}", "%F\t" + "\t".join(fields)]
     for row in rows:
         cells = [row.get(field) for field in fields]

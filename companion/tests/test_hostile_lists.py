@@ -233,7 +233,9 @@ CELLS = st.text(alphabet="0123456789.,-+%;: FSdh€[]eAE/\n", max_size=30)
 def test_any_cells(rows: list[list[str]], mark: str) -> None:
     """Cells of digits, signs and letters of links, in every column."""
     head = "ID,WBS,Name,Duration,Predecessors,Cost,Start,Crash,Resources".replace(",", mark)
-    body = ["".join(f'"{cell}"{mark}' for cell in row)[:-1] for row in rows]
+    body = []
+    for row in rows:
+        body.append(mark.join(f'"{cell}"' for cell in row))
     read("\n".join([head, *body]).encode())
 
 

@@ -4,6 +4,7 @@ import json
 import random
 from collections.abc import Iterator
 from concurrent.futures import ThreadPoolExecutor
+from itertools import product
 from typing import Any
 
 import pytest
@@ -269,7 +270,8 @@ def test_a_page_is_read_as_text() -> None:
 
 
 def test_a_hostile_page_is_read_in_linear_time() -> None:
-    texts = [[front, part] for front in ("", "<b", '<b data-figure="0" ') for part in HOSTILE]
+    fronts = ("", "<b", '<b data-figure="0" ')
+    texts = [list(pair) for pair in product(fronts, HOSTILE)]
     assert in_node(LONG_PAGES, texts) == [True] * len(texts)
 
 

@@ -76,7 +76,7 @@ def _cells(task: ScheduledTask, schedule: Schedule) -> list[str]:
 
 def _widths(rows: Sequence[Sequence[str]]) -> list[int]:
     columns = zip(_HEADINGS, *rows)
-    return [max(len(cell) for cell in column) for column in columns]
+    return [max(map(len, column)) for column in columns]
 
 
 def _line(cells: Sequence[str], widths: Sequence[int], name: str, name_width: int) -> str:
