@@ -124,7 +124,8 @@ impl Region {
     pub fn take_free(&mut self, len: usize) -> Span
         requires some { 0 < len }
         requires room { len ≤ free_of self.old }
-        ensures { IsTaken self.old self.new len result }
+        ensures taken { IsTaken self.old self.new len result }
+        ensures fewer { free_of self.new + len ≡ free_of self.old }
     {
         match self.take(len) {
             Ok(span) => span,

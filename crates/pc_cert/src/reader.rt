@@ -116,13 +116,11 @@ impl CertReader {
         ensures count { IfOk result (λ fed. self.new.lines ≤ self.old.lines + 1) }
     {
         let mut known = KnownLine::new();
-        match self.feed_known(piece, &mut known) {
-            Ok(used) => Ok(Fed {
-                used,
-                line: known.line().copied(),
-            }),
-            Err(malformed) => Err(malformed),
-        }
+        let used = self.feed_known(piece, &mut known)?;
+        Ok(Fed {
+            used,
+            line: known.line().copied(),
+        })
     }
 
     /// Does what `feed` does, but leaves the line in `known`, with its bytes: the line that ended, or none if no line

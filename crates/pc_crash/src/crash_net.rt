@@ -45,7 +45,7 @@ use crate::link_table::{Link, LinkTable, linked};
 use crate::net_codes::NetCodes;
 use crate::price_table::{PriceTable, laid_out};
 use crate::steps::Steps;
-use pc_model::{Knee, PieceRow, Term};
+use pc_model::{Knee, MAX_ACTIVITIES, MAX_EVENTS, PieceRow, Term};
 use pc_net::Net;
 use pc_text::Code;
 use std::alloc::{AllocError, Global};
@@ -180,15 +180,24 @@ impl<'n> CrashNet<'n> {
         })
     }
 
-    /// Returns the network.
-    pub fn net(&self) -> &Net
-        ensures network { result.now ≡ self.now.network }
+    /// Does nothing. Says what is known of every network with prices, for a proof that needs it and asks for nothing
+    /// else.
+    pub fn facts(&self)
+        ensures events { self.now.network.events ≤ MAX_EVENTS }
+        ensures activities { length self.now.network.arcs ≤ MAX_ACTIVITIES }
         ensures priced { IsPriced self.now.network self.now.terms (knees_in self.now) }
         ensures limits { AreWithinLimits self.now.terms }
         ensures pieces { ArePieces self.now.terms self.now.pieces }
         ensures piece_limits { ArePiecesWithinLimits self.now.pieces }
         ensures event_names { AreNames self.now.network.events self.now.events }
         ensures activity_names { AreNames (length self.now.network.arcs) self.now.activities }
+    {
+        self.net.facts();
+    }
+
+    /// Returns the network.
+    pub fn net(&self) -> &Net
+        ensures network { result.now ≡ self.now.network }
     {
         self.net
     }

@@ -82,6 +82,10 @@ earliest-none (Some f) (Some g) h = absurd (by (is_no_later f g) h)
     by true h = cc
     by false h = cc
 
+-- a fault that is found is not none
+pub earliest-some : (one : Option Fault) (fault : Fault) → earliest one (Some fault) ≡ None → ⊥
+earliest-some one fault h = let never = (earliest-none one (Some fault) h).1 in cc
+
 -- beside none a fault is the earlier one
 pub earliest-alone : (one : Option Fault) → earliest one None ≡ one
 earliest-alone None = refl

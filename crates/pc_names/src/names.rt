@@ -72,10 +72,7 @@ impl Names {
         ensures known { IfOk result (λ is_new. is_new ≡ false → self.new ≡ self.old) }
         ensures err { OnErr result (self.new ≡ self.old) }
     {
-        match self.codes.insert(*code) {
-            Ok(is_new) => Ok(is_new),
-            Err(_) => Err(AllocError),
-        }
+        Ok(self.codes.insert(*code)?)
     }
 
     /// Returns the place of a code, from 0, or `None` if it is not among them.

@@ -2,7 +2,7 @@ use Rattle.std.proofs.Common.{◌≡◌, ◌+◌, ◌∙◌, sym, ap, subst, Non
 use Rattle.std.specs.Prelude.{Option, Some}
 use Rattle.pc_faults.specs.declared.fault.Fault.{Fault}
 use Rattle.pc_faults.specs.inside.First.{earliest}
-use Rattle.pc_faults.proofs.FirstLaws.{earliest-none}
+use Rattle.pc_faults.proofs.FirstLaws.{earliest-some}
 use Rattle.pc_project.proofs.LoopLaws.{IsFirstBefore, first_with, first_without, first_of_all, map_take_more}
 use Rattle.pc_project.proofs.refers.look_up_all.Goals.{in-Ok+in_ok-push-in-Ok, in-Err}
 use Rattle.pc_project.proofs.refers.look_up_all.Goals as goal
@@ -24,12 +24,9 @@ loop-card-preserved g c =
       | in-Err w ↦ record {
         first = subst (IsFirstBefore has list (i + 1)) (sym (w.fault-is ∙ w.earliest-fault.ensures))
             (first_with has list i c.card-item.result c.loop-card.fault c.loop-card-test.true c.card-item.is before.first w.in-Err.found w.in-Err.ensures.first);
-        numbers = λ none. absurd (some_fault c.loop-card.fault w.in-Err.found (sym (w.fault-is ∙ w.earliest-fault.ensures) ∙ none));
+        numbers = λ none. absurd (earliest-some c.loop-card.fault w.in-Err.found (sym (w.fault-is ∙ w.earliest-fault.ensures) ∙ none));
       }
     ]
-  where
-    some_fault : (one : Option Fault) (fault : Fault) → earliest one (Some fault) ≡ None → ⊥
-    some_fault one fault h = let never = (earliest-none one (Some fault) h).1 in cc
 
 pub returns-clause-first : goal.returns-clause-first
 returns-clause-first g c =

@@ -5,14 +5,10 @@ use Rattle.pc_faults.specs.declared.fault.Fault.{Fault}
 use Rattle.pc_faults.specs.inside.First.{IsFirstIn, earliest}
 use Rattle.pc_tasks.specs.Lists.{after_row}
 use Rattle.pc_tasks.specs.Misfit.{HasAfterFault}
-use Rattle.pc_faults.proofs.FirstLaws.{earliest-none}
+use Rattle.pc_faults.proofs.FirstLaws.{earliest-some}
 use Rattle.pc_project.proofs.LoopLaws.{IsFirstBefore, first_with, first_without, first_of_all, first_of_none, map_take_more}
 use Rattle.pc_tasks.proofs.card_faults.find_afters.Goals.{in-Ok+in_ok-push-in-Ok, in-Err}
 use Rattle.pc_tasks.proofs.card_faults.find_afters.Goals as goal
-
--- a fault that is found is not none
-earliest-some : (one : Option Fault) (fault : Fault) → earliest one (Some fault) ≡ None → ⊥
-earliest-some one fault h = let never = (earliest-none one (Some fault) h).1 in cc
 
 pub loop-card-preserved : goal.loop-card-preserved
 loop-card-preserved c =

@@ -1,5 +1,5 @@
 use Rattle.pc_model.proofs.Costs.PieceLaws.{pieces_fit}
-use Rattle.pc_crash.proofs.crash_net.CrashNet.net.Goals as goal
+use Rattle.pc_crash.proofs.crash_net.CrashNet.facts.Goals as goal
 
 pub returns-clause-priced : goal.returns-clause-priced
 returns-clause-priced c =
