@@ -137,6 +137,12 @@ module _ (r : Inside) (now : Cells) (view : cells_of r ≡ now) (laid : IsLaidOu
     starts = starts-released r.cells.items r.starts.items r.count laid.starts k (omega (arith, region-length));
   }
 
+-- what the fields of a region say when it has one more span
+pub record HasOneMore (next : Inside) (now : Cells) (place len : ℕ) : Type 0 where
+  pub laid : IsLaidOut next
+  pub taken : cells_of next ≡ record { capacity = now.capacity; spans = now.spans ++ replicate len 0 ∷ [] }
+  pub span : IsSpan (cells_of next).spans (length now.spans) (record { place = place; len = len })
+
 -- one more span: behind the last, with 0 in each of its cells
 module _ (r next : Inside) (now : Cells) (view : cells_of r ≡ now) (laid : IsLaidOut r) (place len : ℕ) (some : 0 < len)
     (begins : place ≡ slice_index r.starts.items r.count) (fits : place + len ≤ length r.cells.items)
@@ -171,7 +177,7 @@ module _ (r next : Inside) (now : Cells) (view : cells_of r ≡ now) (laid : IsL
               )
         ]
 
-  pub laid-taken : IsLaidOut next
+  laid-taken : IsLaidOut next
   laid-taken = record {
     few = omega (arith, filled.size, laid.few);
     room = ap length starts ∙ length-set r.starts.items (r.count + 1) (place + len) ∙ laid.room ∙ ap (λ n. n + 1) (sym filled.size);
@@ -192,14 +198,14 @@ module _ (r next : Inside) (now : Cells) (view : cells_of r ≡ now) (laid : IsL
       ∙ filled.inside
       ∙ ap (λ n. replicate n 0) (let e : place + len - place ≡ len = omega arith in e)
 
-  pub region-taken : cells_of next ≡ record { capacity = now.capacity; spans = now.spans ++ replicate len 0 ∷ [] }
+  region-taken : cells_of next ≡ record { capacity = now.capacity; spans = now.spans ++ replicate len 0 ∷ [] }
   region-taken =
       ap (cells_made (length next.cells.items)) (ap (spans_of next.cells.items next.starts.items) count)
       ∙ ap (cells_made (length next.cells.items)) (spans-grown r.cells.items r.starts.items next.cells.items next.starts.items r.count (replicate len 0) laid.starts same new)
       ∙ ap (λ n. cells_made n (spans_of r.cells.items r.starts.items r.count ++ replicate len 0 ∷ [])) filled.size
       ∙ ap (λ c. cells_made c.capacity (c.spans ++ replicate len 0 ∷ [])) view
 
-  pub span-taken : IsSpan (cells_of next).spans (length now.spans) (record { place = place; len = len })
+  span-taken : IsSpan (cells_of next).spans (length now.spans) (record { place = place; len = len })
   span-taken =
       subst (λ spans. IsSpan spans (length now.spans) (record { place = place; len = len })) (sym (ap (λ c. c.spans) region-taken)) (
       record {
@@ -211,3 +217,6 @@ module _ (r next : Inside) (now : Cells) (view : cells_of r ≡ now) (laid : IsL
         extends = sym (ap length (get_or_push now.spans (replicate len 0) [] (length now.spans) refl) ∙ length-replicate len 0);
       }
       )
+
+  pub one_more : HasOneMore next now place len
+  one_more = record { laid = laid-taken; taken = region-taken; span = span-taken }

@@ -1,4 +1,4 @@
-use Rattle.std.proofs.Common.{◌≡◌, ◌+◌, arith, ap, ◌∙◌}
+use Rattle.std.proofs.Common.{◌+◌, arith, ap, ◌∙◌}
 use Rattle.std.specs.Prelude.{slice_range}
 use Rattle.pc_cells.proofs.RegionLaws.{region-within, region-list}
 use Rattle.pc_cells.proofs.region.Region.list.Goals as goal

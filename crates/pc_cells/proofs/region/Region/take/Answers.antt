@@ -1,18 +1,9 @@
-use Rattle.std.proofs.Common.{List, ◌≡◌, ◌+◌, ◌-◌, ℕ, arith, ap, ◌∙◌, refl}
+use Rattle.std.proofs.Common.{◌≡◌, ◌+◌, ◌-◌, ℕ, arith, ap, ◌∙◌, refl}
 use Rattle.std.specs.Vec.{with_items, with_item}
-use Rattle.pc_cells.specs.declared.region.Region.TheInside.{Inside}
 use Rattle.pc_cells.specs.declared.region.RegionFull.{RegionFull}
 use Rattle.pc_cells.specs.inside.Spans.{free_of}
-use Rattle.pc_cells.proofs.RegionLaws.{region-count, region-room, region-capacity, region-end, region-free, vector-filled, starts-room, laid-taken, region-taken, span-taken}
+use Rattle.pc_cells.proofs.RegionLaws.{region-count, region-room, region-capacity, region-end, region-free, vector-filled, starts-room, HasOneMore, one_more}
 use Rattle.pc_cells.proofs.region.Region.take.Goals as goal
-
--- the fields after the call
-abbrev one_more : Inside → List ℕ → ℕ → ℕ → Inside
-one_more r cells place len = record {
-  cells = with_items r.cells cells;
-  starts = with_item r.starts (r.count + 1) (place + len);
-  count = r.count + 1;
-}
 
 abbrev full : ℕ → ℕ → RegionFull
 full need free = record { need = need; free = free }
@@ -62,68 +53,39 @@ returns-clause-there_is_room c =
     region-free c.self.inside c.args.self.now c.self.view_is c.self.invariant c.index-place.result.now c.len.result c.index-place.ensures (c.len.ensures ∙ c.self.inside.cells.ok.0) in
     (λ is. omega (arith, c.if-free-len.false), λ room. refl)
 
-pub invariant_of-self : goal.invariant_of-self
-invariant_of-self c =
-    laid-taken c.self.inside (one_more c.self.inside c.fill_range.new.cells c.index-place.result.now c.args.len) c.args.self.now c.self.view_is
-    c.self.invariant c.index-place.result.now c.args.len c.requires
-    (region-end c.self.inside c.args.self.now c.self.view_is c.self.invariant c.index-place.result.now c.index-place.ensures)
+-- the fields when the cells of the span are filled and the next start stands behind them
+taken : (c : goal.After-self-3-1) → HasOneMore (record {
+      cells = with_items c.self.inside.cells c.fill_range.new.cells;
+      starts = with_item c.self.inside.starts (c.self.inside.count + 1) (c.index-place.result.now + c.args.len);
+      count = c.self.inside.count + 1;
+    }) c.args.self.now c.index-place.result.now c.args.len
+taken c =
+    let r = c.self.inside in
+    let now = c.args.self.now in
+    let place = c.index-place.result.now in
+    let last = region-end r now c.self.view_is c.self.invariant place c.index-place.ensures in
+    one_more r _ now c.self.view_is c.self.invariant place c.args.len c.requires last
     (omega (
       arith,
       c.if-free-len.false,
       c.len.ensures,
-      c.self.inside.cells.ok.0,
-      region-room c.self.inside c.args.self.now c.self.view_is c.self.invariant,
-      region-capacity c.self.inside c.args.self.now c.self.view_is c.self.invariant,
-      region-end c.self.inside c.args.self.now c.self.view_is
-          c.self.invariant c.index-place.result.now c.index-place.ensures,
+      r.cells.ok.0,
+      region-room r now c.self.view_is c.self.invariant,
+      region-capacity r now c.self.view_is c.self.invariant,
+      last,
       c.requires,
     ))
     (
-    vector-filled c.self.inside.cells c.deref_mut.result.now c.fill_range.new.cells c.index-place.result.now (c.index-place.result.now + c.args.len) 0
+    vector-filled r.cells c.deref_mut.result.now c.fill_range.new.cells place (place + c.args.len) 0
     c.deref_mut.ensures.value c.deref_mut.ensures.len c.fill_range.ensures
     )
     refl refl
+
+pub invariant_of-self : goal.invariant_of-self
+invariant_of-self c = (taken c).laid
 
 pub returns-clause-span : goal.returns-clause-span
-returns-clause-span c =
-    span-taken c.self.inside (one_more c.self.inside c.fill_range.new.cells c.index-place.result.now c.args.len) c.args.self.now c.self.view_is
-    c.self.invariant c.index-place.result.now c.args.len c.requires
-    (region-end c.self.inside c.args.self.now c.self.view_is c.self.invariant c.index-place.result.now c.index-place.ensures)
-    (omega (
-      arith,
-      c.if-free-len.false,
-      c.len.ensures,
-      c.self.inside.cells.ok.0,
-      region-room c.self.inside c.args.self.now c.self.view_is c.self.invariant,
-      region-capacity c.self.inside c.args.self.now c.self.view_is c.self.invariant,
-      region-end c.self.inside c.args.self.now c.self.view_is
-          c.self.invariant c.index-place.result.now c.index-place.ensures,
-      c.requires,
-    ))
-    (
-    vector-filled c.self.inside.cells c.deref_mut.result.now c.fill_range.new.cells c.index-place.result.now (c.index-place.result.now + c.args.len) 0
-    c.deref_mut.ensures.value c.deref_mut.ensures.len c.fill_range.ensures
-    )
-    refl refl
+returns-clause-span c = (taken c).span
 
 pub returns-clause-taken : goal.returns-clause-taken
-returns-clause-taken c =
-    region-taken c.self.inside (one_more c.self.inside c.fill_range.new.cells c.index-place.result.now c.args.len) c.args.self.now c.self.view_is
-    c.self.invariant c.index-place.result.now c.args.len c.requires
-    (region-end c.self.inside c.args.self.now c.self.view_is c.self.invariant c.index-place.result.now c.index-place.ensures)
-    (omega (
-      arith,
-      c.if-free-len.false,
-      c.len.ensures,
-      c.self.inside.cells.ok.0,
-      region-room c.self.inside c.args.self.now c.self.view_is c.self.invariant,
-      region-capacity c.self.inside c.args.self.now c.self.view_is c.self.invariant,
-      region-end c.self.inside c.args.self.now c.self.view_is
-          c.self.invariant c.index-place.result.now c.index-place.ensures,
-      c.requires,
-    ))
-    (
-    vector-filled c.self.inside.cells c.deref_mut.result.now c.fill_range.new.cells c.index-place.result.now (c.index-place.result.now + c.args.len) 0
-    c.deref_mut.ensures.value c.deref_mut.ensures.len c.fill_range.ensures
-    )
-    refl refl
+returns-clause-taken c = (taken c).taken

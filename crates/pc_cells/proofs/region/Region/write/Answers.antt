@@ -1,4 +1,4 @@
-use Rattle.std.proofs.Common.{◌+◌, length, arith, ap, subst, sym}
+use Rattle.std.proofs.Common.{◌+◌, length, arith, subst}
 use Rattle.std.specs.Vec.{with_items}
 use Rattle.pc_cells.specs.inside.Layout.{IsRangeWritten}
 use Rattle.pc_cells.proofs.RegionLaws.{region-within, region-written, vector-written}
