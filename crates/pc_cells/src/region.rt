@@ -63,8 +63,8 @@ impl Model for Region {
 }
 
 impl Region {
-    /// Creates a region of `n` cells with no live span. Allocates all memory that its spans will need, that for their
-    /// places included.
+    /// Creates a region of `n` cells with no live span. Allocates all memory that its spans will need, that for where
+    /// they begin included.
     ///
     /// # Errors
     ///

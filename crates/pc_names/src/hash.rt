@@ -41,9 +41,9 @@ impl BuildHasher for CodeHash {
 
 /// Hashes the key, what is written, and the key again.
 ///
-/// The key before a code hides which codes meet in the state. The key after it hides which states meet in a place of
-/// the table: without it, codes that differ only in a few bits would share the bits that choose the place, whatever the
-/// key is.
+/// The key before a code hides which codes meet in the state. The key after it hides which states meet in a slot of the
+/// table: without it, codes that differ only in a few bits would share the bits that choose the slot, whatever the key
+/// is.
 #[derive(Clone, Copy)]
 pub(crate) struct CodeHasher {
     inner: FoldHasher,
