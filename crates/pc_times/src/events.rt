@@ -104,8 +104,8 @@ pub fn early_into(net: &Net, lengths: &[u64], times: &mut [u64])
     ensures limit { All (λ time. time ≤ MAX_TIME) times.new }
     ensures walks { HasBoundedWalks net.now lengths.now }
 {
-    // Called for the bound on events, so that no sum is too great.
-    let _events = net.events();
+    // The bound on events says that no sum is too great.
+    net.facts();
     for &event in net.order() {
         times[event as usize] = latest_arrival(net, lengths, times, event);
     }
@@ -120,8 +120,8 @@ pub fn tails_into(net: &Net, lengths: &[u64], tails: &mut [u64])
     ensures limit { All (λ tail. tail ≤ MAX_TIME) tails.new }
     ensures walks { HasBoundedWalks net.now lengths.now }
 {
-    // Called for the bound on events, so that no sum is too great.
-    let _events = net.events();
+    // The bound on events says that no sum is too great.
+    net.facts();
     for &event in net.order().iter().rev() {
         tails[event as usize] = longest_departure(net, lengths, tails, event);
     }

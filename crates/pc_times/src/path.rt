@@ -101,8 +101,8 @@ pub fn critical_path_into(
     ensures picked { IsPickedWalk net.now lengths.now (take result path.new) }
     ensures short { result < net.now.events }
 {
-    // Called for the bound on events and for their order: no walk is longer than the slice.
-    let _events = net.events();
+    // The bound on events and the order say that no walk is longer than the slice.
+    net.facts();
     let _order = net.order();
     let mut event = net.start();
     let mut count = 0;

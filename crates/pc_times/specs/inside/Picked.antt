@@ -1,6 +1,6 @@
 -- The critical path that is picked where there are several.
 -- Here is what no clause of a top call and no law reaches.
-use Rattle.std.specs.Prelude.{ℕ, List, length}
+use Rattle.std.specs.Prelude.{ℕ, List}
 
 -- what `longest` finds: the greatest sum over the walks from the start to the end, that to each event, and the
 -- picked walk
