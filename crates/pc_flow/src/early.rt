@@ -40,10 +40,9 @@ pub(crate) fn keep_early_times(board: &mut Board, net: &CrashNet<'_>, pace: Pace
         IsEarly net.now.network (durations_at net.now.terms pace) e (kept_time board.new e) }
     ensures limit { (e : ℕ) → e < net.now.network.events → kept_time board.new e ≤ MAX_LENGTH }
 {
-    let shape = net.net();
     // No more events than a project may have, so that no time is above the greatest length.
-    let _events = shape.events();
-    for &e in shape.order() {
+    net.facts();
+    for &e in net.net().order() {
         let time = latest_arrival(board, net, pace, e);
         board.set_time(e, time);
     }

@@ -18,6 +18,7 @@ pub(crate) fn keep_lengths(board: &mut Board, net: &CrashNet<'_>)
     ensures rest { board.new ≡ record board.old { up = board.new.up; down = board.new.down } }
     ensures lengths { AreLengths net.now board.new }
 {
+    net.facts();
     let shape = net.net();
     for a in 0..shape.activities() {
         renew_lengths(board, net, a);

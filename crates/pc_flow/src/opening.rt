@@ -27,6 +27,7 @@ pub(crate) fn open_board(region: Region, net: &CrashNet<'_>) -> Opening
     ensures longest { result.longest ≡ kept_time result.board net.now.network.end }
     ensures shortest { IsAllCrashLength net.now.network net.now.terms result.shortest }
 {
+    net.facts();
     let shape = net.net();
     let mut board = Board::new(region, shape.events(), shape.activities());
     keep_early_times(&mut board, net, Pace::Crash);

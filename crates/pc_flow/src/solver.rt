@@ -2,6 +2,8 @@
 ghost use Rattle.std.specs.Prelude.{◌≡◌, ◌+◌, ◌*◌, ◌≤◌, true, false, length, ◌<◌, ◌↔◌, IsTrue, IsFalse, ℕ};
 ghost use Rattle.pc_model.specs.declared.limits.TheConstants.{MAX_EVENTS, MAX_ACTIVITIES, MAX_PIECES};
 ghost use Rattle.pc_model.specs.Sums.{sum_to};
+ghost use Rattle.pc_model.specs.Cost.{IsPriced};
+ghost use Rattle.pc_model.specs.Pieces.{ArePieces};
 ghost use Rattle.pc_model.specs.Schedule.{base_cost_of, IsAllNormalLength, IsAllCrashLength};
 ghost use Rattle.pc_flow.specs.declared.early.TheConstants.{MAX_LENGTH};
 ghost use Rattle.pc_cells.specs.inside.Spans.{free_of};
@@ -12,7 +14,8 @@ ghost use Rattle.pc_flow.specs.inside.search.Growing.{AreListed};
 ghost use Rattle.pc_flow.specs.inside.search.Labelling.{IsBetween, MayFall};
 ghost use Rattle.pc_flow.specs.inside.Descents.{HasDescended, HasSearched};
 ghost use Rattle.pc_laws.specs.Stair.{stair_of, knee_flow, crash_flow};
-ghost use Rattle.pc_crash.specs.Priced.{knees_in};
+ghost use Rattle.pc_crash.specs.Priced.{knees_in, ArePiecesWithinLimits};
+ghost use Rattle.pc_crash.specs.Terms.{AreWithinLimits};
 
 use crate::board::Board;
 use crate::early::MAX_LENGTH;
@@ -124,6 +127,7 @@ impl<'n> Solver<'n> {
         ensures longest { IsAllNormalLength net.now.network net.now.terms result.longest }
         ensures shortest { IsAllCrashLength net.now.network net.now.terms result.shortest }
     {
+        net.facts();
         // The order of the events says that no activity has more flow than its value.
         let _order = net.net().order();
         let opening = open_board(region, net);
@@ -187,13 +191,26 @@ impl<'n> Solver<'n> {
         self.shortest
     }
 
-    /// Returns whether a segment was given.
-    pub fn given(&self) -> bool
-        ensures given { result ≡ self.now.given }
-        ensures level { result ≡ false → IsLevel self.now }
-        ensures whole { result ≡ true → IsOnCurve self.now }
+    /// Does nothing. Says what is known of every solver and its network, for a proof that needs it and asks for nothing
+    /// else.
+    pub fn facts(&self)
+        ensures priced { IsPriced self.now.net.network self.now.net.terms (knees_in self.now.net) }
+        ensures limits { AreWithinLimits self.now.net.terms }
+        ensures pieces { ArePieces self.now.net.terms self.now.net.pieces }
+        ensures piece_limits { ArePiecesWithinLimits self.now.net.pieces }
+        ensures all_normal { IsAllNormalLength self.now.net.network self.now.net.terms self.now.longest }
+        ensures all_crash { IsAllCrashLength self.now.net.network self.now.net.terms self.now.shortest }
+        ensures level { self.now.given ≡ false → IsLevel self.now }
+        ensures whole { self.now.given ≡ true → IsOnCurve self.now }
         ensures range { self.now.shortest ≤ lower_of self.now }
         ensures gentle { self.now.slope ≤ slopes_in self.now.net }
+    {
+        self.net.facts();
+    }
+
+    /// Returns whether a segment was given.
+    pub fn given(&self) -> bool
+        ensures { result ≡ self.now.given }
     {
         self.given
     }
@@ -295,7 +312,7 @@ fn descend(board: &mut Board, net: &CrashNet<'_>, fall: u64)
 {
     if fall > 0 {
         // The network is priced, so that no time falls below 0.
-        let _net = net.net();
+        net.facts();
         board.fall(fall);
     }
 }
@@ -314,6 +331,8 @@ fn search_on<L: Ledger>(
     ensures searched { HasSearched net.now board.old board.new shortest result.rise
         result.fall }
 {
+    // The network is priced, so that each fall is by some units, which pay for the first looks.
+    net.facts();
     let end = net.net().end();
     if board.time(end) > shortest {
         board.label(net, steps)
@@ -326,6 +345,8 @@ fn search_on<L: Ledger>(
 fn normal_cost(net: &CrashNet<'_>) -> u64
     ensures { result ≡ sum_to (length net.now.terms) (base_cost_of net.now.terms) }
 {
+    // No more activities, and none dearer, than a project may have, so that the sum fits.
+    net.facts();
     let mut cost = 0;
     for a in 0..net.net().activities() {
         cost += net.term(a).cost;

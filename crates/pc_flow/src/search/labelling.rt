@@ -42,7 +42,7 @@ impl Board {
         ensures labelled { HasLabelled net.now self.old self.new result.rise result.fall }
     {
         // The network is priced, so that some activity stops before the length is 0.
-        let _net = net.net();
+        net.facts();
         self.settle(net, steps);
         self.grow(net, steps);
         let rise = self.raise_all(net, steps);
@@ -58,6 +58,8 @@ impl Board {
         ensures under_way { IsUnderWay net.now self.new }
         ensures unreached { rank_of self.new net.now.network.end ≡ 0 }
     {
+        // No sum of last slopes is so great that the rises together do not fit.
+        net.facts();
         let end = net.net().end();
         let mut rise = 0;
         while self.rank(end) > 0 {

@@ -25,6 +25,7 @@ impl Board {
         ensures raised { HasRaised net.now self.old self.new result.by }
         ensures stand { StandFirst self.new result.standing }
     {
+        net.facts();
         let shape = net.net();
         // With an order of the events, no activity has more flow than the value.
         let _order = shape.order();

@@ -44,19 +44,14 @@ impl Board {
         requires way { IsWay net.now self.now a (Some way) }
         ensures { StopsAfter net.now self.now a way result }
     {
-        let rests = self.resting_time(near);
-        let falls = self.falling_time(far);
         match way {
-            Way::Along => falls - rests - self.up(a),
-            Way::Against => self.down(a) - (rests - falls),
+            Way::Along => self.falling_time(far) - self.resting_time(near) - self.up(a),
+            Way::Against => self.down(a) - (self.resting_time(near) - self.falling_time(far)),
         }
     }
 
     /// Labels the far event of an activity if its step has residual capacity, and otherwise lets the activity wait for
     /// a step of the times. One look.
-    ///
-    /// Labels may not cross most of the activities that a search comes to. So only the test is in the loops that call
-    /// this, and the rest is a call with the result of the look.
     #[inline(always)]
     pub fn visit<L: Ledger>(&mut self, net: &CrashNet<'_>, a: u32, steps: &mut Steps<L>)
         requires known { a < length net.now.network.arcs }
@@ -148,7 +143,9 @@ impl Board {
 
     // Labels the event to which a step leads that labels may take, or has its activity wait that stops only after a
     // fall.
-    #[inline(never)]
+    //
+    // It becomes part of the loops that call it, where the direction is known.
+    #[inline(always)]
     fn cross(&mut self, net: &CrashNet<'_>, a: u32, near: u32, far: u32, way: Way)
         requires known { a < length net.now.network.arcs }
         requires near { near_in net.now way a ≡ near }

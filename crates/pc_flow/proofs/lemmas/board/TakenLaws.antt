@@ -1,8 +1,6 @@
 -- The columns of a board, taken one after another.
-use Rattle.std.proofs.Common.{◌≡◌, ℕ, ◌+◌, List, [], ◌∷◌, ◌++◌, length, replicate, refl, sym, ◌∙◌, ap, subst, arith, append_assoc}
-use Rattle.std.specs.Prelude.{sum_by}
-use Rattle.std.proofs.lemmas.List.{length-append, length-replicate, append-nil}
-use Rattle.std.proofs.lemmas.List.Sums.{sum_by-append, sum_by-cons}
+use Rattle.std.proofs.Common.{◌≡◌, ℕ, ◌+◌, List, [], ◌∷◌, ◌++◌, length, replicate, refl, sym, ◌∙◌, ap, subst, append_assoc}
+use Rattle.std.proofs.lemmas.List.{length-append, append-nil}
 use Rattle.pc_cells.specs.declared.region.Span.{Span}
 use Rattle.pc_cells.specs.Spans.{Cells}
 use Rattle.pc_cells.specs.inside.Spans.{IsSpan, IsTaken}
@@ -26,19 +24,6 @@ taken-after home was now before len s at taken =
     taken.region
     ∙ ap (λ (r : Cells). with_more r (replicate len 0 ∷ [])) at
     ∙ ap (λ ys. made home.capacity ys) (append_assoc home.spans before (replicate len 0 ∷ []))
-
--- its cells are free no more
-pub taken-free : (was now : Cells) (len : ℕ) (s : Span) → IsTaken was now len s
-    → now.capacity + (sum_by length was.spans + len) ≡ was.capacity + sum_by length now.spans
-taken-free was now len s taken =
-    omega (
-      arith,
-      ap (λ (r : Cells). r.capacity) taken.region,
-      ap (λ (r : Cells). sum_by (length {A = ℕ}) r.spans) taken.region,
-      sum_by-append (length {A = ℕ}) was.spans (replicate len 0 ∷ []),
-      sum_by-cons (length {A = ℕ}) (replicate len 0) [],
-      length-replicate {A = ℕ} len 0,
-    )
 
 -- it is live when all are taken
 span-after : (home was now end : Cells) (before rest : List (List ℕ)) (len k : ℕ) (s : Span) → was ≡ with_more home before → length before ≡ k

@@ -1,5 +1,5 @@
 -- The lengths of arcs that a board keeps, renewed along the steps whose flow was raised.
-use Rattle.std.proofs.Common.{◌≡◌, ℕ, zero, suc, ◌+◌, ◌-◌, ◌<◌, ◌≤◌, List, length, refl, sym, ◌∙◌, ap, subst, inl, inr, arith}
+use Rattle.std.proofs.Common.{◌≡◌, ℕ, zero, suc, ◌+◌, ◌-◌, ◌^◌, ◌<◌, ◌≤◌, List, length, refl, sym, ◌∙◌, ap, subst, inl, inr, arith}
 use Rattle.std.proofs.lemmas.Bool.{cases_eq, cases_lt}
 use Rattle.pc_model.specs.declared.Knee.{Knee}
 use Rattle.pc_model.specs.Schedule.{crash_of}
@@ -15,7 +15,7 @@ use Rattle.pc_flow.specs.inside.board.Labelling.{HasStep, IsRankedBack, HaveStep
 use Rattle.pc_flow.specs.inside.board.Raising.{event_back, IsWayBack, IsStepTaken, IsRaisedBy, StandFirst}
 use Rattle.pc_flow.proofs.lemmas.board.RaisingLaws.{way-none, way-more}
 use Rattle.pc_flow.proofs.lemmas.board.AfterRaising.{find_below}
-use Rattle.pc_flow.specs.inside.search.Searches.{stair_at, HasLengths, AreLengths}
+use Rattle.pc_flow.specs.inside.search.Searches.{stair_at, IsOnStairs, HasLengths, AreLengths}
 use Rattle.pc_flow.specs.inside.search.Lengths.{IsLevelAt, AreLevelBack, RenewsAt, IsRenewedBack}
 
 -- the staircase of what is known of an activity
@@ -71,31 +71,40 @@ pub renewing-event : (net : PricedNetwork) (s t : Sheet) (e k x : ℕ) → IsRen
 renewing-event net s t e k x on =
     omega (arith, ap (λ (v : Sheet). v.events) on.rest, subst (λ f. f < s.events) on.way.leads (on.way.known k (omega arith)))
 
-pub renewing-step : (net : PricedNetwork) (s t : Sheet) (e k x : ℕ) → IsRenewing net s t e k x → IsFor net.network s → HaveSteps s → HasStep s x
-    → step_of t x < length net.network.arcs
-renewing-step net s t e k x on fits steps has =
-    omega (
-      arith,
-      ap (λ (v : Sheet). step_of v x) on.rest,
-      steps.known x (omega (arith, ap (λ (v : Sheet). v.events) on.rest, renewing-event net s t e k x on)) has,
-      fits.activities,
-    )
+module _ (net : PricedNetwork) (s t : Sheet) (e k x : ℕ) (on : IsRenewing net s t e k x) (has : HasStep t x) where
+  -- it had the step before
+  pub renewing-has : HasStep s x
+  renewing-has = omega (arith, has, ap (λ (v : Sheet). rank_of v x) on.rest)
 
--- where the step there has room left, the flow stays on arcs of one length
-pub renewing-level : (net : PricedNetwork) (s t : Sheet) (e k x : ℕ) → IsRenewing net s t e k x → HasStep s x → 0 < room_of t x
-    → IsLevelAt net t x
-renewing-level net s t e k x on has left =
-    subst (λ f. IsLevelAt net t f) on.way.leads
-    (on.level k steps (omega (arith, left, ap (room_of s) on.way.leads, ap (λ (v : Sheet). room_of v x) on.rest)))
-  where
-    steps : (i : ℕ) → i ≤ k → HasStep s (event_back s e i)
-    steps i within =
-        elim (cases_lt i k) [
-          | inl early ↦ on.way.steps i early
-          | inr last ↦
-              let at : k ≡ i = omega arith in
-              subst (λ m. HasStep s (event_back s e m)) at (subst (λ f. HasStep s f) (sym on.way.leads) has)
-        ]
+  module _ (fits : IsFor net.network s) (steps : HaveSteps s) where
+    pub renewing-step : step_of t x < length net.network.arcs
+    renewing-step =
+        omega (
+          arith,
+          ap (λ (v : Sheet). step_of v x) on.rest,
+          steps.known x (omega (arith, ap (λ (v : Sheet). v.events) on.rest, renewing-event net s t e k x on)) renewing-has,
+          fits.activities,
+        )
+
+    -- its flow is small still
+    pub renewing-small : IsOnStairs net s → flow_of t (step_of t x) + 1 < 2 ^ 64
+    renewing-small stairs =
+        omega (arith, ap (λ (v : Sheet). flow_of v (step_of t x)) on.rest, stairs.small (step_of t x) renewing-step)
+
+  -- where the step there has room left, the flow stays on arcs of one length
+  pub renewing-level : 0 < room_of t x → IsLevelAt net t x
+  renewing-level left =
+      subst (λ f. IsLevelAt net t f) on.way.leads
+      (on.level k steps (omega (arith, left, ap (room_of s) on.way.leads, ap (λ (v : Sheet). room_of v x) on.rest)))
+    where
+      steps : (i : ℕ) → i ≤ k → HasStep s (event_back s e i)
+      steps i within =
+          elim (cases_lt i k) [
+            | inl early ↦ on.way.steps i early
+            | inr last ↦
+                let at : k ≡ i = omega arith in
+                subst (λ m. HasStep s (event_back s e m)) at (subst (λ f. HasStep s f) (sym on.way.leads) renewing-has)
+          ]
 
 -- lengths stay right where another activity has its own renewed
 pub renewed-others : (net : PricedNetwork) (t u : Sheet) (a b : ℕ) → RenewsAt net t u b → HasLengths net t a → HasLengths net u a

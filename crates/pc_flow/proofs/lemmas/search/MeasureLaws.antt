@@ -3,7 +3,8 @@ use Rattle.std.proofs.Common.{◌≡◌, ℕ, ◌+◌, ◌-◌, ◌^◌, ◌<◌
 use Rattle.std.proofs.lemmas.Bool.{cases_eq, cases_lt}
 use Rattle.pc_model.specs.Walk.{from_of, to_of}
 use Rattle.pc_model.specs.declared.Knee.{Knee}
-use Rattle.pc_model.specs.Schedule.{crash_of}
+use Rattle.pc_model.specs.declared.Term.{Term}
+use Rattle.pc_model.specs.Schedule.{term_at}
 use Rattle.pc_laws.specs.Stair.{IsFalling, full_reach, unit_length, IsOnStair}
 use Rattle.pc_laws.proofs.Stairs.Units.{unit-falls}
 use Rattle.pc_crash.specs.inside.KneeLists.{AreKneesOf}
@@ -101,12 +102,16 @@ module _ (net : PricedNetwork) (s : Sheet) (search : IsSearch net s) (room : Hav
   }
 
   -- what is found of its knees
-  module _ (a crash : ℕ) (knees : List Knee) (at : a ≡ step_of s e) (bends : AreKneesOf (knees_in net) a knees) (lasts : crash ≡ crash_of net.terms a) where
+  module _ (a : ℕ) (list knees : List Knee) (term : Term) (at : a ≡ step_of s e)
+      (bends : AreKneesOf (knees_in net) a list) (same : knees ≡ list) (is_term : term ≡ term_at net.terms a) where
+    abbrev crash : ℕ
+    crash = term.crash
+
     inside : a < length net.network.arcs
     inside = omega (arith, at, step-inside)
 
     seen : IsSeen net a crash knees
-    seen = record { lasts = lasts; bends = bends }
+    seen = record { lasts = ap (λ (t : Term). t.crash) is_term; bends = subst (λ ks. AreKneesOf (knees_in net) a ks) (sym same) bends }
 
     pub found-reach : full_reach (stair knees crash) < 2 ^ 64
     found-reach = seen-reach net s a crash knees inside seen search.stairs
@@ -124,7 +129,7 @@ module _ (net : PricedNetwork) (s : Sheet) (search : IsSearch net s) (room : Hav
         → ((gap : ℕ) → IsOnStair (stair knees crash) gap flow → unit_length (stair knees crash) flow ≡ gap → IsOnStair (stair knees crash) gap (flow + units))
         → IsRoom net s e units
     found-along units flow is none some small on = record {
-      along = λ same.
+      along = λ none_there.
           subst (λ b. HasRoomAlong net s b units) at
           (room-along net s a crash knees inside seen search.stairs units flow is some small on
           (subst (λ b. StopsAfter net s b Along 0) (sym at) (step-along none)));
@@ -136,7 +141,7 @@ module _ (net : PricedNetwork) (s : Sheet) (search : IsSearch net s) (room : Hav
         → IsRoom net s e units
     found-against units flow is more some within on = record {
       along = λ none. absurd (omega (arith, more, none));
-      against = λ same.
+      against = λ some_there.
           subst (λ b. HasRoomAgainst net s b units) at
           (room-against net s a crash knees inside seen search.stairs units flow is some within on
           (subst (λ b. StopsAfter net s b Against 0) (sym at) (step-against more)));

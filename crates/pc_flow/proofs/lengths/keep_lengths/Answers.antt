@@ -20,9 +20,9 @@ renew_lengths-requires-clause-fits c =
 
 pub renew_lengths-requires-clause-reach : goal.renew_lengths-requires-clause-reach
 renew_lengths-requires-clause-reach c =
-    let shape = c.net-shape.ensures in
+    let shape = c.facts.ensures in
     reach-small c.args.net.now shape.priced shape.limits shape.pieces shape.piece_limits c.loop-a.a
-    (omega (arith, c.loop-a-test.true, c.activities-a-end.ensures.activities, ap (λ (n : Network). length n.arcs) shape.network))
+    (omega (arith, c.loop-a-test.true, c.activities-a-end.ensures.activities, ap (λ (n : Network). length n.arcs) c.net-shape.ensures.network))
 
 pub renew_lengths-requires-clause-small : goal.renew_lengths-requires-clause-small
 renew_lengths-requires-clause-small c =

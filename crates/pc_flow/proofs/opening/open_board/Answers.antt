@@ -29,4 +29,4 @@ returns-clause-longest c =
 pub returns-clause-shortest : goal.returns-clause-shortest
 returns-clause-shortest c =
     let end = rw c.net-shape.ensures.network at c.end.ensures.end in
-    rw (c.kept_time-shortest.ensures, end) (c.keep_early_times.ensures.times c.args.net.now.network.end c.net-shape.ensures.priced.range.end_in)
+    rw (c.kept_time-shortest.ensures, end) (c.keep_early_times.ensures.times c.args.net.now.network.end c.facts.ensures.priced.range.end_in)

@@ -7,8 +7,8 @@ use Rattle.pc_flow.proofs.solver.normal_cost.Goals as goal
 pub overflow_add-cost : goal.overflow_add-cost
 overflow_add-cost c =
     let terms = c.args.net.now.terms in
-    let limits = c.net.ensures.limits in
-    let fit = c.net.ensures.priced.terms_fit in
+    let limits = c.facts.ensures.limits in
+    let fit = c.facts.ensures.priced.terms_fit in
     let activities = rw c.net.ensures.network at c.activities-a-end.ensures.activities in
     let inside : c.loop-a.a < length terms = omega (arith, c.loop-a-test.true, activities, fit.one_each) in
     omega (

@@ -14,7 +14,7 @@ returns-then-time-shortest-clause-counted g c =
     let board = c.label.new.self in
     let labelled = c.label.ensures.labelled in
     let some : 0 < c.label.result.fall =
-    stair-fall_positive net.network net.terms (knees_in net) c.net.ensures.priced (length_at net board) (time_of board) (flow_of board) (slope_at net board)
+    stair-fall_positive net.network net.terms (knees_in net) c.facts.ensures.priced (length_at net board) (time_of board) (flow_of board) (slope_at net board)
     labelled.between.state (moving board) c.label.result.fall labelled.falls in
     omega (
       arith,

@@ -1,5 +1,4 @@
-use Rattle.std.proofs.Common.{◌≡◌, ℕ, List, sym, ◌∙◌, ap, subst, arith}
-use Rattle.pc_model.specs.Network.{Network, IsOrder}
+use Rattle.std.proofs.Common.{sym, ap, subst, arith}
 use Rattle.pc_flow.specs.board.Sheets.{Sheet, rank_of}
 use Rattle.pc_flow.specs.inside.board.Labelling.{HasStep}
 use Rattle.pc_flow.specs.inside.board.Raising.{IsRaised, IsRaisedBy}
@@ -23,7 +22,7 @@ use Rattle.pc_flow.proofs.board.board.Board.augment.Goals as goal
 
 pub measure_back-requires-clause-known : goal.measure_back-requires-clause-known
 measure_back-requires-clause-known c =
-    let end : c.end-end.result ≡ c.args.net.now.network.end = c.end-end.ensures.end ∙ ap (λ (n : Network). n.end) c.net-shape.ensures.network in
+    let end = rw c.net-shape.ensures.network at c.end-end.ensures.end in
     let search = c.requires.between.search in
     omega (arith, end, search.in_range.end_in, search.fits.events)
 
@@ -47,7 +46,7 @@ raise-raised-requires-clause-room c =
 
 pub raise-raised-requires-clause-known : goal.raise-raised-requires-clause-known
 raise-raised-requires-clause-known c =
-    let end : c.end-end.result ≡ c.args.net.now.network.end = c.end-end.ensures.end ∙ ap (λ (n : Network). n.end) c.net-shape.ensures.network in
+    let end = rw c.net-shape.ensures.network at c.end-end.ensures.end in
     let search = c.requires.between.search in
     omega (arith, end, search.in_range.end_in, search.fits.events, ap (λ (v : Sheet). v.events) c.measure_back.ensures.rest)
 
@@ -55,7 +54,7 @@ pub raise-raised-requires-clause-led : goal.raise-raised-requires-clause-led
 raise-raised-requires-clause-led c =
     let net = c.args.net.now in
     let m = c.measure_back.new.self in
-    let end : c.end-end.result ≡ net.network.end = c.end-end.ensures.end ∙ ap (λ (n : Network). n.end) c.net-shape.ensures.network in
+    let end = rw c.net-shape.ensures.network at c.end-end.ensures.end in
     subst (λ e. HasStep m e) (sym end)
     (end-stepped net m (search-measured net c.args.self.now m c.measure_back.ensures c.requires.between.search)
     (omega (arith, c.requires.reached, ap (λ (v : Sheet). rank_of v net.network.end) c.measure_back.ensures.rest)))
@@ -64,7 +63,7 @@ raise-raised-requires-clause-led c =
 
 pub renew_back-requires-clause-known : goal.renew_back-requires-clause-known
 renew_back-requires-clause-known c =
-    let end : c.end-end.result ≡ c.args.net.now.network.end = c.end-end.ensures.end ∙ ap (λ (n : Network). n.end) c.net-shape.ensures.network in
+    let end = rw c.net-shape.ensures.network at c.end-end.ensures.end in
     let search = c.requires.between.search in
     omega (
       arith,
@@ -105,18 +104,17 @@ renew_back-requires-clause-stairs c =
     let s = c.args.self.now in
     let m = c.measure_back.new.self in
     let on = c.measure_back.ensures in
-    let order : List ℕ = c.order-order.result.now in
-    let end : c.end-end.result ≡ net.network.end = c.end-end.ensures.end ∙ ap (λ (n : Network). n.end) c.net-shape.ensures.network in
+    let end = rw c.net-shape.ensures.network at c.end-end.ensures.end in
     let known : IsKnown net = record {
-      priced = c.net-shape.ensures.priced;
-      limits = c.net-shape.ensures.limits;
-      pieces = c.net-shape.ensures.pieces;
-      piece_limits = c.net-shape.ensures.piece_limits;
+      priced = c.facts.ensures.priced;
+      limits = c.facts.ensures.limits;
+      pieces = c.facts.ensures.pieces;
+      piece_limits = c.facts.ensures.piece_limits;
     } in
-    let ordered : IsOrder net.network order = subst (λ n. IsOrder n order) c.net-shape.ensures.network c.order-order.ensures.order in
+    let ordered = rw c.net-shape.ensures.network at c.order-order.ensures.order in
     let raised : IsRaised m c.raise-raised.new.self net.network.end c.raise-raised.result.by =
     subst (λ e. IsRaised m c.raise-raised.new.self e c.raise-raised.result.by) end c.raise-raised.ensures.raised in
-    stairs-raised net known order ordered m c.raise-raised.new.self c.raise-raised.result.by raised.0
+    stairs-raised net known c.order-order.result.now ordered m c.raise-raised.new.self c.raise-raised.result.by raised.0
     (between-measured net s m on c.requires.between) (above-measured net s m on c.requires.above) raised.1
 
 pub renew_back-requires-clause-level : goal.renew_back-requires-clause-level
@@ -137,21 +135,20 @@ returns-clause-raised c =
     let u = c.renew_back.new.self in
     let by = c.raise-raised.result.by in
     let on = c.measure_back.ensures in
-    let order : List ℕ = c.order-order.result.now in
-    let end : c.end-end.result ≡ net.network.end = c.end-end.ensures.end ∙ ap (λ (n : Network). n.end) c.net-shape.ensures.network in
+    let end = rw c.net-shape.ensures.network at c.end-end.ensures.end in
     let known : IsKnown net = record {
-      priced = c.net-shape.ensures.priced;
-      limits = c.net-shape.ensures.limits;
-      pieces = c.net-shape.ensures.pieces;
-      piece_limits = c.net-shape.ensures.piece_limits;
+      priced = c.facts.ensures.priced;
+      limits = c.facts.ensures.limits;
+      pieces = c.facts.ensures.pieces;
+      piece_limits = c.facts.ensures.piece_limits;
     } in
-    let ordered : IsOrder net.network order = subst (λ n. IsOrder n order) c.net-shape.ensures.network c.order-order.ensures.order in
+    let ordered = rw c.net-shape.ensures.network at c.order-order.ensures.order in
     let between : IsBetween net m = between-measured net s m on c.requires.between in
     let raised : IsRaised m t net.network.end by = subst (λ e. IsRaised m t e by) end c.raise-raised.ensures.raised in
     let renewed : IsRenewedBack net t u net.network.end = subst (λ e. IsRenewedBack net t u e) end c.renew_back.ensures in
     let now : IsRaisedBy m u net.network.end by raised.0 = raised-renewed m t u renewed.rest net.network.end by raised.0 raised.1 in
     let whole : HasRaised net m u by =
-    has_raised net known order ordered m u by raised.0 between (above-measured net s m on c.requires.above) now
+    has_raised net known c.order-order.result.now ordered m u by raised.0 between (above-measured net s m on c.requires.above) now
     (lengths-renewed net m t u net.network.end by raised.0 between.search.lengths raised.1 c.raise-raised.ensures.lengths renewed)
     (settled-measured net s m on c.requires.settled) in
     raised-measured net s m on u by whole

@@ -50,4 +50,4 @@ returns-clause-labelled g c =
     under_way-begins net s t u c.requires.between c.requires.above c.settle.ensures.settled c.grow.ensures.grown in
     let zero_more : 0 + rise ≡ rise = omega arith in
     let rises : Rises net s v rise = subst (λ n. Rises net s v n) zero_more (rises-joins net s u v 0 rise begun.1 c.raise_all-rise.ensures.rises) in
-    labelled-ends net s v w rise c.choose-fall.result c.net-net.ensures.priced c.requires.between rises c.raise_all-rise.ensures.under_way c.choose-fall.ensures.chosen
+    labelled-ends net s v w rise c.choose-fall.result c.facts.ensures.priced c.requires.between rises c.raise_all-rise.ensures.under_way c.choose-fall.ensures.chosen

@@ -9,10 +9,10 @@ overflow_add-rise g c =
     let net = c.args.net.now in
     let small : slopes_in net < 10 ^ 13 =
     slopes-small net (record {
-      priced = c.net.ensures.priced;
-      limits = c.net.ensures.limits;
-      pieces = c.net.ensures.pieces;
-      piece_limits = c.net.ensures.piece_limits;
+      priced = c.facts.ensures.priced;
+      limits = c.facts.ensures.limits;
+      pieces = c.facts.ensures.pieces;
+      piece_limits = c.facts.ensures.piece_limits;
     }) c.requires.under_way.between.search.few in
     omega (arith, c.raise_once-rise.ensures.rises.slope, c.loop-self.invariant.rises.slope, c.raise_once-rise.ensures.bounded, small)
 

@@ -1,5 +1,5 @@
-use Rattle.std.proofs.Common.{◌≡◌, ◌<◌, ◌≤◌, suc, length, ap, sym, ◌∙◌, subst, arith}
-use Rattle.pc_flow.specs.board.Sheets.{Sheet, rank_of, flow_of}
+use Rattle.std.proofs.Common.{◌≡◌, ◌≤◌, suc, ap, sym, ◌∙◌, subst, arith}
+use Rattle.pc_flow.specs.board.Sheets.{Sheet, rank_of}
 use Rattle.pc_flow.specs.inside.board.Sheets.{step_of, near_of}
 use Rattle.pc_flow.specs.inside.board.Labelling.{HasStep, IsFor}
 use Rattle.pc_flow.specs.inside.search.Lengths.{RenewsAt}
@@ -9,7 +9,9 @@ use Rattle.pc_flow.proofs.lemmas.search.LengthLaws.{
   renewing-goes_on,
   renewing-ends,
   renewing-event,
+  renewing-has,
   renewing-step,
+  renewing-small,
   renewing-level,
 }
 use Rattle.pc_flow.proofs.board.board.Board.renew_back.Goals as goal
@@ -29,14 +31,8 @@ renew_step-requires-clause-event c =
 
 pub renew_step-requires-clause-known : goal.renew_step-requires-clause-known
 renew_step-requires-clause-known c =
-    let on = c.loop-self.invariant in
-    let has : HasStep c.args.self.now c.loop-self.e =
-    omega (arith, c.loop-self-test.true, c.rank.ensures, ap (λ (u : Sheet). rank_of u c.loop-self.e) on.1.rest) in
-    omega (
-      arith,
-      renewing-step c.args.net.now c.args.self.now c.loop-self.self c.args.end on.0 c.loop-self.e on.1
-          c.requires.fits c.requires.steps has,
-    )
+    renewing-step c.args.net.now c.args.self.now c.loop-self.self c.args.end c.loop-self.invariant.0 c.loop-self.e c.loop-self.invariant.1
+    (omega (arith, c.loop-self-test.true, c.rank.ensures)) c.requires.fits c.requires.steps
 
 pub renew_step-requires-clause-fits : goal.renew_step-requires-clause-fits
 renew_step-requires-clause-fits c =
@@ -46,38 +42,19 @@ renew_step-requires-clause-fits c =
 
 pub renew_step-requires-clause-reach : goal.renew_step-requires-clause-reach
 renew_step-requires-clause-reach c =
-    let on = c.loop-self.invariant in
-    let has : HasStep c.args.self.now c.loop-self.e =
-    omega (arith, c.loop-self-test.true, c.rank.ensures, ap (λ (u : Sheet). rank_of u c.loop-self.e) on.1.rest) in
-    let inside : step_of c.loop-self.self c.loop-self.e < length c.args.net.now.network.arcs =
-    renewing-step c.args.net.now c.args.self.now c.loop-self.self c.args.end on.0 c.loop-self.e on.1
-    c.requires.fits c.requires.steps has in
-    omega (
-      arith,
-      c.requires.stairs.reach (step_of c.loop-self.self c.loop-self.e) inside,
-    )
+    c.requires.stairs.reach _
+    (renewing-step c.args.net.now c.args.self.now c.loop-self.self c.args.end c.loop-self.invariant.0 c.loop-self.e c.loop-self.invariant.1
+    (omega (arith, c.loop-self-test.true, c.rank.ensures)) c.requires.fits c.requires.steps)
 
 pub renew_step-requires-clause-small : goal.renew_step-requires-clause-small
 renew_step-requires-clause-small c =
-    let on = c.loop-self.invariant in
-    let has : HasStep c.args.self.now c.loop-self.e =
-    omega (arith, c.loop-self-test.true, c.rank.ensures, ap (λ (u : Sheet). rank_of u c.loop-self.e) on.1.rest) in
-    let inside : step_of c.loop-self.self c.loop-self.e < length c.args.net.now.network.arcs =
-    renewing-step c.args.net.now c.args.self.now c.loop-self.self c.args.end on.0 c.loop-self.e on.1
-    c.requires.fits c.requires.steps has in
-    omega (
-      arith,
-      ap (λ (u : Sheet). flow_of u (step_of c.loop-self.self c.loop-self.e)) on.1.rest,
-      c.requires.stairs.small (step_of c.loop-self.self c.loop-self.e) inside,
-    )
+    renewing-small c.args.net.now c.args.self.now c.loop-self.self c.args.end c.loop-self.invariant.0 c.loop-self.e c.loop-self.invariant.1
+    (omega (arith, c.loop-self-test.true, c.rank.ensures)) c.requires.fits c.requires.steps c.requires.stairs
 
 pub renew_step-requires-clause-level : goal.renew_step-requires-clause-level
 renew_step-requires-clause-level c =
-    let on = c.loop-self.invariant in
-    let has : HasStep c.args.self.now c.loop-self.e =
-    omega (arith, c.loop-self-test.true, c.rank.ensures, ap (λ (u : Sheet). rank_of u c.loop-self.e) on.1.rest) in
-    λ left.
-    (renewing-level c.args.net.now c.args.self.now c.loop-self.self c.args.end on.0 c.loop-self.e on.1 has left)
+    renewing-level c.args.net.now c.args.self.now c.loop-self.self c.args.end c.loop-self.invariant.0 c.loop-self.e c.loop-self.invariant.1
+    (omega (arith, c.loop-self-test.true, c.rank.ensures))
 
 pub loop-self-preserved : goal.loop-self-preserved
 loop-self-preserved c =
@@ -86,7 +63,7 @@ loop-self-preserved c =
     let s = c.args.self.now in
     let t = c.loop-self.self in
     let u = c.renew_step.new.board in
-    let has : HasStep s c.loop-self.e = omega (arith, c.loop-self-test.true, c.rank.ensures, ap (λ (u : Sheet). rank_of u c.loop-self.e) on.1.rest) in
+    let has : HasStep s c.loop-self.e = renewing-has net s t c.args.end on.0 c.loop-self.e on.1 (omega (arith, c.loop-self-test.true, c.rank.ensures)) in
     let step : step_of t c.loop-self.e ≡ step_of s c.loop-self.e = ap (λ (u : Sheet). step_of u c.loop-self.e) on.1.rest in
     let moved : RenewsAt net t u (step_of s c.loop-self.e) =
     subst (λ a. RenewsAt net t u a) step (c.renew_step.ensures) in

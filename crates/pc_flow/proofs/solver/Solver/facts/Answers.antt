@@ -1,5 +1,5 @@
 use Rattle.pc_flow.proofs.CourseLaws.{whole, lower-above, slope-most}
-use Rattle.pc_flow.proofs.solver.Solver.given.Goals as goal
+use Rattle.pc_flow.proofs.solver.Solver.facts.Goals as goal
 
 pub returns-clause-whole : goal.returns-clause-whole
 returns-clause-whole c = rw (← c.self.view_is) (whole _ c.self.invariant.on_course)
