@@ -6,6 +6,7 @@ use Rattle.std.proofs.lemmas.Bool.Decides.{nat_tests}
 use Rattle.std.proofs.lemmas.List.{take-append-drop}
 use Rattle.std.specs.Prelude.{codes, IfSome}
 use Rattle.std.specs.Fmt.{decimal}
+use Rattle.std.proofs.lemmas.Option.{same_Some}
 use Rattle.pc_cert.specs.declared.line.CertLine.{CertLine}
 use Rattle.pc_cert.specs.declared.line.CertLine.TheVariants.{Head, Normal, Step, Crash, Segment, Event, Act, Close, End}
 use Rattle.pc_text.specs.Fields.{◌>>=◌, run_len, code_field, number_field, spaced, IsCode, alone}
@@ -166,12 +167,6 @@ event_again code time moves h =
 
 -- ---- an activity
 
-line_same : (line found : CertLine) → Some line ≡ Some found → line ≡ found
-line_same line found e = cc
-
-some_same : (xs ys : List ℕ) → Some xs ≡ Some ys → xs ≡ ys
-some_same xs ys e = cc
-
 numbers_in_nothing : (room : ℕ) → numbers_in room [] ≡ Some []
 numbers_in_nothing room = refl
 
@@ -181,14 +176,14 @@ record AreTaken (room : ℕ) (fields ns : List ℕ) : Type 0 where
   few : length ns ≤ room
 
 numbers_take : (room : ℕ) (fields ns : List ℕ) → numbers_in room fields ≡ Some ns → AreTaken room fields ns
-numbers_take room [] ns e = subst (λ xs. AreTaken room [] xs) (some_same [] ns e) (record { text = refl; small = tt; few = omega arith })
+numbers_take room [] ns e = subst (λ xs. AreTaken room [] xs) (same_Some [] ns e) (record { text = refl; small = tt; few = omega arith })
 numbers_take zero (b ∷ bs) ns e = absurd cc
 numbers_take (suc room) (b ∷ bs) ns e =
     let first = bind_some (number_field MAX_DIGITS (b ∷ bs)) (λ number. numbers_in room (number.1) >>= (λ others. Some (number.0 ∷ others))) ns e in
     let others = bind_some (numbers_in room (first.0.1)) (λ others. Some (first.0.0 ∷ others)) ns (first.2) in
     let first_is = number_field_takes limit (b ∷ bs) (first.0) (first.1) in
     let others_are = numbers_take room (first.0.1) (others.0) (others.1) in
-    subst (λ xs. AreTaken (suc room) (b ∷ bs) xs) (some_same _ _ (others.2)) (record {
+    subst (λ xs. AreTaken (suc room) (b ∷ bs) xs) (same_Some _ _ (others.2)) (record {
       text = first_is.text ∙ ap (λ rest. spaced (decimal (first.0.0)) rest) (others_are.text);
       small = (first_is.small, others_are.small);
       few = omega (arith, others_are.few);
@@ -219,7 +214,7 @@ act_takes fields line e =
     let duration = bind_some (number_field MAX_DIGITS (code.0.1)) (λ duration. flows_of (duration.1) >>= (λ flows. made (code.0.0) (duration.0) flows)) line (code.2) in
     let flows = bind_some (flows_of (duration.0.1)) (λ flows. made (code.0.0) (duration.0.0) flows) line (duration.2) in
     let enough = unless_takes (ltb (length (flows.0)) 2) (Some (Act (code.0.0) (duration.0.0) (flows.0))) line (flows.2) in
-    let same : Act (code.0.0) (duration.0.0) (flows.0) ≡ line = line_same _ _ (enough.1) in
+    let same : Act (code.0.0) (duration.0.0) (flows.0) ≡ line = same_Some _ _ (enough.1) in
     let code_is = code_field_takes fields (code.0) (code.1) in
     let duration_is = number_field_takes limit (code.0.1) (duration.0) (duration.1) in
     let flows_are = flows_take (duration.0.1) (flows.0) (flows.1) in

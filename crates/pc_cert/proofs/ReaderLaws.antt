@@ -4,6 +4,7 @@ use Rattle.std.proofs.Common.{Result, Ok, Err, refl, sym, ap, subst, ◌∙◌, 
 use Rattle.std.proofs.lemmas.Bool.Decides.{eqb_tells}
 use Rattle.std.proofs.lemmas.List.{take-append-drop, length-take, take_all}
 use Rattle.std.specs.Prelude.{option_to_list}
+use Rattle.std.proofs.lemmas.Option.{none-some}
 use Rattle.pc_cert.specs.declared.line.CertLine.{CertLine}
 use Rattle.pc_cert.specs.declared.place.Place.{Place}
 use Rattle.pc_text.specs.Fields.{◌>>=◌, run_len, Lacks}
@@ -97,14 +98,11 @@ too_long {place} {number} {held} {lines} {text} malformed piece end h ends far w
   );
 }
 
-different : (x : CertLine × Place) → None ≡ Some x → ⊥
-different x e = absurd cc
-
 not_allowed : (place : Place) (bytes : List ℕ) → arrived place bytes ≡ None → IsNotAllowed place bytes
 not_allowed place bytes none line behind fits is goes =
     let read : line_of bytes ≡ Some line = ap line_of is ∙ line_again line fits in
     let found : arrived place bytes ≡ Some (line, behind) = ap (λ found. found >>= (λ l. next place l >>= (λ b. Some (l, b)))) read ∙ ap (λ found. found >>= (λ b. Some (line, b))) goes in
-    different (line, behind) (sym none ∙ found)
+    none-some (line, behind) (sym none ∙ found)
 
 -- the line that ends in the piece may not stand where it does
 refused : {place : Place} {number : ℕ} {held : List ℕ} {lines : List CertLine} {text : List ℕ} (malformed : Malformed) (piece : List ℕ) →

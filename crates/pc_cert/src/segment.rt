@@ -30,7 +30,7 @@ pub fn put_segment<O: Sink, V: SegmentView>(
         → AreWritable (segment_lines net.now (V.segment view.now)) }
 {
     // For the fact that an activity has at most as many pieces as its line has places for flows.
-    let _net = net.net();
+    net.facts();
     put_ends(page, sink, view);
     put_events(page, sink, net, view);
     put_acts(page, sink, net, view);

@@ -14,5 +14,5 @@ returns g c =
     record {
       text = Adds-as _ (text_of-between (ends_line seg) (listed net.network.events (event_line net seg)) (listed (length net.network.arcs) (act_line net seg)) Close)
           (c.put_ends.ensures ⨾ (c.put_events.ensures.text ⨾ c.put_acts.ensures.text) ⨾ c.put.ensures);
-      fit = λ small. segment_fits net c.net-net.ensures.priced c.net-net.ensures.pieces seg c.put_events.ensures.codes c.put_acts.ensures.codes small;
+      fit = λ small. segment_fits net c.facts.ensures.priced c.facts.ensures.pieces seg c.put_events.ensures.codes c.put_acts.ensures.codes small;
     }
