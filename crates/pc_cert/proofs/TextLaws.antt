@@ -25,7 +25,7 @@ split_once stop (c ∷ a) (d ∷ b) x y p q same =
     let rest = split_once stop a b x y (p.1) (q.1) cc in
     (rw (heads, rest.0) refl, rest.1)
 
-nil_not_cons : {x : ℕ} {xs : List ℕ} → x ∷ xs ≡ [] → ⊥
+pub nil_not_cons : {x : ℕ} {xs : List ℕ} → x ∷ xs ≡ [] → ⊥
 nil_not_cons e = absurd cc
 
 -- a text without `stop` has none in front of anything

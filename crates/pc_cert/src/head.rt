@@ -45,8 +45,8 @@ fn put_first_line<O: Sink>(page: &mut Page, sink: &mut O, net: &CrashNet<'_>)
     page.put(sink, b"\n");
 }
 
-/// Returns the version: 2 if the cost of some activity has further pieces, and 1 otherwise.
-fn version(net: &CrashNet<'_>) -> u64
+/// Returns the version of a network's certificate: 2 if the cost of some activity has further pieces, and 1 otherwise.
+pub fn version(net: &CrashNet<'_>) -> u64
     ensures { result ≡ version_of net.now }
 {
     if net.has_pieces() { 2 } else { 1 }

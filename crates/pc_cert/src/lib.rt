@@ -19,7 +19,7 @@ mod writing;
 pub use event::{EVENT_NAMED, EventFront, EventSaid};
 pub use flows::{Flows, MAX_FLOWS};
 pub use front::WIDTH;
-pub use head::put_head;
+pub use head::{put_head, version};
 pub use known::{KnownLine, LineText};
 pub use line::{CertLine, MAX_LINE, spelling_is_once, text_is_once};
 pub use number::MAX_DIGITS;

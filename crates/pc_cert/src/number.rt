@@ -21,11 +21,14 @@ const GREATEST_DIGIT: u64 = 9;
 pub(crate) fn number_at(bytes: &[u8]) -> Option<(u64, &[u8])>
     ensures { IfSome result (λ parts. IsNumberAt bytes.now parts.0 parts.1.now) }
 {
+    if MAX_DIGITS < bytes.len() {
+        return number_within(bytes);
+    }
     let (first, rest) = bytes.split_first()?;
     if *first != b' ' {
         return None;
     }
-    let (number, end) = digits_at(rest);
+    let (number, end) = digits_to_end(rest);
     if !is_unpadded(&rest[..end], MAX_DIGITS) {
         return None;
     }
@@ -50,18 +53,8 @@ pub(crate) fn number_within(bytes: &[u8]) -> Option<(u64, &[u8])>
     Some((number, &rest[end..]))
 }
 
-/// Reads at most 18 digits. Returns their value, and how many there are.
-#[inline(always)]
-fn digits_at(bytes: &[u8]) -> (u64, usize)
-    ensures { AreDigitsAt bytes.now result.0 result.1 }
-{
-    if bytes.len() < MAX_DIGITS {
-        return digits_to_end(bytes);
-    }
-    digits_within(bytes)
-}
-
-/// Does the same if there are at least as many bytes as are read: it does not test for their end.
+/// Reads at most 18 digits. Returns their value, and how many there are. There are at least as many bytes as are read:
+/// it does not test for their end.
 #[inline(always)]
 fn digits_within(bytes: &[u8]) -> (u64, usize)
     requires { MAX_DIGITS ≤ length bytes.now }

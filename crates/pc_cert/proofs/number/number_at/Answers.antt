@@ -4,4 +4,4 @@ use Rattle.pc_cert.proofs.number.number_at.Goals as goal
 
 pub returns : goal.returns
 returns c =
-    number_is _ _ _ _ _ (search Rattle.std.proofs.Common.rules) c.digits_at-number.ensures (sym c.is_unpadded.ensures ∙ c.if-not-is_unpadded.false) refl
+    number_is _ _ _ _ _ (search Rattle.std.proofs.Common.rules) c.digits_to_end-number.ensures (sym c.is_unpadded.ensures ∙ c.if-not-is_unpadded.false) refl
