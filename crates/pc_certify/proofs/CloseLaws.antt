@@ -1,6 +1,6 @@
 -- At the end of a whole segment the conditions hold: what was written of it adds up to what it says.
 use Rattle.std.proofs.Common.{◌≡◌, ℕ, ◌+◌, ◌<◌, true, cond, length, inl, inr, refl, sym, ap, ◌∙◌, subst, arith, pos}
-use Rattle.std.proofs.lemmas.Bool.{eq-eqb, lt-ltb}
+use Rattle.std.proofs.lemmas.Bool.{eq-eqb, lt-ltb, and_from, or_left, or_right}
 use Rattle.std.proofs.lemmas.Int.{ints}
 use Rattle.std.specs.Prelude.{◌==◌, ◌-ℤ◌, slice_index, if◌then◌else◌}
 use Rattle.pc_model.specs.Sums.{sum_to, at_event}
@@ -15,11 +15,11 @@ use Rattle.pc_check.specs.Known.{some_below}
 use Rattle.pc_check.specs.Segments.{segment_in, stops_at_knee_in, stops_in}
 use Rattle.pc_check.specs.Said.{flow_along, flow_at, spent_in, forward_by, backward_by, said}
 use Rattle.pc_check.proofs.BelowLaws.{some_below-finds}
+use Rattle.pc_check.proofs.GoodSegments.{Closes, flow_at-whole}
 use Rattle.pc_cert.specs.Document.{flows_along}
 use Rattle.pc_cert.proofs.ListedLaws.{length-listed}
 use Rattle.pc_certify.proofs.RowLaws.{act_row, part_of, event_is, act_is, flow_is, beside_is}
 use Rattle.pc_certify.specs.Rows.{SaySame}
-use Rattle.pc_certify.proofs.HoldLaws.{both, left, right, Ends}
 use Rattle.pc_certify.proofs.SameLaws.{MoveSame, forward_by-same, backward_by-same, stops_in-same}
 
 -- what is read back of a segment says the same
@@ -41,16 +41,16 @@ moves_same net seg = let h = says_same net seg in record { upper = refl; lower =
 
 -- an activity that stops
 stops_at_crash : (net : PricedNetwork) (seg : Segment) (a : ℕ) → StopsAtCrash net.network net.terms seg a → stops_in net seg a ≡ true
-stops_at_crash net seg a h = left _ _ (both h.forward (eq-eqb _ _ h.at_crash))
+stops_at_crash net seg a h = or_left _ _ (and_from _ _ h.forward (eq-eqb _ _ h.at_crash))
 
 stops_at_knee : (net : PricedNetwork) (seg : Segment) (a k : ℕ) → k < (knees_in net).count a → stops_at_knee_in net seg a k ≡ true → stops_in net seg a ≡ true
-stops_at_knee net seg a k within h = right _ _ (some_below-finds ((knees_in net).count a) (stops_at_knee_in net seg a) k within h)
+stops_at_knee net seg a k within h = or_right _ _ (some_below-finds ((knees_in net).count a) (stops_at_knee_in net seg a) k within h)
 
 falls_to_knee : (net : PricedNetwork) (seg : Segment) (a k : ℕ) → FallsToKnee net.network (knees_in net) seg a k → stops_at_knee_in net seg a k ≡ true
-falls_to_knee net seg a k h = both (eq-eqb _ _ h.at_knee) (left _ _ (both h.forward (lt-ltb _ _ h.above)))
+falls_to_knee net seg a k h = and_from _ _ (eq-eqb _ _ h.at_knee) (or_left _ _ (and_from _ _ h.forward (lt-ltb _ _ h.above)))
 
 rises_to_knee : (net : PricedNetwork) (seg : Segment) (a k : ℕ) → RisesToKnee net.network (knees_in net) seg a k → stops_at_knee_in net seg a k ≡ true
-rises_to_knee net seg a k h = both (eq-eqb _ _ h.at_knee) (right _ _ (both h.backward (lt-ltb _ _ h.below)))
+rises_to_knee net seg a k h = and_from _ _ (eq-eqb _ _ h.at_knee) (or_right _ _ (and_from _ _ h.backward (lt-ltb _ _ h.below)))
 
 some_stops : (net : PricedNetwork) (seg : Segment) → StopsAtLower net.network net.terms (knees_in net) seg → (a : ℕ) × (a < length net.network.arcs) × (stops_in net seg a ≡ true)
 some_stops net seg (a, lt, inl at_crash) = (a, lt, stops_at_crash net seg a at_crash)
@@ -71,12 +71,11 @@ module _ (net : PricedNetwork) (priced : IsPriced net.network net.terms (knees_i
       (sum_to-same ((knees_in net).count a) (slice_index (flows_along net seg a)) (seg.flow a) (λ k within. flow_is net seg a k within))
       ∙ ap (λ n. sum_to ((knees_in net).count a) (seg.flow a) + n) (beside_is net seg a)
 
-  same_flow_at : (place : ℕ → ℕ) (e : ℕ) → e < net.network.events → flow_at net (part_of net seg) place e ≡ at_event (length net.network.arcs) place (whole_flow (knees_in net) seg.flow seg.beside) e
-  same_flow_at place e lt =
-      ap (λ b. cond b (at_event (length (part_of net seg).acts) place (flow_along net (part_of net seg)) e) 0) (lt-ltb e net.network.events lt)
-      ∙ ap (λ m. at_event m place (flow_along net (part_of net seg)) e) all_acts
-      ∙ sum_to-same (length net.network.arcs) (λ a. if place a == e then flow_along net (part_of net seg) a else 0) (λ a. if place a == e then whole_flow (knees_in net) seg.flow seg.beside a else 0)
-      (λ a l. ap (λ n. if place a == e then n else 0) (same_flow a l))
+  same_flow_at : (event_of : ℕ → ℕ) (e : ℕ) → e < net.network.events → flow_at net (part_of net seg) event_of e ≡ at_event (length net.network.arcs) event_of (whole_flow (knees_in net) seg.flow seg.beside) e
+  same_flow_at event_of e lt =
+      flow_at-whole net (part_of net seg) event_of e all_acts lt
+      ∙ sum_to-same (length net.network.arcs) (λ a. if event_of a == e then flow_along net (part_of net seg) a else 0)
+      (λ a. if event_of a == e then whole_flow (knees_in net) seg.flow seg.beside a else 0) (λ a l. ap (λ n. if event_of a == e then n else 0) (same_flow a l))
 
   same_cost : spent_in net (part_of net seg) ≡ sum_to (length net.terms) (λ a. activity_cost net.terms (knees_in net) a (seg.duration a))
   same_cost =
@@ -106,9 +105,8 @@ module _ (net : PricedNetwork) (priced : IsPriced net.network net.terms (knees_i
       (stops_in-same net priced.range seg (segment_in net (part_of net seg)) (moves_same net seg) (found.0) (found.1) ∙ found.2)
 
   -- behind all rows of a whole segment
-  pub ends : (draft : Draft) → draft.part ≡ part_of net seg → IsSegment net.network net.terms (knees_in net) seg → Ends net.network (said net draft)
-  ends draft is whole = subst (λ (part : Part). Ends net.network (said net (record draft { part = part }))) (sym is) (record {
-    ordered = whole.right.proper.ordered;
+  pub ends : (draft : Draft) → draft.part ≡ part_of net seg → IsSegment net.network net.terms (knees_in net) seg → Closes net (said net draft)
+  ends draft is whole = subst (λ (part : Part). Closes net (said net (record draft { part = part }))) (sym is) (record {
     conserved = λ e lt not_start not_end. same_flow_at (to_of net.network.arcs) e lt ∙ whole.right.conserved e lt not_start not_end ∙ sym (same_flow_at (from_of net.network.arcs) e lt);
     leaves = same_flow_at (from_of net.network.arcs) net.network.start priced.range.start_in ∙ whole.right.leaves;
     costs = same_cost ∙ whole.right.costs;

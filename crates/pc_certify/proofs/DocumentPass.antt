@@ -1,6 +1,6 @@
 -- None of the lines of a certificate fails that is written of whole segments which join.
 use Rattle.std.proofs.Common.{◌≡◌, ℕ, ◌<◌, ◌≤◌, true, false, not, ◌&&◌, ◌||◌, List, [], ◌∷◌, ◌++◌, length, None, refl, sym, ap, ◌∙◌, subst, arith, inl, inr, append_assoc, append-nil, length-append}
-use Rattle.std.proofs.lemmas.Bool.{eq-eqb, eqb-true, lt-ltb, ne_eqb, cond-true, cond-false, cases_eq}
+use Rattle.std.proofs.lemmas.Bool.{eq-eqb, eqb-true, lt-ltb, ne_eqb, cond-true, cond-false, cases_eq, and_from, or_left, or_right}
 use Rattle.std.proofs.lemmas.List.Elements.{recursion_from_All}
 use Rattle.std.proofs.Math.ListN.{get_or-map}
 use Rattle.std.specs.List.{AllByRecursion as ByRecursion, flat_map}
@@ -25,7 +25,7 @@ use Rattle.pc_cert.specs.Document.{first_line, steps, head_lines, segment_lines,
 use Rattle.pc_certify.specs.Complete.{IsThrough, IsComplete}
 use Rattle.pc_certify.proofs.RowLaws.{part_of}
 use Rattle.pc_certify.proofs.PassLaws.{Pass, Pass-nil, Pass-cons, Pass-then, PassTo, PassTo-then, holds_on}
-use Rattle.pc_certify.proofs.HoldLaws.{both, left, right, same_code}
+use Rattle.pc_certify.proofs.HoldLaws.{same_code}
 use Rattle.pc_certify.proofs.StepLaws.{codes_of, comes_through, in_crash, normal_steps, crash_steps}
 use Rattle.pc_certify.proofs.SegmentPass.{in_body, segment_passes}
 
@@ -34,8 +34,8 @@ use Rattle.pc_certify.proofs.SegmentPass.{in_body, segment_passes}
 head_holds : (net : PricedNetwork) → reason_at net empty_draft (first_line net) ≡ None
 head_holds net =
     holds_on (has_head net (version_of net) net.project net.network.events (length net.network.arcs)) None 1
-    (both (eq-eqb (version_of net) (version_of net) refl) (both (same_code net.project)
-    (both (eq-eqb net.network.events net.network.events refl) (eq-eqb (length net.network.arcs) (length net.network.arcs) refl)))) refl
+    (and_from _ _ (eq-eqb (version_of net) (version_of net) refl) (and_from _ _ (same_code net.project)
+    (and_from _ _ (eq-eqb net.network.events net.network.events refl) (eq-eqb (length net.network.arcs) (length net.network.arcs) refl)))) refl
 
 head_passes : (net : PricedNetwork) (normal crash : List ℕ) → Pass net empty_draft (head_lines net normal crash) (in_crash (codes_of net normal) (codes_of net crash))
 head_passes net normal crash =
@@ -53,10 +53,10 @@ first_ends_hold : (net : PricedNetwork) (known : Known) (upper lower cost slope 
 first_ends_hold net known upper lower cost slope none through ordered flat =
     let first : (known.segments == 0) ≡ true = eq-eqb known.segments 0 none in
     let ends : (nat_lt lower upper || (lower == upper && slope == 0)) ≡ true = elim (cases_eq lower upper) [
-      | inl same ↦ right (nat_lt lower upper) (lower == upper && slope == 0) (both (eq-eqb lower upper same) (eq-eqb slope 0 (flat same)))
-      | inr other ↦ left (nat_lt lower upper) (lower == upper && slope == 0) (lt-ltb lower upper (omega arith))
+      | inl same ↦ or_right (nat_lt lower upper) (lower == upper && slope == 0) (and_from _ _ (eq-eqb lower upper same) (eq-eqb slope 0 (flat same)))
+      | inr other ↦ or_left (nat_lt lower upper) (lower == upper && slope == 0) (lt-ltb lower upper (omega arith))
     ] in
-    holds_on (not (is_first known) || is_through net.network upper known.normal) _ 2 (right (not (is_first known)) (is_through net.network upper known.normal) through)
+    holds_on (not (is_first known) || is_through net.network upper known.normal) _ 2 (or_right (not (is_first known)) (is_through net.network upper known.normal) through)
     (holds_on (has_joined_ends known upper lower slope) None 15
     (cond-true (is_first known) (nat_lt lower upper || (lower == upper && slope == 0)) (upper == known.lower && (nat_lt known.lower known.upper && nat_lt lower upper)) first ∙ ends) refl)
 
@@ -67,10 +67,10 @@ later_ends_hold : (net : PricedNetwork) (known : Known) (upper lower cost slope 
     → first_failing (conditions net known (SegmentLine upper lower cost slope)) ≡ None
 later_ends_hold net known upper lower cost slope some joined long below =
     let later = not_first known some in
-    holds_on (not (is_first known) || is_through net.network upper known.normal) _ 2 (left (not (is_first known)) (is_through net.network upper known.normal) (ap not later))
+    holds_on (not (is_first known) || is_through net.network upper known.normal) _ 2 (or_left (not (is_first known)) (is_through net.network upper known.normal) (ap not later))
     (holds_on (has_joined_ends known upper lower slope) None 15
     (cond-false (is_first known) (nat_lt lower upper || (lower == upper && slope == 0)) (upper == known.lower && (nat_lt known.lower known.upper && nat_lt lower upper)) later
-    ∙ both (eq-eqb upper known.lower joined) (both (lt-ltb known.lower known.upper long) (lt-ltb lower upper below))) refl)
+    ∙ and_from _ _ (eq-eqb upper known.lower joined) (and_from _ _ (lt-ltb known.lower known.upper long) (lt-ltb lower upper below))) refl)
 
 -- ---- the segments and the end
 

@@ -1,6 +1,6 @@
 -- The lines of a certificate that is written come in the order in which they may.
 use Rattle.std.proofs.Common.{◌≡◌, ℕ, ◌+◌, ◌-◌, ◌<◌, ◌≤◌, zero, suc, Bool, true, false, ◌&&◌, ◌||◌, List, [], ◌∷◌, ◌++◌, length, Some, None, refl, sym, ap, ◌∙◌, subst, arith, append_assoc}
-use Rattle.std.proofs.lemmas.Bool.{eq-eqb, eqb-true, lt-ltb, cond-true}
+use Rattle.std.proofs.lemmas.Bool.{eq-eqb, eqb-true, lt-ltb, cond-true, and_from, or_left, or_right}
 use Rattle.std.proofs.lemmas.List.{nil_from_length}
 use Rattle.std.specs.List.{flat_map}
 use Rattle.std.specs.Prelude.{◌==◌, nat_lt, if◌then◌else◌}
@@ -19,7 +19,6 @@ use Rattle.pc_cert.proofs.TextLaws.{ran-append}
 use Rattle.pc_crash.specs.Priced.{PricedNetwork}
 use Rattle.pc_cert.specs.Listed.{listed}
 use Rattle.pc_cert.specs.Document.{version_of, first_line, steps, head_lines, ends_line, event_line, act_line, flows_along, segment_lines, end_lines, document_lines}
-use Rattle.pc_certify.proofs.HoldLaws.{both, left, right}
 use Rattle.pc_certify.proofs.RowLaws.{flows_long}
 
 ran-cons : (place : Place) {middle behind : Place} (line : CertLine) (lines : List CertLine) → next place line ≡ Some middle → ran middle lines ≡ Some behind → ran place (line ∷ lines) ≡ Some behind
@@ -69,8 +68,8 @@ events_order net shape seg m (suc j) n rest all =
     ∙ ap (λ k. Some (InSegment shape k m)) one) refl)
 
 two_flows : (one_kind : Bool) (count : ℕ) → (one_kind ≡ true → count ≡ 2) → ((if one_kind then 1 else 2) == 2 || count == 2) ≡ true
-two_flows true count h = right ((if true then 1 else 2) == 2) (count == 2) (eq-eqb count 2 (h refl))
-two_flows false count h = left ((if false then 1 else 2) == 2) (count == 2) refl
+two_flows true count h = or_right ((if true then 1 else 2) == 2) (count == 2) (eq-eqb count 2 (h refl))
+two_flows false count h = or_left ((if false then 1 else 2) == 2) (count == 2) refl
 
 -- an activity has as many flows as the version allows
 takes : (net : PricedNetwork) (seg : Stretch) (a : ℕ) → (version_of net == 2 || length (flows_along net seg a) == 2) ≡ true
@@ -86,7 +85,7 @@ acts_order net seg (suc j) n rest all =
     (ran-cons (InSegment (shape_of net) 0 (suc rest)) (act_line net seg j) []
     (cond-true (0 == 0 && (nat_lt 0 (suc rest) && (version_of net == 2 || length (flows_along net seg j) == 2)))
     (Some (InSegment (shape_of net) 0 (suc rest - 1))) None
-    (both refl (both (lt-ltb 0 (suc rest) (omega arith)) (takes net seg j))) ∙ ap (λ k. Some (InSegment (shape_of net) 0 k)) one) refl)
+    (and_from _ _ refl (and_from _ _ (lt-ltb 0 (suc rest) (omega arith)) (takes net seg j))) ∙ ap (λ k. Some (InSegment (shape_of net) 0 k)) one) refl)
 
 segment_order : (net : PricedNetwork) (seg : Stretch) (place : Place) →
     next place (ends_line seg) ≡ Some (InSegment (shape_of net) net.network.events (length net.network.arcs)) →

@@ -6,6 +6,7 @@ use Rattle.pc_crash.specs.Priced.{PricedNetwork}
 use Rattle.pc_check.specs.declared.checker.Fail.{Fail}
 use Rattle.pc_check.specs.Draft.{Part, Draft, with_line}
 use Rattle.pc_check.specs.Failures.{reason_at, or_later, failure_after}
+use Rattle.pc_check.proofs.GoodLines.{none_parts}
 
 -- none of the lines fails, where those before them say so much, and behind them so much is said
 pub record Pass (net : PricedNetwork) (draft : Draft) (lines : List CertLine) (behind : Draft) : Type 0 where
@@ -18,10 +19,6 @@ Pass-nil net draft = record { none = λ number. refl; says = refl }
 or_none : (number : ℕ) (reason : Option ℕ) (later : Option Fail) → reason ≡ None → later ≡ None → or_later number reason later ≡ None
 or_none number None later h none = none
 or_none number (Some reason) later h none = absurd cc
-
-none_parts : (number : ℕ) (reason : Option ℕ) (later : Option Fail) → or_later number reason later ≡ None → (reason ≡ None) × (later ≡ None)
-none_parts number None later h = (refl, h)
-none_parts number (Some reason) later h = absurd cc
 
 -- a line and those behind it
 pub Pass-cons : {net : PricedNetwork} {draft behind : Draft} (line : CertLine) (lines : List CertLine) → reason_at net draft line ≡ None →

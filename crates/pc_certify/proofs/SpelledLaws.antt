@@ -1,20 +1,12 @@
 -- The lines as they were spelled last.
-use Rattle.std.proofs.Common.{◌≡◌, ℕ, ◌+◌, ◌<◌, ◌≤◌, Bool, List, [], ◌∷◌, ◌++◌, length, take, get_or, decimal, sym, ap, subst, ◌∙◌, arith, append_assoc, ⊎_elim}
+use Rattle.std.proofs.Common.{◌≡◌, ℕ, ◌+◌, ◌≤◌, Bool, List, [], ◌∷◌, ◌++◌, length, take, decimal, sym, ap, ◌∙◌, arith, append_assoc}
 use Rattle.std.specs.Prelude.{codes}
-use Rattle.std.proofs.lemmas.Bool.{cases_eq}
-use Rattle.std.proofs.lemmas.List.{get_or_append_left, get_or_push, length-append}
+use Rattle.std.proofs.lemmas.List.{length-append}
 use Rattle.pc_cert.specs.declared.line.CertLine.TheVariants.{Event}
 use Rattle.pc_text.specs.Fields.{spaced}
 use Rattle.pc_cert.specs.inside.Fields.{bit_text}
 use Rattle.pc_cert.specs.Text.{text_of}
 use Rattle.pc_cert.proofs.EventLaws.{front_of}
-
--- what holds of each row of a list holds of one more
-pub each_more : {X : Type 0} (P : ℕ → X → Type 0) (rows : List X) (row d : X) (n : ℕ) → length rows ≡ n →
-    ((i : ℕ) → i < n → P i (get_or rows i d)) → P n row → (i : ℕ) → i < n + 1 → P i (get_or (rows ++ row ∷ []) i d)
-each_more P rows row d n long each last i below =
-    ⊎_elim (λ here. subst (λ k. P k (get_or (rows ++ row ∷ []) k d)) (sym here) (subst (P n) (sym (get_or_push rows row d n long)) last))
-    (λ other. subst (P i) (sym (get_or_append_left rows (row ∷ []) d i (omega (arith, long, below, other)))) (each i (omega (arith, below, other)))) (cases_eq i n)
 
 -- ---- the line of an event, cut behind its code
 

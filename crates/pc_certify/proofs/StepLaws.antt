@@ -1,6 +1,6 @@
 -- The steps of a through walk come through.
 use Rattle.std.proofs.Common.{◌≡◌, ℕ, ◌+◌, ◌<◌, Bool, true, false, ◌&&◌, List, [], ◌∷◌, ◌++◌, length, Some, None, refl, sym, ap, subst, ◌∙◌, arith, append_assoc, append-nil}
-use Rattle.std.proofs.lemmas.Bool.{eq-eqb, cond-true}
+use Rattle.std.proofs.lemmas.Bool.{eq-eqb, cond-true, and_from}
 use Rattle.std.specs.Prelude.{map, slice_index, ◌==◌}
 use Rattle.pc_model.specs.Codes.{text_at}
 use Rattle.pc_model.specs.Walk.{from_of, to_of, IsWalk, walk_sum}
@@ -10,8 +10,8 @@ use Rattle.pc_crash.specs.Priced.{PricedNetwork}
 use Rattle.pc_crash.specs.inside.Priced.{AreNames}
 use Rattle.pc_check.specs.declared.walk.Reached.{Reached}
 use Rattle.pc_check.specs.Draft.{Draft}
-use Rattle.pc_check.specs.Walks.{place_of, further, stepped, walked, at_start, is_through}
-use Rattle.pc_check.proofs.NamedLaws.{named_is_place}
+use Rattle.pc_check.specs.Walks.{index_of, further, stepped, walked, at_start, is_through}
+use Rattle.pc_check.proofs.NamedLaws.{named_is_index}
 use Rattle.pc_check.proofs.Drafts.{begun_part}
 use Rattle.pc_cert.specs.Document.{steps}
 use Rattle.pc_certify.specs.Complete.{IsThrough}
@@ -23,8 +23,8 @@ codes_of net walk = map (λ a. text_at net.activities a) walk
 
 module _ (net : PricedNetwork) (names : AreNames (length net.network.arcs) net.activities) where
   -- an activity is found by its code
-  named : (a : ℕ) → a < length net.network.arcs → place_of (text_at net.activities a) 0 net.activities ≡ Some a
-  named a lt = sym (named_is_place (Some a) (length net.network.arcs) (text_at net.activities a) net.activities names.one_each names.once lt refl tt)
+  named : (a : ℕ) → a < length net.network.arcs → index_of (text_at net.activities a) 0 net.activities ≡ Some a
+  named a lt = sym (named_is_index (Some a) (length net.network.arcs) (text_at net.activities a) net.activities names.one_each names.once lt refl tt)
 
   -- a step along an activity that begins where the walk is
   one_step : (lengths : ℕ → ℕ) (at : Reached) (a : ℕ) → a < length net.network.arcs → from_of net.network.arcs a ≡ at.event
@@ -45,10 +45,6 @@ module _ (net : PricedNetwork) (names : AreNames (length net.network.arcs) net.a
       ∙ reaches lengths list same next walk end (leads.2)
       ∙ ap (λ n. Some (record { event = end; sum = n })) sums
 
-  both : (a b : Bool) → a ≡ true → b ≡ true → (a && b) ≡ true
-  both true b h g = g
-  both false b h g = absurd cc
-
   pub comes_through : (lengths : ℕ → ℕ) (list : List ℕ) → ((a : ℕ) → lengths a ≡ slice_index list a) → (walk : List ℕ) (sum : ℕ) → IsThrough net.network list walk sum
       → is_through net.network sum (walked net lengths (at_start net.network) (codes_of net walk)) ≡ true
   comes_through lengths list same walk sum h =
@@ -56,7 +52,7 @@ module _ (net : PricedNetwork) (names : AreNames (length net.network.arcs) net.a
       let whole : 0 + walk_sum list walk ≡ sum = omega arith in
       let reached = reaches lengths list same (record { event = net.network.start; sum = 0 }) walk net.network.end h.leads in
       subst (λ found. is_through net.network sum found ≡ true) (sym reached)
-      (both (net.network.end == net.network.end) (0 + walk_sum list walk == sum) (eq-eqb net.network.end net.network.end refl) (eq-eqb (0 + walk_sum list walk) sum whole))
+      (and_from (net.network.end == net.network.end) (0 + walk_sum list walk == sum) (eq-eqb net.network.end net.network.end refl) (eq-eqb (0 + walk_sum list walk) sum whole))
 
 -- what is said while the normal walk comes, and while the crash walk does
 abbrev pub in_normal : List (List ℕ) → Draft

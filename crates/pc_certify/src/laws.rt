@@ -44,10 +44,9 @@ pub fn written_is_certified(net: &CrashNet<'_>)
     ensures small { (normal crash : List ℕ) (segments : List Segment) → IsComplete net.now normal crash segments →
         All (HasSmallNumbers net.now) segments }
 {
-    let network = net.net();
     // No more events than a project may have, in an order: so no number of a segment is too large.
-    let _few = network.events();
-    let _order = network.order();
+    net.facts();
+    let _order = net.net().order();
 }
 
 /// States that an audit of a certified text finds that it is certified, with as many segments.

@@ -63,7 +63,7 @@ pub fn put_segment_by<O: Sink, V: FilledView>(
     ensures acts { AreActsSpelled net.now lines.new.acts.items }
 {
     // For the fact that an activity has at most as many pieces as its line has places for flows.
-    let _whole = net.net();
+    net.facts();
     put_ends(page, sink, view);
     lines.gathered.clear();
     put_events(

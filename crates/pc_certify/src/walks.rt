@@ -1,8 +1,8 @@
 //! The two walks of a certificate.
 ghost use Rattle.std.specs.Prelude.{◌≡◌, IfOk};
-ghost use Rattle.pc_model.specs.Schedule.{crashes, normals};
-ghost use Rattle.pc_certify.specs.inside.Walks.{ArePicked};
+ghost use Rattle.pc_certify.specs.inside.Walks.{ArePicked, durations_in};
 
+use pc_check::length_in;
 use pc_crash::CrashNet;
 use pc_times::{Longest, longest};
 use std::alloc::{AllocError, Global};
@@ -32,8 +32,10 @@ impl Walks {
     pub(crate) fn build(alloc: Global, net: &CrashNet<'_>) -> Result<Walks, AllocError>
         ensures { IfOk result (λ walks. ArePicked net.now walks.normal walks.crash) }
     {
-        let normal = normal_durations(alloc, net)?;
-        let crash = crash_durations(alloc, net)?;
+        // For each activity has one term, with a normal and a crash duration that are small.
+        net.facts();
+        let normal = durations(alloc, net, false)?;
+        let crash = durations(alloc, net, true)?;
         Ok(Walks {
             normal: longest(alloc, net.net(), &normal)?,
             crash: longest(alloc, net.net(), &crash)?,
@@ -41,24 +43,15 @@ impl Walks {
     }
 }
 
-fn normal_durations(alloc: Global, net: &CrashNet<'_>) -> Result<Vec<u64>, AllocError>
-    ensures { IfOk result (λ durations. durations.items ≡ normals net.now.terms) }
+/// Returns the durations of the activities in the crash walk, or in the normal walk.
+fn durations(alloc: Global, net: &CrashNet<'_>, is_crash: bool) -> Result<Vec<u64>, AllocError>
+    ensures { IfOk result (λ durations. durations.items ≡ durations_in is_crash net.now.terms) }
 {
+    net.facts();
     let activities = net.net().activities();
     let mut durations = Vec::with_capacity(alloc, activities as usize)?;
     for a in 0..activities {
-        durations.push(net.term(a).normal)?;
-    }
-    Ok(durations)
-}
-
-fn crash_durations(alloc: Global, net: &CrashNet<'_>) -> Result<Vec<u64>, AllocError>
-    ensures { IfOk result (λ durations. durations.items ≡ crashes net.now.terms) }
-{
-    let activities = net.net().activities();
-    let mut durations = Vec::with_capacity(alloc, activities as usize)?;
-    for a in 0..activities {
-        durations.push(net.term(a).crash)?;
+        durations.push(length_in(net, a, is_crash))?;
     }
     Ok(durations)
 }

@@ -1,6 +1,7 @@
 -- Rows of one piece that are taken in a loop, beside which the place and the number of lines are counted.
 use Rattle.std.proofs.Common.{◌≡◌, ◌≢◌, ℕ, ◌+◌, ◌-◌, ◌^◌, ◌<◌, ◌≤◌, List, [], ◌∷◌, length, drop, None, refl, sym, ap, subst, ◌∙◌, arith}
 use Rattle.pc_model.specs.declared.limits.TheConstants.{MAX_EVENTS, MAX_ACTIVITIES}
+use Rattle.pc_cert.specs.declared.event.EventFront.{EventFront}
 use Rattle.pc_cert.specs.declared.line.CertLine.{CertLine}
 use Rattle.pc_cert.specs.declared.line.CertLine.TheVariants.{Head, Normal, Step, Crash, Segment, Event, Act, Close, End}
 use Rattle.pc_cert.specs.declared.place.Place.{Place}
@@ -12,7 +13,7 @@ use Rattle.pc_crash.specs.Priced.{PricedNetwork}
 use Rattle.pc_check.specs.declared.kept.Kept.{Kept}
 use Rattle.pc_check.specs.inside.Advances.{Adds, Advances, moved_on}
 use Rattle.pc_check.specs.inside.Rows.{AddsLine, going}
-use Rattle.pc_check.specs.inside.Along.{TakesAlong}
+use Rattle.pc_check.specs.inside.Along.{TakesAlong, MayAdvance, HasAdvanced}
 use Rattle.pc_check.specs.inside.Bounds.{IsBounded, lines_left}
 use Rattle.pc_check.specs.inside.Checking.{Checking}
 use Rattle.pc_check.specs.inside.Safe.{IsSafe}
@@ -43,18 +44,17 @@ moved_none : (kept : Kept) (place : Place) → place ≡ kept.place → kept ≡
 moved_none kept place there = ap (λ n. record kept { lines = n }) (omega arith) ∙ ap (λ p. record kept { place = p; lines = kept.lines + 0 }) (sym there)
 
 -- none is taken yet
-pub along_begins : {net : PricedNetwork} (piece : List ℕ) (reader : Reading) (kept : Kept) → reader.place ≡ kept.place →
-    reader.malformed ≡ None → reader.lines ≡ kept.lines → kept.lines < 2 ^ 63 → reader.held ≡ []
-    → IsSafe net kept.tally → IsBounded net kept → kept.tally.upper ≢ kept.tally.lower → IsAlong net piece piece reader kept kept reader.place 0
-along_begins {net} piece reader kept place good alike few held safe bounded long =
-    let begins = all_left piece reader (going net kept) (begun piece reader (going net kept) refl place good alike few) in
-    let moved = moved_none kept reader.place place in
+pub along_begins : {net : PricedNetwork} {fronts : List EventFront} {reader : Reading} {kept : Kept} (piece : List ℕ) → MayAdvance net fronts reader kept
+    → reader.held ≡ [] → kept.tally.upper ≢ kept.tally.lower → IsAlong net piece piece reader kept kept reader.place 0
+along_begins {net} {fronts} {reader} {kept} piece may held long =
+    let begins = all_left piece reader (going net kept) (begun piece reader (going net kept) refl may.place may.going may.alike may.few) in
+    let moved = moved_none kept reader.place may.place in
     record {
       left = subst (λ r. IsRest piece piece reader r (going net kept) (going net (moved_by kept reader.place 0))) (read_none reader)
           (subst (λ k. IsRest piece piece reader reader (going net kept) (going net k)) moved begins);
       held = held;
-      safe = safe;
-      bounded = subst (IsBounded net) moved bounded;
+      safe = may.safe;
+      bounded = subst (IsBounded net) moved may.bounded;
       long = long;
     }
 
@@ -121,26 +121,30 @@ along_more {net} {piece} {rest} {reader} {old} {kept} {new} {place} {behind} {co
     let ends = ends_kept net kept new it.line it.row it.adds in
     record { left = less_left used h.left read.some takes; held = h.held; safe = safe; bounded = bounded; long = λ e. h.long (sym (ends.0) ∙ e ∙ ends.1) }
 
--- what was taken behind the loop
-pub record HasEnded (net : PricedNetwork) (piece : List ℕ) (used : ℕ) (before after : Reading) (old new : Kept) : Type 0 where
-  pub same_kept : used ≡ 0 → new ≡ old
-  pub same_reader : used ≡ 0 → after ≡ before
-  pub takes : 0 < used → TakesAlong piece used before after (going net old) (going net new)
-  pub bounded : IsBounded net new
-  pub safe : IsSafe net new.tally
+-- no row is taken
+pub none_taken : {net : PricedNetwork} {fronts : List EventFront} {reader : Reading} {kept : Kept} (piece : List ℕ) → MayAdvance net fronts reader kept
+    → HasAdvanced net piece 0 reader reader kept kept
+none_taken piece may = record {
+  same_kept = λ nothing. refl;
+  same_reader = λ nothing. refl;
+  takes = λ some. absurd (omega (arith, some));
+  bounded = may.bounded;
+  safe = may.safe;
+}
 
+-- what was taken behind the loop
 pub along_ends : {net : PricedNetwork} {piece rest : List ℕ} {reader : Reading} {old kept : Kept} {place : Place} {count : ℕ}
     (after : Reading) (there : Place) (final : Kept) → IsAlong net piece rest reader old kept place count
-    → there ≡ place → final ≡ kept → after ≡ read_by reader there count → HasEnded net piece (length piece - length rest) reader after old (moved_by final there count)
+    → there ≡ place → final ≡ kept → after ≡ read_by reader there count → HasAdvanced net piece (length piece - length rest) reader after old (moved_by final there count)
 along_ends {net} {piece} {rest} {reader} {old} {kept} {place} {count} after there final h here same is =
-    let ended : HasEnded net piece h.left.used reader (read_by reader place count) old (moved_by kept place count) = record {
+    let ended : HasAdvanced net piece h.left.used reader (read_by reader place count) old (moved_by kept place count) = record {
       same_kept = λ none. ap (λ (c : Checking). c.kept) (h.left.run.same none);
       same_reader = h.left.run.same_reader;
       takes = h.left.run.takes;
       bounded = h.bounded;
       safe = h.safe;
     } in
-    subst (λ n. HasEnded net piece n reader after old (moved_by final there count)) (used_is h.left)
-    (subst (λ r. HasEnded net piece h.left.used reader r old (moved_by final there count)) (sym is)
-    (subst (λ k. HasEnded net piece h.left.used reader (read_by reader there count) old (moved_by k there count)) (sym same)
-    (subst (λ p. HasEnded net piece h.left.used reader (read_by reader p count) old (moved_by kept p count)) (sym here) ended)))
+    subst (λ n. HasAdvanced net piece n reader after old (moved_by final there count)) (used_is h.left)
+    (subst (λ r. HasAdvanced net piece h.left.used reader r old (moved_by final there count)) (sym is)
+    (subst (λ k. HasAdvanced net piece h.left.used reader (read_by reader there count) old (moved_by k there count)) (sym same)
+    (subst (λ p. HasAdvanced net piece h.left.used reader (read_by reader p count) old (moved_by kept p count)) (sym here) ended)))

@@ -1,5 +1,6 @@
 -- What a text that was read to its end is found to be.
 use Rattle.std.proofs.Common.{◌≡◌, ℕ, List, ◌⊎◌, inl, inr, Some, None, refl, sym, ◌∙◌}
+use Rattle.std.proofs.lemmas.Option.{none-some}
 use Rattle.pc_cert.specs.declared.line.CertLine.{CertLine}
 use Rattle.pc_cert.specs.Reader.{IsStopped, IsMissing, IsWhole}
 use Rattle.pc_cert.specs.declared.reader.Malformed.{Malformed}
@@ -11,14 +12,11 @@ use Rattle.pc_check.specs.Failures.{failure_of}
 use Rattle.pc_check.specs.inside.Certified.{Finds as ChecksTo}
 use Rattle.pc_check.specs.Texts.{IsFailing, malformed, missing, Finds}
 
-contrary : (fail : Fail) → None ≡ Some fail → ⊥
-contrary fail e = absurd cc
-
 -- a whole text is certified
 pub found_whole : (net : PricedNetwork) (lines : List CertLine) (text : List ℕ) (verdict : Verdict) → IsWhole lines text →
     failure_of net lines ≡ None → ChecksTo net lines verdict → Finds net text verdict
 found_whole net lines text (Yes segments) whole none finds = record { lines = lines; whole = whole; none = none; count = finds.1 }
-found_whole net lines text (No line reason) whole none finds = absurd (contrary (record { line = line; reason = reason }) (sym none ∙ finds))
+found_whole net lines text (No line reason) whole none finds = absurd (none-some (record { line = line; reason = reason }) (sym none ∙ finds))
 
 -- another text is malformed, or a line is missing
 pub found_broken : (net : PricedNetwork) (lines : List CertLine) (text : List ℕ) (m : Malformed) → failure_of net lines ≡ None →

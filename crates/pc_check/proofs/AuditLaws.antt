@@ -2,6 +2,7 @@
 use Rattle.std.proofs.Common.{◌≡◌, ℕ, ◌+◌, ◌*◌, ◌^◌, ◌<◌, ◌≤◌, List, [], ◌∷◌, ◌++◌, length, Some, None, refl, sym, ap, subst, ◌∙◌, arith, append_assoc, append-nil, length-append}
 use Rattle.std.proofs.Math.Nat.{mul-le-mul_right}
 use Rattle.std.specs.Prelude.{IfNone}
+use Rattle.std.proofs.lemmas.Option.{same_Some}
 use Rattle.pc_cert.specs.declared.line.CertLine.{CertLine}
 use Rattle.pc_cert.specs.declared.place.Place.{Place}
 use Rattle.pc_cert.specs.declared.place.Place.TheVariants.{Start}
@@ -102,13 +103,10 @@ less_behind_line old new going less =
     let more : lines_left new.checker.net new.checker.kept + 1 ≤ lines_left old.checker.net old.checker.kept = omega arith in
     omega (arith, mul-le-mul_right 192 more, going.short)
 
-same_in_some : (p q : Place) → Some p ≡ Some q → p ≡ q
-same_in_some p q e = cc
-
 -- the reader and the checker stand at the same place, behind as many lines
 pub same_place : {text : List ℕ} {audit : Auditing} → IsGoing audit → HasRead text audit → audit.reader.place ≡ audit.checker.kept.place
 same_place {text} {audit} going h =
-    same_in_some audit.reader.place audit.checker.kept.place
+    same_Some audit.reader.place audit.checker.kept.place
     (sym (reading audit.reader h.lines text going.well_formed h.read).led.order ∙ (checking audit.checker h.lines going.no_fail h.checked).order)
 
 pub same_count : {text : List ℕ} {audit : Auditing} → IsGoing audit → HasRead text audit → audit.reader.lines ≡ audit.checker.kept.lines

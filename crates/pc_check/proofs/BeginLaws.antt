@@ -1,5 +1,6 @@
 -- How many bytes may come of a text of which nothing has come.
 use Rattle.std.proofs.Common.{◌≡◌, ℕ, ◌*◌, ◌≤◌, List, [], ◌∷◌, ◌++◌, length, Some, refl, sym, ap, ◌∙◌, arith, append_assoc}
+use Rattle.std.proofs.lemmas.Option.{same_Some}
 use Rattle.pc_cert.specs.declared.line.CertLine.{CertLine}
 use Rattle.pc_cert.specs.declared.place.Place.{Place}
 use Rattle.pc_cert.specs.declared.place.Place.TheVariants.{Start}
@@ -17,9 +18,6 @@ no_lines : (lines : List CertLine) (held : List ℕ) → [] ≡ text_of lines ++
 no_lines [] held e = refl
 no_lines (line ∷ lines) held e = absurd (lacks_no_stop 10 (spelling line) [] (text_of lines ++ held) tt (sym (append_assoc (spelling line) (10 ∷ text_of lines) held) ∙ sym e))
 
-same_place : (p q : Place) → Some p ≡ Some q → p ≡ q
-same_place p q e = cc
-
 -- the most bytes may still come where nothing has
 pub left_at_start : (audit : Auditing) → IsGoing audit → HasRead [] audit → bytes_left audit ≤ most_bytes audit.checker.net
 left_at_start audit going h =
@@ -28,6 +26,6 @@ left_at_start audit going h =
     let lower = audit.checker.kept.tally.lower in
     let none = no_lines h.lines audit.reader.held (reading audit.reader h.lines [] going.well_formed h.read).whole in
     let order : Some Start ≡ Some audit.checker.kept.place = ap (ran Start) (sym none) ∙ (checking audit.checker h.lines going.no_fail h.checked).order in
-    let place : audit.checker.kept.place ≡ Start = sym (same_place Start audit.checker.kept.place order) in
+    let place : audit.checker.kept.place ≡ Start = sym (same_Some Start audit.checker.kept.place order) in
     let lines : lines_left audit.checker.net audit.checker.kept ≡ lines_of_all n m = ap (λ p. lines_from n m p lower) place in
     omega (arith, ap (λ k. k * 192) lines)

@@ -2,8 +2,8 @@
 use Rattle.std.proofs.Common.{◌≡◌, ℕ, ◌+◌, ◌^◌, ◌<◌, ◌≤◌, Bool, true, false, not, ◌&&◌, ◌||◌, cond, List, [], ◌∷◌}
 use Rattle.std.proofs.Common.{length, Option, Some, None, refl, sym, ap, subst, ◌∙◌, arith, length-append, inl, inr}
 use Rattle.std.proofs.Math.Nat.{mul-le-mul_left, mul-le-mul_right}
-use Rattle.std.proofs.lemmas.Bool.{eqb-true, eqb-false, eq-eqb, ne_eqb, ltb-true}
-use Rattle.std.proofs.lemmas.Option.{cond_some}
+use Rattle.std.proofs.lemmas.Bool.{eqb-true, eqb-false, eq-eqb, ne_eqb, ltb-true, and_parts, or_cases, not-true}
+use Rattle.std.proofs.lemmas.Option.{cond_some, none-some}
 use Rattle.std.specs.Prelude.{◌==◌, nat_lt}
 use Rattle.pc_model.specs.declared.limits.TheConstants.{MAX_DURATION, MAX_EVENTS, MAX_ACTIVITIES}
 use Rattle.pc_crash.specs.Priced.{PricedNetwork}
@@ -26,14 +26,9 @@ use Rattle.pc_check.specs.inside.Bounds.{lines_left, IsShaped, IsInNormal, IsInP
 use Rattle.pc_check.specs.inside.Advances.{Adds, moved_on}
 use Rattle.pc_check.specs.inside.Additions.{MayBeAdded}
 use Rattle.pc_check.specs.inside.Safe.{IsBegun}
-use Rattle.pc_check.proofs.BelowLaws.{and_parts, or_parts}
 use Rattle.pc_check.proofs.ReasonLaws.{holds_first}
 
 -- ---- what the conditions say
-
-not_true : (b : Bool) → not b ≡ true → b ≡ false
-not_true true h = absurd cc
-not_true false h = refl
 
 when_first : (b : Bool) (x y : Bool) → b ≡ true → cond b x y ≡ true → x ≡ true
 when_first true x y h e = e
@@ -61,8 +56,8 @@ through_sum net sum (Some at) h = eqb-true _ _ ((and_parts _ _ h).1)
 -- the normal walk comes through to the upper end of the first segment
 pub first_walk : (net : PricedNetwork) (known : Known) (upper lower cost slope : ℕ) → known.segments ≡ 0 →
     first_failing (conditions net known (Segment upper lower cost slope)) ≡ None → is_through net.network upper known.normal ≡ true
-first_walk net known upper lower cost slope none h = elim (or_parts _ _ ((holds_first _ _ _ h).0)) [
-  | inl later ↦ absurd (eqb-false _ _ (not_true _ later) none)
+first_walk net known upper lower cost slope none h = elim (or_cases _ _ ((holds_first _ _ _ h).0)) [
+  | inl later ↦ absurd (eqb-false _ _ (not-true _ later) none)
   | inr through ↦ through
 ]
 
@@ -72,7 +67,7 @@ pub first_ends : (net : PricedNetwork) (known : Known) (upper lower cost slope :
 first_ends net known upper lower cost slope none h =
     let joined = (holds_first _ _ _ ((holds_first _ _ _ h).1)).0 in
     let ends : (nat_lt lower upper || (lower == upper && slope == 0)) ≡ true = when_first _ _ _ (eq-eqb _ _ none) joined in
-    elim (or_parts _ _ ends) [
+    elim (or_cases _ _ ends) [
       | inl below ↦ (omega (arith, ltb-true lower upper below), λ same. absurd (omega (arith, ltb-true lower upper below, same)))
       | inr same ↦ (omega (arith, eqb-true lower upper ((and_parts _ _ same).0)), λ is. eqb-true slope 0 ((and_parts _ _ same).1))
     ]
@@ -113,9 +108,6 @@ carry : (n m : ℕ) {place behind : Place} {kept new : Kept} → IsAtPlace n m p
 carry n m {place} {behind} {kept} {new} h same is =
     let at : place ≡ behind = cc in
     subst (λ p. IsAtPlace n m p new) at (subst (λ k. IsAtPlace n m place k) (sym is) h)
-
-nowhere : (behind : Place) → None ≡ Some behind → ⊥
-nowhere behind e = absurd cc
 
 -- a segment has begun
 begun_part : (net : PricedNetwork) (shape : Shape) (upper lower cost slope : ℕ) (new : Kept) →
@@ -239,7 +231,7 @@ at_place net (InSegment shape events activities) Close behind old new h goes pas
       record { low = part.low; events_come = part.events_come; acts_come = part.acts_come; events_first = part.events_first },
       omega arith,
     ) (ap Some (step.1)) added
-at_place net place line behind old new h goes passes added = absurd (nowhere behind goes)
+at_place net place line behind old new h goes passes added = absurd (none-some behind goes)
 
 -- ---- how many lines may still come
 
@@ -304,7 +296,7 @@ fewer_lines net (InSegment shape events activities) Close behind old new h goes 
     let step = cond_some _ _ _ goes in
     let same : new.tally.lower ≡ old.tally.lower = ap (λ k. k.tally.lower) added in
     less net.network.events (length net.network.arcs) new (ap Some (step.1)) (rw same (omega arith))
-fewer_lines net place line behind old new h goes passes added = absurd (nowhere behind goes)
+fewer_lines net place line behind old new h goes passes added = absurd (none-some behind goes)
 
 -- ---- all that is kept to
 
@@ -373,11 +365,11 @@ walk_has_room : (n m : ℕ) (place : Place) (code : List ℕ) (behind : Place) (
     (sum_of old.normal + MAX_DURATION < 2 ^ 64) × (sum_of old.crash + MAX_DURATION < 2 ^ 64)
 walk_has_room n m (NormalWalk shape steps) code behind old h goes few = (omega (arith, h.1.short), omega (arith, h.1.nothing))
 walk_has_room n m (CrashWalk shape steps) code behind old h goes few = (omega (arith, h.1.whole), omega (arith, h.1.short))
-walk_has_room n m Start code behind old h goes few = absurd (nowhere behind goes)
-walk_has_room n m (AfterHead shape) code behind old h goes few = absurd (nowhere behind goes)
-walk_has_room n m (InSegment shape events activities) code behind old h goes few = absurd (nowhere behind goes)
-walk_has_room n m (Between shape) code behind old h goes few = absurd (nowhere behind goes)
-walk_has_room n m Ended code behind old h goes few = absurd (nowhere behind goes)
+walk_has_room n m Start code behind old h goes few = absurd (none-some behind goes)
+walk_has_room n m (AfterHead shape) code behind old h goes few = absurd (none-some behind goes)
+walk_has_room n m (InSegment shape events activities) code behind old h goes few = absurd (none-some behind goes)
+walk_has_room n m (Between shape) code behind old h goes few = absurd (none-some behind goes)
+walk_has_room n m Ended code behind old h goes few = absurd (none-some behind goes)
 
 -- a line that is allowed and does not fail can be added
 pub may_be_added : (net : PricedNetwork) (line : CertLine) (old : Kept) (behind : Place) → IsBounded net old → Passes net line old behind →
@@ -399,12 +391,12 @@ pub event_first : (net : PricedNetwork) (place : Place) (code : List ℕ) (time 
     IsAtPlace net.network.events (length net.network.arcs) place old → next place (Event code time moves) ≡ Some behind → old.tally.acts ≡ 0
 event_first net (InSegment shape events activities) code time moves behind old h goes =
     h.1.events_first (ltb-true 0 events ((cond_some _ _ _ goes).0))
-event_first net Start code time moves behind old h goes = absurd (nowhere behind goes)
-event_first net (AfterHead shape) code time moves behind old h goes = absurd (nowhere behind goes)
-event_first net (NormalWalk shape steps) code time moves behind old h goes = absurd (nowhere behind goes)
-event_first net (CrashWalk shape steps) code time moves behind old h goes = absurd (nowhere behind goes)
-event_first net (Between shape) code time moves behind old h goes = absurd (nowhere behind goes)
-event_first net Ended code time moves behind old h goes = absurd (nowhere behind goes)
+event_first net Start code time moves behind old h goes = absurd (none-some behind goes)
+event_first net (AfterHead shape) code time moves behind old h goes = absurd (none-some behind goes)
+event_first net (NormalWalk shape steps) code time moves behind old h goes = absurd (none-some behind goes)
+event_first net (CrashWalk shape steps) code time moves behind old h goes = absurd (none-some behind goes)
+event_first net (Between shape) code time moves behind old h goes = absurd (none-some behind goes)
+event_first net Ended code time moves behind old h goes = absurd (none-some behind goes)
 
 -- a segment ends behind all its activities
 pub all_come : (net : PricedNetwork) (place behind : Place) (old : Kept) →
@@ -413,12 +405,12 @@ pub all_come : (net : PricedNetwork) (place behind : Place) (old : Kept) →
 all_come net (InSegment shape events activities) behind old h goes =
     let no_more : activities ≡ 0 = eqb-true _ _ ((and_parts _ _ ((cond_some _ _ _ goes).0)).1) in
     omega (arith, no_more, h.1.acts_come)
-all_come net Start behind old h goes = absurd (nowhere behind goes)
-all_come net (AfterHead shape) behind old h goes = absurd (nowhere behind goes)
-all_come net (NormalWalk shape steps) behind old h goes = absurd (nowhere behind goes)
-all_come net (CrashWalk shape steps) behind old h goes = absurd (nowhere behind goes)
-all_come net (Between shape) behind old h goes = absurd (nowhere behind goes)
-all_come net Ended behind old h goes = absurd (nowhere behind goes)
+all_come net Start behind old h goes = absurd (none-some behind goes)
+all_come net (AfterHead shape) behind old h goes = absurd (none-some behind goes)
+all_come net (NormalWalk shape steps) behind old h goes = absurd (none-some behind goes)
+all_come net (CrashWalk shape steps) behind old h goes = absurd (none-some behind goes)
+all_come net (Between shape) behind old h goes = absurd (none-some behind goes)
+all_come net Ended behind old h goes = absurd (none-some behind goes)
 
 -- a line is counted once
 pub lines_kept : (net : PricedNetwork) (line : CertLine) (old new : Kept) → Adds net line old new → new.lines ≡ old.lines

@@ -1,13 +1,11 @@
 -- How the lines of each event begin.
-use Rattle.std.proofs.Common.{◌≡◌, ℕ, ◌+◌, ◌<◌, List, [], ◌∷◌, ◌++◌, length, refl, sym, subst, ◌∙◌, arith, ⊎_elim, length-append}
-use Rattle.std.proofs.Math.ListN.{get_or-append}
-use Rattle.std.proofs.Math.Seq.{get_or-append_seam}
-use Rattle.std.proofs.lemmas.Bool.{cases_eq}
+use Rattle.std.proofs.Common.{◌≡◌, ℕ, ◌+◌, ◌<◌, List, [], ◌∷◌, ◌++◌, length, refl, sym, subst, arith, length-append}
 use Rattle.pc_model.specs.Codes.{text_at}
 use Rattle.pc_crash.specs.Priced.{PricedNetwork}
 use Rattle.pc_cert.specs.declared.event.EventFront.{EventFront}
 use Rattle.pc_cert.specs.inside.Known.{IsFrontOf, IsEventFront}
 use Rattle.pc_check.specs.inside.Fronts.{front_at}
+use Rattle.pc_check.proofs.BelowLaws.{each_more}
 
 -- those of the first so many events
 pub record AreFirst (net : PricedNetwork) (fronts : List EventFront) (count : ℕ) : Type 0 where
@@ -18,14 +16,7 @@ pub first_more : {net : PricedNetwork} {fronts : List EventFront} {count : ℕ} 
     IsFrontOf (text_at net.events count) front → AreFirst net (fronts ++ front ∷ []) (count + 1)
 first_more {net} {fronts} {count} front are is = record {
   long = omega (arith, length-append fronts (front ∷ []), are.long);
-  each = λ e below. ⊎_elim
-      (λ here. subst (λ n. IsFrontOf (text_at net.events n) (front_at (fronts ++ front ∷ []) n)) (are.long ∙ sym here)
-      (subst (IsFrontOf (text_at net.events (length fronts))) (sym (get_or-append_seam fronts front [] (record { code = []; cells = [] })))
-      (subst (λ n. IsFrontOf (text_at net.events n) front) (sym are.long) is)))
-      (λ other. subst (IsFrontOf (text_at net.events e))
-      (sym (get_or-append fronts (front ∷ []) (record { code = []; cells = [] }) e (omega (arith, below, other, are.long))))
-      (are.each e (omega (arith, below, other))))
-      (cases_eq e count);
+  each = each_more (λ e own. IsFrontOf (text_at net.events e) own) fronts front (record { code = []; cells = [] }) count are.long are.each is;
 }
 
 -- a front is that of its own code

@@ -1,8 +1,8 @@
 -- Lines of which none fails say segments that join, line by line.
 use Rattle.std.proofs.Common.{◌≡◌, ℕ, ◌+◌, ◌<◌, ◌≤◌, Bool, true, false, List, [], ◌∷◌, ◌++◌, length, map, ◌⊎◌, inl, inr, Option, Some, None, refl, sym, ap, subst, ◌∙◌, arith, length-append}
-use Rattle.std.proofs.lemmas.Bool.{eqb-true, eq-eqb, ltb-true, cases_eq}
+use Rattle.std.proofs.lemmas.Bool.{eqb-true, eq-eqb, ltb-true, cases_eq, and_parts}
 use Rattle.std.proofs.lemmas.List.{map-append}
-use Rattle.std.proofs.lemmas.Option.{cond_some}
+use Rattle.std.proofs.lemmas.Option.{cond_some, none-some}
 use Rattle.std.proofs.Math.ListN.{get_or-append}
 use Rattle.std.proofs.Math.Seq.{get_or-append_seam}
 use Rattle.std.specs.Prelude.{◌==◌, fold}
@@ -28,7 +28,6 @@ use Rattle.pc_check.specs.Failures.{reason_at, or_later, failure_after}
 use Rattle.pc_check.specs.Certified.{segments_of}
 use Rattle.pc_check.specs.Certified.{AreCertified, AreCurve}
 use Rattle.pc_check.specs.Said.{said}
-use Rattle.pc_check.proofs.BelowLaws.{and_parts}
 use Rattle.pc_check.proofs.ReasonLaws.{holds_first}
 use Rattle.pc_check.proofs.BoundLaws.{head_passes, first_walk, first_ends, later_ends}
 use Rattle.pc_check.proofs.WalkLaws.{normal_walk, crash_walk}
@@ -83,9 +82,6 @@ IsGood net Ended draft = IsAllGood net draft
 record IsKnown (net : PricedNetwork) : Type 0 where
   priced : IsPriced net.network net.terms (knees_in net)
   named : length net.activities ≡ length net.network.arcs
-
-nowhere : (behind : Place) → None ≡ Some behind → ⊥
-nowhere behind e = absurd cc
 
 carry : (net : PricedNetwork) (draft : Draft) {place behind : Place} → IsGood net place draft → Some place ≡ Some behind → IsGood net behind draft
 carry net draft {place} {behind} h same = let at : place ≡ behind = cc in subst (λ p. IsGood net p draft) at h
@@ -259,7 +255,7 @@ good_line net (InSegment shape events activities) Close behind draft known h goe
     let whole : IsWhole net draft.part = record { all_events = omega (arith, h.1.events_come, no_events); all_acts = omega (arith, h.1.acts_come, no_acts) } in
     let segment = whole_segment net (length draft.segments == 0) draft known.priced h.1.rows whole passes in
     carry net (record draft { segments = draft.segments ++ draft.part ∷ [] }) (h.0, front_after net draft known h.1.rows whole segment h.1.before) (ap Some (step.1))
-good_line net place line behind draft known h goes passes = absurd (nowhere behind goes)
+good_line net place line behind draft known h goes passes = absurd (none-some behind goes)
 
 -- ---- all lines
 

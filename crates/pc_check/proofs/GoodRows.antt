@@ -1,6 +1,6 @@
 -- What the conditions show of each row.
 use Rattle.std.proofs.Common.{◌≡◌, ℕ, ◌+◌, ◌<◌, ◌≤◌, Bool, true, false, not, ◌&&◌, ◌||◌, List, None, refl, arith}
-use Rattle.std.proofs.lemmas.Bool.{eqb-true, eq-eqb, lt-ltb, ne_eqb, leb-true}
+use Rattle.std.proofs.lemmas.Bool.{eqb-true, eq-eqb, lt-ltb, ne_eqb, leb-true, and_parts, not-true}
 use Rattle.std.specs.Prelude.{◌==◌, nat_lt, nat_le, slice_index}
 use Rattle.pc_model.specs.Network.{Network}
 use Rattle.pc_model.specs.Schedule.{normal_of, crash_of, lesser_of}
@@ -13,7 +13,7 @@ use Rattle.pc_check.specs.Known.{Known, frame}
 use Rattle.pc_check.specs.KneeTests.{is_slack_at_knee}
 use Rattle.pc_check.specs.Conditions.{conditions, is_one_length, is_slack_in}
 use Rattle.pc_check.specs.Failures.{first_failing}
-use Rattle.pc_check.proofs.BelowLaws.{and_parts, each_below-at}
+use Rattle.pc_check.proofs.BelowLaws.{each_below-at}
 use Rattle.pc_check.proofs.ReasonLaws.{holds_first}
 
 -- an event's row is right
@@ -45,10 +45,6 @@ not_both true true h is = absurd cc
 not_both true false h is = refl
 not_both false b h is = absurd cc
 
-not_true : (b : Bool) → not b ≡ true → b ≡ false
-not_true true h = absurd cc
-not_true false h = refl
-
 either : (a b : Bool) → (a || b) ≡ true → b ≡ false → a ≡ true
 either true b h no_b = refl
 either false b h no_b = absurd cc
@@ -67,7 +63,7 @@ right_event net known code time moves h =
     (unless (known.events == net.network.end) _ (ends.1) (eq-eqb known.events net.network.end is)) in
     record {
       start_time = λ is. eqb-true time 0 ((start is).0);
-      start_rests = λ is. not_true moves ((start is).1);
+      start_rests = λ is. not-true moves ((start is).1);
       end_time = λ is. eqb-true time known.upper ((end is).0);
       end_moves = λ is below. either moves (is_one_length known) ((end is).1) (ne_eqb known.upper known.lower (λ same. absurd (omega (arith, below, same))));
       rests = λ same. not_both (is_one_length known) moves rests (eq-eqb known.upper known.lower same);

@@ -1,6 +1,6 @@
 -- Right rows, and the conditions at the end of a segment, make a whole segment.
 use Rattle.std.proofs.Common.{◌≡◌, ◌≢◌, ℕ, ◌+◌, ◌<◌, ◌≤◌, Bool, true, false, ◌||◌, cond, length, inl, inr, None, refl, sym, ap, ◌∙◌, arith, pos}
-use Rattle.std.proofs.lemmas.Bool.{eqb-true, ltb-true, lt-ltb, ne_eqb}
+use Rattle.std.proofs.lemmas.Bool.{eqb-true, ltb-true, lt-ltb, ne_eqb, and_parts, or_cases}
 use Rattle.std.proofs.lemmas.Int.{ints}
 use Rattle.std.specs.Prelude.{◌==◌, ◌-ℤ◌}
 use Rattle.pc_model.specs.Sums.{sum_to, at_event}
@@ -16,7 +16,7 @@ use Rattle.pc_check.specs.Said.{flow_along, flow_at, forward_by, backward_by, sa
 use Rattle.pc_check.specs.Conditions.{conditions}
 use Rattle.pc_check.specs.Failures.{first_failing}
 use Rattle.pc_check.proofs.Drafts.{outline}
-use Rattle.pc_check.proofs.BelowLaws.{and_parts, or_parts, each_below-at, some_below-at}
+use Rattle.pc_check.proofs.BelowLaws.{each_below-at, some_below-at}
 use Rattle.pc_check.proofs.ReasonLaws.{holds_first}
 use Rattle.pc_check.proofs.GoodRows.{IsRightEvent, IsRightAct}
 
@@ -37,12 +37,12 @@ pub record IsWhole (net : PricedNetwork) (part : Part) : Type 0 where
   pub all_acts : length part.acts ≡ length net.network.arcs
 
 -- what the conditions at a CLOSE line show
-record Closes (net : PricedNetwork) (known : Known) : Type 0 where
-  conserved : (e : ℕ) → e < net.network.events → e ≢ net.network.start → e ≢ net.network.end → known.inflow e ≡ known.outflow e
-  leaves : known.outflow net.network.start ≡ known.slope
-  costs : known.spent ≡ known.cost
-  cut : known.lower < known.upper → known.forward ≡ known.backward + known.slope
-  stops : known.lower < known.upper → known.stops ≡ true
+pub record Closes (net : PricedNetwork) (known : Known) : Type 0 where
+  pub conserved : (e : ℕ) → e < net.network.events → e ≢ net.network.start → e ≢ net.network.end → known.inflow e ≡ known.outflow e
+  pub leaves : known.outflow net.network.start ≡ known.slope
+  pub costs : known.spent ≡ known.cost
+  pub cut : known.lower < known.upper → known.forward ≡ known.backward + known.slope
+  pub stops : known.lower < known.upper → known.stops ≡ true
 
 otherwise : (a b : Bool) → (a || b) ≡ true → a ≡ false → b ≡ true
 otherwise true b h no_a = absurd cc
@@ -72,22 +72,23 @@ closes net known h =
 
 -- an activity that stops
 stops_so : (net : PricedNetwork) (seg : Segment) (a : ℕ) → a < length net.network.arcs → stops_in net seg a ≡ true → StopsAtLower net.network net.terms (knees_in net) seg
-stops_so net seg a lt h = elim (or_parts _ _ h) [
+stops_so net seg a lt h = elim (or_cases _ _ h) [
   | inl at_crash ↦ let both = and_parts _ _ at_crash in (a, lt, inl (record { forward = both.0; at_crash = eqb-true _ _ (both.1) }))
   | inr at_knee ↦
       let found = some_below-at ((knees_in net).count a) (stops_at_knee_in net seg a) at_knee in
       let both = and_parts _ _ (found.2) in
-      elim (or_parts _ _ (both.1)) [
+      elim (or_cases _ _ (both.1)) [
         | inl falls ↦ let parts = and_parts _ _ falls in (a, lt, inr (found.0, found.1, inl (record { forward = parts.0; above = ltb-true _ _ (parts.1); at_knee = eqb-true _ _ (both.0) })))
         | inr rises ↦ let parts = and_parts _ _ rises in (a, lt, inr (found.0, found.1, inr (record { backward = parts.0; below = ltb-true _ _ (parts.1); at_knee = eqb-true _ _ (both.0) })))
       ]
 ]
 
-flow_at-whole : (net : PricedNetwork) (part : Part) (place : ℕ → ℕ) (e : ℕ) → length part.acts ≡ length net.network.arcs →
-    e < net.network.events → flow_at net part place e ≡ at_event (length net.network.arcs) place (flow_along net part) e
-flow_at-whole net part place e all lt =
-    ap (λ b. cond b (at_event (length part.acts) place (flow_along net part) e) 0) (lt-ltb e net.network.events lt)
-    ∙ ap (λ m. at_event m place (flow_along net part) e) all
+-- what flows at an event where all activities have come
+pub flow_at-whole : (net : PricedNetwork) (part : Part) (event_of : ℕ → ℕ) (e : ℕ) → length part.acts ≡ length net.network.arcs →
+    e < net.network.events → flow_at net part event_of e ≡ at_event (length net.network.arcs) event_of (flow_along net part) e
+flow_at-whole net part event_of e all lt =
+    ap (λ b. cond b (at_event (length part.acts) event_of (flow_along net part) e) 0) (lt-ltb e net.network.events lt)
+    ∙ ap (λ m. at_event m event_of (flow_along net part) e) all
 
 gained : (f b s : ℕ) → f ≡ b + s → pos f -ℤ pos b ≡ pos s
 gained f b s h = omega (arith, ints)

@@ -1,5 +1,6 @@
 -- A text has one first failing point.
 use Rattle.std.proofs.Common.{◌≡◌, ℕ, ◌+◌, ◌⊎◌, inl, inr, List, [], ◌∷◌, ◌++◌, length, Some, None, refl, sym, ap, ◌∙◌, append_assoc, append-nil}
+use Rattle.std.proofs.lemmas.Option.{none-some, same_Some}
 use Rattle.pc_cert.specs.declared.line.CertLine.{CertLine}
 use Rattle.pc_cert.specs.declared.place.Place.{Place}
 use Rattle.pc_cert.specs.declared.place.Place.TheVariants.{Start}
@@ -96,12 +97,6 @@ broken_missing net text fail lines none lack zero_reason = record {
       lacks_no_stop 10 (spelling line) lack.held (text_of more ++ behind) lack.going.no_end (sym (append_assoc (spelling line) (10 ∷ text_of more) behind) ∙ sym same);
 }
 
-contrary : (x : Fail) → None ≡ Some x → ⊥
-contrary x e = absurd cc
-
-same_some : (x y : Fail) → Some x ≡ Some y → x ≡ y
-same_some x y e = cc
-
 abbrev point : ℕ → ℕ → Fail
 point line reason = record { line = line; reason = reason }
 
@@ -124,7 +119,7 @@ module _ (net : PricedNetwork) (text : List ℕ) where
 
   line_stands : (g : Fail) (b : IsBroken net text g) (f : Fail) (place : Place) (lines more : List CertLine) (rest : List ℕ) →
       LeadTo place lines → failure_of net lines ≡ Some f → lines ≡ b.lines ++ more → b.rest ≡ text_of more ++ rest → AreWritable more → ⊥
-  line_stands g b f place lines [] rest led failing lines_are behind_is fit = contrary f (sym b.none ∙ ap (failure_of net) (sym (lines_are ∙ append-nil b.lines)) ∙ failing)
+  line_stands g b f place lines [] rest led failing lines_are behind_is fit = none-some f (sym b.none ∙ ap (failure_of net) (sym (lines_are ∙ append-nil b.lines)) ∙ failing)
   line_stands g b f place lines (line ∷ more) rest led failing lines_are behind_is fit = b.stops lines line more rest place lines_are led.order fit behind_is
 
   -- a text with such a point has no line that fails
@@ -133,7 +128,7 @@ module _ (net : PricedNetwork) (text : List ℕ) where
   broken_not_failing g b f place lines rest led text_is failing =
       elim (either lines b.lines rest b.rest led.fit b.fit (sym text_is ∙ b.whole)) [
         | inl on ↦ line_stands g b f place lines on.more rest led failing on.lines_are on.behind_is on.fit
-        | inr on ↦ contrary f (sym b.none ∙ ap (failure_of net) on.lines_are ∙ failure_of-more net lines on.more f failing)
+        | inr on ↦ none-some f (sym b.none ∙ ap (failure_of net) on.lines_are ∙ failure_of-more net lines on.more f failing)
       ]
 
   -- lines that fail do so once
@@ -141,8 +136,8 @@ module _ (net : PricedNetwork) (text : List ℕ) where
       text ≡ text_of ys ++ b → failure_of net xs ≡ Some f → failure_of net ys ≡ Some g → f ≡ g
   fails_once f g xs ys a b p q text_is also f_fails g_fails =
       elim (either xs ys a b p q (sym text_is ∙ also)) [
-        | inl on ↦ same_some f g (sym f_fails ∙ ap (failure_of net) on.lines_are ∙ failure_of-more net ys on.more g g_fails)
-        | inr on ↦ sym (same_some g f (sym g_fails ∙ ap (failure_of net) on.lines_are ∙ failure_of-more net xs on.more f f_fails))
+        | inl on ↦ same_Some f g (sym f_fails ∙ ap (failure_of net) on.lines_are ∙ failure_of-more net ys on.more g g_fails)
+        | inr on ↦ sym (same_Some g f (sym g_fails ∙ ap (failure_of net) on.lines_are ∙ failure_of-more net xs on.more f f_fails))
       ]
 
   against_broken : (f g : Fail) → IsFailing net text f → IsBroken net text g → f ≡ g

@@ -1,8 +1,8 @@
 -- The lines of a certificate are bounded by the upper end of its own first segment.
 use Rattle.std.proofs.Common.{◌≡◌, ℕ, suc, ◌+◌, ◌*◌, ◌<◌, ◌≤◌, max, List, [], ◌∷◌, length, Some, None, refl, ap, subst, ◌∙◌, arith, length-append, ◌⊎◌, inl, inr}
 use Rattle.std.proofs.Math.Nat.{mul-le-mul_right, le-max_left, le-max_right}
-use Rattle.std.proofs.lemmas.Bool.{ltb-true, ltb-false, cases_Bool}
-use Rattle.std.proofs.lemmas.Option.{cond_some}
+use Rattle.std.proofs.lemmas.Bool.{ltb-true, ltb-false, cases_Bool, and_parts}
+use Rattle.std.proofs.lemmas.Option.{cond_some, none-some}
 use Rattle.std.specs.Prelude.{nat_lt, if◌then◌else◌}
 use Rattle.pc_crash.specs.Priced.{PricedNetwork}
 use Rattle.pc_cert.specs.Grammar.{next}
@@ -17,12 +17,8 @@ use Rattle.pc_check.specs.Draft.{Part, Draft, empty_draft, with_line}
 use Rattle.pc_check.specs.Failures.{reason_at, failure_after, failure_of}
 use Rattle.pc_check.specs.Said.{said}
 use Rattle.pc_check.specs.OwnLines.{lines_before, first_upper_in_lines, most_segment_lines, AreFew}
-use Rattle.pc_check.proofs.BelowLaws.{and_parts}
 use Rattle.pc_check.proofs.BoundLaws.{head_passes, first_ends, later_ends}
 use Rattle.pc_check.proofs.GoodLines.{none_parts, segments_step}
-
-nowhere : (behind : Place) → None ≡ Some behind → ⊥
-nowhere behind e = absurd cc
 
 -- ---- behind the first SEGMENT line
 
@@ -97,7 +93,7 @@ goes_behind net Start line behind draft h goes passes = absurd h
 goes_behind net (AfterHead shape) line behind draft h goes passes = absurd h
 goes_behind net (NormalWalk shape steps) line behind draft h goes passes = absurd h
 goes_behind net (CrashWalk shape steps) line behind draft h goes passes = absurd h
-goes_behind net place line behind draft h goes passes = absurd (nowhere behind goes)
+goes_behind net place line behind draft h goes passes = absurd (none-some behind goes)
 
 -- all lines
 few_behind : (net : PricedNetwork) (place : Place) (lines : List CertLine) (behind : Place) (draft : Draft) (number : ℕ)
@@ -220,7 +216,7 @@ comes net (CrashWalk shape steps) (Segment upper lower cost slope) behind draft 
 comes net (InSegment shape events activities) line behind draft h goes passes = absurd h
 comes net (Between shape) line behind draft h goes passes = absurd h
 comes net Ended line behind draft h goes passes = absurd h
-comes net place line behind draft h goes passes = absurd (nowhere behind goes)
+comes net place line behind draft h goes passes = absurd (none-some behind goes)
 
 -- all lines
 few_from : (net : PricedNetwork) (place : Place) (lines : List CertLine) (behind : Place) (draft : Draft) (number : ℕ)

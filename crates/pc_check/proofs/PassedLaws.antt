@@ -1,8 +1,8 @@
 -- What passed last of an activity, and why it passes again.
-use Rattle.std.proofs.Common.{◌≡◌, ◌≢◌, ℕ, ◌+◌, ◌<◌, ◌≤◌, zero, suc, Bool, true, false, not, ◌&&◌, ◌||◌, List, [], length, replicate, set, None, refl, sym, ap, subst, ◌∙◌, arith, ⊎_elim}
+use Rattle.std.proofs.Common.{◌≡◌, ◌≢◌, ℕ, ◌+◌, ◌*◌, ◌^◌, ◌<◌, ◌≤◌, zero, suc, Bool, true, false, not, ◌&&◌, ◌||◌, List, [], length, replicate, set, None, refl, sym, ap, subst, ◌∙◌, arith, ⊎_elim}
 use Rattle.std.specs.Prelude.{◌==◌, nat_lt, slice_index, slice_index_or}
 use Rattle.std.proofs.Math.Bool.{or-false}
-use Rattle.std.proofs.lemmas.Bool.{cases_eq, eq-eqb, eqb-true, le-leb, le-ltb}
+use Rattle.std.proofs.lemmas.Bool.{cases_eq, eq-eqb, eqb-true, le-leb, le-ltb, and_parts}
 use Rattle.std.proofs.lemmas.List.{get_or_default, get_or-replicate, get_or-set_same, get_or-set_other, length-replicate, length-set}
 use Rattle.pc_model.specs.declared.Knee.{Knee}
 use Rattle.pc_model.specs.inside.Pieces.{knee_at}
@@ -21,20 +21,16 @@ use Rattle.pc_check.specs.KneeTests.{is_slack_at_knee}
 use Rattle.pc_check.specs.inside.KneeTests.{is_slack_over}
 use Rattle.pc_check.specs.inside.Passed.{IsWithin, FitsWithin, HasPassed, IsPassed, passed_at, flow_of, cost_of, ArePassed, IsNothing, ComesAgain, PassesAcross}
 use Rattle.pc_check.specs.inside.Kept.{stretch_of}
-use Rattle.pc_check.specs.inside.Safe.{IsRenewed, IsSafe, AddsAct, IsCutOf}
+use Rattle.pc_check.specs.inside.Safe.{IsRenewed, IsSafe, AddsAct, IsCutOf, joined, no_cut}
 use Rattle.pc_check.specs.declared.cut.Cut.{Cut}
 use Rattle.pc_check.specs.declared.kept.Tally.{Tally}
 use Rattle.pc_check.specs.declared.passed.Passed.{Passed}
-use Rattle.pc_check.proofs.BelowLaws.{and_parts, passes_behind}
+use Rattle.pc_check.proofs.BelowLaws.{each_below-all, passes_behind}
 use Rattle.pc_check.proofs.KneeLaws.{is_slack-list}
 use Rattle.pc_check.proofs.ReasonLaws.{holds_first}
 use Rattle.pc_check.proofs.StillLaws.{head_before, tail_before, rests, no_stop_in, still_room, still_slack}
 
 -- ---- gaps that flows fit
-
-each_all : (n : ℕ) (test : ℕ → Bool) → ((k : ℕ) → k < n → test k ≡ true) → each_below n test ≡ true
-each_all zero test all = refl
-each_all (suc n) test all = rw (each_all n test (λ k lt. all k (omega (arith, lt))), all n (omega arith)) refl
 
 -- where the gap is above a duration only if nothing flows
 above_fits : (high head tail at flow : ℕ) → head ≤ tail + high → (flow ≢ 0 → high ≤ at) → (not (nat_lt (tail + at) head) || flow == 0) ≡ true
@@ -51,7 +47,7 @@ slack_within : {crash low high : ℕ} (knees : List Knee) (flows : List ℕ) (he
     FitsWithin crash knees flows (length knees) low high → IsWithin low high head tail → is_slack_over head tail crash knees flows ≡ true
 slack_within {crash} {low} {high} knees flows head tail fits is =
     let each : each_below (length knees) (λ k. is_slack_at_knee head tail (knee_at knees k).at (knee_at knees k).rise (slice_index flows k)) ≡ true =
-    each_all (length knees) _ (λ k lt. rw (
+    each_below-all (length knees) _ (λ k lt. rw (
       above_fits high head tail (knee_at knees k).at (slice_index flows k) is.below (fits.empty k lt),
       below_fits low head tail (knee_at knees k).at (knee_at knees k).rise (slice_index flows k) is.above (fits.full k lt),
     ) refl) in
@@ -116,7 +112,7 @@ row_renewed {net} {rows} a row are known =
 
 pub adds_across : {net : PricedNetwork} {old new : Tally} {more : Cut} → IsCutOf net (stretch_of old) old.acts more
     → HasPassed net old.acts (passed_at old.rows.items old.acts)
-    → new ≡ record old { acts = old.acts + 1; forward = old.forward + more.forward; backward = old.backward + more.backward; stops = old.stops || more.stops }
+    → new ≡ record old { acts = old.acts + 1; cut = joined old.cut more }
     → AddsAct net old (passed_at old.rows.items old.acts).duration (passed_at old.rows.items old.acts).flows new
 adds_across {net} {old} {new} {more} adds has rest =
     let rows : new.rows.items ≡ old.rows.items = ap (λ t. t.rows.items) rest in record {
@@ -125,24 +121,19 @@ adds_across {net} {old} {new} {more} adds has rest =
         ap (λ t. t.inflow) rest,
         ap (λ t. t.outflow) rest,
         ap (λ t. t.spent) rest,
-        ap (λ t. t.forward) rest,
-        ap (λ t. t.backward) rest,
-        ap (λ t. t.stops) rest,
+        ap (λ t. t.cut) rest,
       ) refl;
       row = record {
         flow = ap (λ r. flow_of r old.acts) rows ∙ has.flow;
         cost = ap (λ r. cost_of r old.acts) rows ∙ has.cost;
         others = λ b other. ap (λ r. passed_at r b) rows;
       };
-      forward = ap (λ t. t.forward) rest ∙ ap (λ n. old.forward + n) adds.forward;
-      backward = ap (λ t. t.backward) rest ∙ ap (λ n. old.backward + n) adds.backward;
-      stops = ap (λ t. t.stops) rest ∙ ap (λ b. old.stops || b) adds.stops;
+      forward = ap (λ t. t.cut.forward) rest ∙ ap (λ n. old.cut.forward + n) adds.forward;
+      backward = ap (λ t. t.cut.backward) rest ∙ ap (λ n. old.cut.backward + n) adds.backward;
+      stops = ap (λ t. t.cut.stops) rest ∙ ap (λ b. old.cut.stops || b) adds.stops;
     }
 
 -- where it does not cross the cut, it adds nothing to the sums
-abbrev no_cut : Cut
-no_cut = record { forward = 0; backward = 0; stops = false }
-
 adds_nothing : {net : PricedNetwork} (seg : Segment) (a : ℕ) → IsStill net.network.arcs seg.moves a → IsCutOf net seg a no_cut
 adds_nothing {net} seg a still =
     let parts = rests net.network.arcs seg a still in
@@ -154,51 +145,43 @@ adds_nothing {net} seg a still =
       small_backward = omega arith;
     }
 
-same_sums : (old : Tally) → record old { acts = old.acts + 1 }
-    ≡ record old { acts = old.acts + 1; forward = old.forward + 0; backward = old.backward + 0; stops = old.stops || false }
-same_sums old =
-    ap (λ n. record old { acts = old.acts + 1; forward = n }) (omega arith)
-    ∙ ap (λ n. record old { acts = old.acts + 1; forward = old.forward + 0; backward = n }) (omega arith)
-    ∙ ap (λ b. record old { acts = old.acts + 1; forward = old.forward + 0; backward = old.backward + 0; stops = b }) (sym (or-false old.stops))
+same_cut : (cut : Cut) → cut ≡ joined cut no_cut
+same_cut cut =
+    ap (λ n. record cut { forward = n }) (omega arith)
+    ∙ ap (λ n. record cut { forward = cut.forward + 0; backward = n }) (omega arith)
+    ∙ ap (λ b. record cut { forward = cut.forward + 0; backward = cut.backward + 0; stops = b }) (sym (or-false cut.stops))
 
 pub adds_again : {net : PricedNetwork} {old new : Tally} → IsStill net.network.arcs (stretch_of old).moves old.acts → HasPassed net old.acts (passed_at old.rows.items old.acts)
     → new ≡ record old { acts = old.acts + 1 }
     → AddsAct net old (passed_at old.rows.items old.acts).duration (passed_at old.rows.items old.acts).flows new
-adds_again {net} {old} {new} still has rest = adds_across (adds_nothing (stretch_of old) old.acts still) has (rest ∙ same_sums old)
+adds_again {net} {old} {new} still has rest = adds_across (adds_nothing (stretch_of old) old.acts still) has (rest ∙ ap (λ cut. record old { acts = old.acts + 1; cut = cut }) (same_cut old.cut))
 
--- the sums of the cut have grown, and one more has come
+-- one more has come, and the sums of the cut are no larger than it can make them
+safe_with : {net : PricedNetwork} {old : Tally} (cut : Cut) → IsSafe net old → old.acts < length net.network.arcs
+    → cut.forward ≤ (old.acts + 1) * 2 ^ 67 → cut.backward ≤ (old.acts + 1) * 2 ^ 67 → IsSafe net (record old { acts = old.acts + 1; cut = cut })
+safe_with {net} {old} cut safe known forward backward = record {
+  times = safe.times;
+  moves = safe.moves;
+  entering = safe.entering;
+  leaving = safe.leaving;
+  acts = omega (arith, known);
+  rows = safe.rows;
+  inflow = safe.inflow;
+  outflow = safe.outflow;
+  spent = safe.spent;
+  forward = forward;
+  backward = backward;
+}
+
+-- the sums of the cut have grown
 pub safe_across : {net : PricedNetwork} {old : Tally} {more : Cut} → IsSafe net old → old.acts < length net.network.arcs
-    → IsCutOf net (stretch_of old) old.acts more
-    → IsSafe net (record old { acts = old.acts + 1; forward = old.forward + more.forward; backward = old.backward + more.backward; stops = old.stops || more.stops })
-safe_across {net} {old} {more} safe known adds = record {
-  times = safe.times;
-  moves = safe.moves;
-  entering = safe.entering;
-  leaving = safe.leaving;
-  acts = omega (arith, known);
-  rows = safe.rows;
-  inflow = safe.inflow;
-  outflow = safe.outflow;
-  spent = safe.spent;
-  forward = omega (arith, safe.forward, adds.small_forward);
-  backward = omega (arith, safe.backward, adds.small_backward);
-}
+    → IsCutOf net (stretch_of old) old.acts more → IsSafe net (record old { acts = old.acts + 1; cut = joined old.cut more })
+safe_across {net} {old} {more} safe known adds =
+    safe_with (joined old.cut more) safe known (omega (arith, safe.forward, adds.small_forward)) (omega (arith, safe.backward, adds.small_backward))
 
--- the sums stay, and one more has come
+-- the sums stay
 pub safe_again : {net : PricedNetwork} {old : Tally} → IsSafe net old → old.acts < length net.network.arcs → IsSafe net (record old { acts = old.acts + 1 })
-safe_again {net} {old} safe known = record {
-  times = safe.times;
-  moves = safe.moves;
-  entering = safe.entering;
-  leaving = safe.leaving;
-  acts = omega (arith, known);
-  rows = safe.rows;
-  inflow = safe.inflow;
-  outflow = safe.outflow;
-  spent = safe.spent;
-  forward = omega (arith, safe.forward);
-  backward = omega (arith, safe.backward);
-}
+safe_again {net} {old} safe known = safe_with old.cut safe known (omega (arith, safe.forward)) (omega (arith, safe.backward))
 
 -- ---- it passes again
 

@@ -41,8 +41,8 @@ times_at rows e = get_or-map (λ (row : EventRow). row.time) rows e (record { co
 moves_at : (rows : List EventRow) (e : ℕ) → slice_index_or (map (λ row. row.moves) rows) e false ≡ (event_at rows e).moves
 moves_at rows e = get_or-map (λ (row : EventRow). row.moves) rows e (record { code = []; time = 0; moves = false })
 
-flow_past : (net : PricedNetwork) (part : Part) (place : ℕ → ℕ) (e : ℕ) → net.network.events ≤ e → flow_at net part place e ≡ 0
-flow_past net part place e past = rw (le-ltb e net.network.events past) refl
+flow_past : (net : PricedNetwork) (part : Part) (event_of : ℕ → ℕ) (e : ℕ) → net.network.events ≤ e → flow_at net part event_of e ≡ 0
+flow_past net part event_of e past = rw (le-ltb e net.network.events past) refl
 
 sums_at : (n : ℕ) (sums : List ℕ) (said_at : ℕ → ℕ) → length sums ≡ n → ((e : ℕ) → e < n → slice_index sums e ≡ said_at e) →
     ((e : ℕ) → n ≤ e → said_at e ≡ 0) → (e : ℕ) → slice_index sums e ≡ said_at e
@@ -56,17 +56,17 @@ length-map_of f [] = refl
 length-map_of f (x ∷ xs) = ap suc (length-map_of f xs)
 
 -- the sums of flows are those of the activities that have come, where all have
-flows_come : (net : PricedNetwork) (part : Part) (tally : Tally) (place : ℕ → ℕ) (sums : List ℕ) →
-    length part.acts ≡ length net.network.arcs → IsTallied net part tally → AreSums net tally.rows.items place sums → (e : ℕ) →
-    e < net.network.events → slice_index sums e ≡ flow_at net part place e
-flows_come net part tally place sums all k are e lt =
+flows_come : (net : PricedNetwork) (part : Part) (tally : Tally) (event_of : ℕ → ℕ) (sums : List ℕ) →
+    length part.acts ≡ length net.network.arcs → IsTallied net part tally → AreSums net tally.rows.items event_of sums → (e : ℕ) →
+    e < net.network.events → slice_index sums e ≡ flow_at net part event_of e
+flows_come net part tally event_of sums all k are e lt =
     let rows = tally.rows.items in
     let here : ltb e net.network.events ≡ true = lt-ltb e net.network.events lt in
     are e lt
-    ∙ ap (λ n. sum_to n (λ a. if place a == e then flow_of rows a else 0)) (sym all)
-    ∙ sum_to-same (length part.acts) (λ a. if place a == e then flow_of rows a else 0)
-    (λ a. if place a == e then flow_along net part a else 0) (λ a below. ap (λ x. if place a == e then x else 0) (k.flows a below))
-    ∙ ap (λ b. cond b (sum_to (length part.acts) (λ a. if place a == e then flow_along net part a else 0)) 0) (sym here)
+    ∙ ap (λ n. sum_to n (λ a. if event_of a == e then flow_of rows a else 0)) (sym all)
+    ∙ sum_to-same (length part.acts) (λ a. if event_of a == e then flow_of rows a else 0)
+    (λ a. if event_of a == e then flow_along net part a else 0) (λ a below. ap (λ x. if event_of a == e then x else 0) (k.flows a below))
+    ∙ ap (λ b. cond b (sum_to (length part.acts) (λ a. if event_of a == e then flow_along net part a else 0)) 0) (sym here)
 
 -- and so is the cost
 spent_come : (net : PricedNetwork) (part : Part) (tally : Tally) → length part.acts ≡ length net.network.arcs → IsTallied net part tally →
@@ -189,9 +189,9 @@ tallied_begun net upper lower cost slope tally b = record {
   acts = b.acts;
   flows = λ a below. absurd (omega (arith, below));
   costs = λ a below. absurd (omega (arith, below));
-  forward = b.forward;
-  backward = b.backward;
-  stops = b.stops;
+  forward = ap (λ c. c.forward) b.cut;
+  backward = ap (λ c. c.backward) b.cut;
+  stops = ap (λ c. c.stops) b.cut;
 }
 
 sum_none : (n : ℕ) (f g : ℕ → ℕ) → n ≡ 0 → sum_to n f ≡ sum_to n g
@@ -216,9 +216,9 @@ tallied_event net part row old new none k added =
       acts = ap (λ t. t.acts) rest ∙ k.acts;
       flows = λ a below. absurd (omega (arith, below, none));
       costs = λ a below. absurd (omega (arith, below, none));
-      forward = ap (λ t. t.forward) rest ∙ k.forward ∙ sum_none (length part.acts) (forward_by net (segment_in net part)) (forward_by net (segment_in net (with_event part row))) none;
-      backward = ap (λ t. t.backward) rest ∙ k.backward ∙ sum_none (length part.acts) (backward_by net (segment_in net part)) (backward_by net (segment_in net (with_event part row))) none;
-      stops = ap (λ t. t.stops) rest ∙ k.stops ∙ some_none (length part.acts) (stops_in net (segment_in net part)) (stops_in net (segment_in net (with_event part row))) none;
+      forward = ap (λ t. t.cut.forward) rest ∙ k.forward ∙ sum_none (length part.acts) (forward_by net (segment_in net part)) (forward_by net (segment_in net (with_event part row))) none;
+      backward = ap (λ t. t.cut.backward) rest ∙ k.backward ∙ sum_none (length part.acts) (backward_by net (segment_in net part)) (backward_by net (segment_in net (with_event part row))) none;
+      stops = ap (λ t. t.cut.stops) rest ∙ k.stops ∙ some_none (length part.acts) (stops_in net (segment_in net part)) (stops_in net (segment_in net (with_event part row))) none;
     }
 
 -- what is kept of a part is what it begins to be
@@ -283,17 +283,17 @@ module _ (net : PricedNetwork) (part : Part) (row : ActRow) where
       ∙ ap (λ (r : ActRow). activity_cost net.terms (knees_in net) a r.duration) (sym (at_earlier a earlier)))
 
   forward_there : (old : Tally) → stretch_of old ≡ outline part →
-      old.forward + forward_by net (stretch_of old) (length part.acts)
-      ≡ old.forward + forward_by net (segment_in net part) (length part.acts)
-  forward_there old seg = ap (λ s. old.forward + forward_by net s (length part.acts)) seg
+      old.cut.forward + forward_by net (stretch_of old) (length part.acts)
+      ≡ old.cut.forward + forward_by net (segment_in net part) (length part.acts)
+  forward_there old seg = ap (λ s. old.cut.forward + forward_by net s (length part.acts)) seg
 
   backward_there : (old : Tally) → stretch_of old ≡ outline part →
-      old.backward + backward_by net (stretch_of old) (length part.acts)
-      ≡ old.backward + backward_by net (segment_in net part) (length part.acts)
-  backward_there old seg = ap (λ s. old.backward + backward_by net s (length part.acts)) seg
+      old.cut.backward + backward_by net (stretch_of old) (length part.acts)
+      ≡ old.cut.backward + backward_by net (segment_in net part) (length part.acts)
+  backward_there old seg = ap (λ s. old.cut.backward + backward_by net s (length part.acts)) seg
 
-  stops_there : (old : Tally) → stretch_of old ≡ outline part → (old.stops || stops_in net (stretch_of old) (length part.acts)) ≡ (old.stops || stops_in net (segment_in net part) (length part.acts))
-  stops_there old seg = ap (λ s. old.stops || stops_in net s (length part.acts)) seg
+  stops_there : (old : Tally) → stretch_of old ≡ outline part → (old.cut.stops || stops_in net (stretch_of old) (length part.acts)) ≡ (old.cut.stops || stops_in net (segment_in net part) (length part.acts))
+  stops_there old seg = ap (λ s. old.cut.stops || stops_in net s (length part.acts)) seg
 
   -- an activity
   tallied_act : (old new : Tally) → length row.flows ≡ (knees_in net).count (length part.acts) + 1 → IsTallied net part old →
@@ -311,13 +311,13 @@ module _ (net : PricedNetwork) (part : Part) (row : ActRow) where
         acts = ap (λ t. t.acts) rest ∙ ap (λ n. n + 1) k.acts ∙ add-one (length part.acts) ∙ sym grown;
         flows = λ a below. flows_grown old new a long k.acts k.flows added below;
         costs = λ a below. costs_grown old new a k.acts k.costs added below;
-        forward = added.forward ∙ ap (λ a. old.forward + forward_by net (stretch_of old) a) k.acts ∙ forward_there old seg
+        forward = added.forward ∙ ap (λ a. old.cut.forward + forward_by net (stretch_of old) a) k.acts ∙ forward_there old seg
             ∙ ap (λ x. x + forward_by net (segment_in net part) (length part.acts)) k.forward
             ∙ sym (ap (λ n. sum_to n (forward_by net (segment_in net part))) grown);
-        backward = added.backward ∙ ap (λ a. old.backward + backward_by net (stretch_of old) a) k.acts ∙ backward_there old seg
+        backward = added.backward ∙ ap (λ a. old.cut.backward + backward_by net (stretch_of old) a) k.acts ∙ backward_there old seg
             ∙ ap (λ x. x + backward_by net (segment_in net part) (length part.acts)) k.backward
             ∙ sym (ap (λ n. sum_to n (backward_by net (segment_in net part))) grown);
-        stops = added.stops ∙ ap (λ a. old.stops || stops_in net (stretch_of old) a) k.acts ∙ stops_there old seg
+        stops = added.stops ∙ ap (λ a. old.cut.stops || stops_in net (stretch_of old) a) k.acts ∙ stops_there old seg
             ∙ ap (λ b. b || stops_in net (segment_in net part) (length part.acts)) k.stops
             ∙ sym (ap (λ n. some_below n (stops_in net (segment_in net part))) grown);
       }

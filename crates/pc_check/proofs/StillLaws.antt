@@ -1,7 +1,7 @@
 -- An activity that does not cross the cut has the same gap at both ends of a segment, and does not stop.
 use Rattle.std.proofs.Common.{◌≡◌, ℕ, ◌+◌, zero, suc, Bool, true, false, not, ◌&&◌, ◌||◌, List, length, refl, sym, ap, ◌∙◌, arith, ⊎_elim}
 use Rattle.std.specs.Prelude.{nat_lt, slice_index, if◌then◌else◌}
-use Rattle.std.proofs.lemmas.Bool.{cases_lt, lt-ltb, le-ltb, le-leb, leb-true}
+use Rattle.std.proofs.lemmas.Bool.{cases_lt, lt-ltb, le-ltb, le-leb, leb-true, or_parts}
 use Rattle.pc_model.specs.declared.Arc.{Arc}
 use Rattle.pc_model.specs.declared.Knee.{Knee}
 use Rattle.pc_model.specs.inside.Pieces.{knee_at}
@@ -48,10 +48,6 @@ slack_shift net a h t s flows =
     rw (each, below_shift t h s (crash_of net.terms a)) refl
 
 -- ---- the gaps of an activity that does not cross the cut
-
-both_false : (a b : Bool) → (a || b) ≡ false → (a ≡ false) × (b ≡ false)
-both_false true b h = absurd cc
-both_false false b h = (refl, h)
 
 -- by how much both sides grow
 record GrowsAlike (head head_then tail tail_then : ℕ) : Type 0 where
@@ -115,7 +111,7 @@ never false = refl
 
 pub no_stop : (crossing : Crossing) (crash : ℕ) (knees : List Knee) → (crossing.forward || crossing.backward) ≡ false → stops_over crossing crash knees ≡ false
 no_stop crossing crash knees still =
-    let parts = both_false crossing.forward crossing.backward still in
+    let parts = or_parts crossing.forward crossing.backward still in
     let none : some_below (length knees) (λ k. stops_at_knee_over crossing (knee_at knees k).at) ≡ false =
     none_below (length knees) (λ k. stops_at_knee_over crossing (knee_at knees k).at) (λ k. rw (parts.0, parts.1) (never _)) in
     rw (none, parts.0) refl
@@ -131,7 +127,7 @@ same_bits false true p q = absurd cc
 -- an activity that crosses neither way
 pub stands_still : (arcs : List Arc) (seg : Segment) (a : ℕ) (crossing : Crossing) → IsCrossing arcs seg a crossing → (crossing.forward || crossing.backward) ≡ false → IsStill arcs seg.moves a
 stands_still arcs seg a crossing is still =
-    let parts = both_false crossing.forward crossing.backward still in
+    let parts = or_parts crossing.forward crossing.backward still in
     same_bits (seg.moves (from_of arcs a)) (seg.moves (to_of arcs a)) (sym is.forward ∙ parts.0) (sym is.backward ∙ parts.1)
 
 neither : (from to : Bool) → from ≡ to → ((not from && to) ≡ false) × ((from && not to) ≡ false)

@@ -12,38 +12,38 @@ use Rattle.pc_check.specs.inside.Safe.{AreSums, IsExchanged, IsRenewed}
 
 -- ---- the flows
 
--- what flows along an activity that `place` puts at an event, and else 0
+-- what flows along an activity that `event_of` puts at an event, and else 0
 abbrev put_at : List Passed → (ℕ → ℕ) → ℕ → ℕ → ℕ
-put_at rows place e a = if place a == e then flow_of rows a else 0
+put_at rows event_of e a = if event_of a == e then flow_of rows a else 0
 
-pub sums_exchanged : (net : PricedNetwork) (rows more : List Passed) {flow cost : ℕ} (place : ℕ → ℕ) (a : ℕ) (old new : List ℕ) →
-    a < length net.network.arcs → IsRenewed rows more a flow cost → IsExchanged old new (place a) (flow_of rows a) flow
-    → AreSums net rows place old → AreSums net more place new
-sums_exchanged net rows more {flow} {cost} place a old new known renewed exchanged are = λ e lt.
+pub sums_exchanged : (net : PricedNetwork) (rows more : List Passed) {flow cost : ℕ} (event_of : ℕ → ℕ) (a : ℕ) (old new : List ℕ) →
+    a < length net.network.arcs → IsRenewed rows more a flow cost → IsExchanged old new (event_of a) (flow_of rows a) flow
+    → AreSums net rows event_of old → AreSums net more event_of new
+sums_exchanged net rows more {flow} {cost} event_of a old new known renewed exchanged are = λ e lt.
     let m = length net.network.arcs in
-    let change : sum_to m (put_at more place e) + put_at rows place e a ≡ sum_to m (put_at rows place e) + put_at more place e a =
-    sum_to-change m (put_at more place e) (put_at rows place e) a known (λ b below other. ap (λ (row : Passed). if place b == e then row.flow else 0) (renewed.others b other)) in
-    let was : slice_index old e ≡ sum_to m (put_at rows place e) = are e lt in
-    elim (cases_eq e (place a)) [
+    let change : sum_to m (put_at more event_of e) + put_at rows event_of e a ≡ sum_to m (put_at rows event_of e) + put_at more event_of e a =
+    sum_to-change m (put_at more event_of e) (put_at rows event_of e) a known (λ b below other. ap (λ (row : Passed). if event_of b == e then row.flow else 0) (renewed.others b other)) in
+    let was : slice_index old e ≡ sum_to m (put_at rows event_of e) = are e lt in
+    elim (cases_eq e (event_of a)) [
       | inl here ↦
-          let at : (place a == e) ≡ true = eq-eqb (place a) e (sym here) in
-          let before : put_at rows place e a ≡ flow_of rows a = ap (λ b. cond b (flow_of rows a) 0) at in
-          let now : put_at more place e a ≡ flow = ap (λ b. cond b (flow_of more a) 0) at ∙ renewed.flow in
+          let at : (event_of a == e) ≡ true = eq-eqb (event_of a) e (sym here) in
+          let before : put_at rows event_of e a ≡ flow_of rows a = ap (λ b. cond b (flow_of rows a) 0) at in
+          let now : put_at more event_of e a ≡ flow = ap (λ b. cond b (flow_of more a) 0) at ∙ renewed.flow in
           let there : slice_index new e + flow_of rows a ≡ slice_index old e + flow = subst (λ i. slice_index new i + flow_of rows a ≡ slice_index old i + flow) (sym here) exchanged.there in
           omega (arith, change, before, now, there, was)
       | inr elsewhere ↦
-          let off : (place a == e) ≡ false = ne_eqb (place a) e (λ q. elsewhere (sym q)) in
-          let before : put_at rows place e a ≡ 0 = ap (λ b. cond b (flow_of rows a) 0) off in
-          let now : put_at more place e a ≡ 0 = ap (λ b. cond b (flow_of more a) 0) off in
+          let off : (event_of a == e) ≡ false = ne_eqb (event_of a) e (λ q. elsewhere (sym q)) in
+          let before : put_at rows event_of e a ≡ 0 = ap (λ b. cond b (flow_of rows a) 0) off in
+          let now : put_at more event_of e a ≡ 0 = ap (λ b. cond b (flow_of more a) 0) off in
           omega (arith, change, before, now, exchanged.elsewhere e elsewhere, was)
     ]
 
 -- the flow of an activity is in the sum of the event where it is put
-pub is_in_sum : (net : PricedNetwork) (rows : List Passed) (place : ℕ → ℕ) (a : ℕ) (sums : List ℕ) → a < length net.network.arcs →
-    place a < net.network.events → AreSums net rows place sums → flow_of rows a ≤ slice_index sums (place a)
-is_in_sum net rows place a sums known there are =
-    let own : put_at rows place (place a) a ≡ flow_of rows a = ap (λ b. cond b (flow_of rows a) 0) (eq-eqb (place a) (place a) refl) in
-    omega (arith, own, sum_to-bound (length net.network.arcs) (put_at rows place (place a)) a known, are (place a) there)
+pub is_in_sum : (net : PricedNetwork) (rows : List Passed) (event_of : ℕ → ℕ) (a : ℕ) (sums : List ℕ) → a < length net.network.arcs →
+    event_of a < net.network.events → AreSums net rows event_of sums → flow_of rows a ≤ slice_index sums (event_of a)
+is_in_sum net rows event_of a sums known there are =
+    let own : put_at rows event_of (event_of a) a ≡ flow_of rows a = ap (λ b. cond b (flow_of rows a) 0) (eq-eqb (event_of a) (event_of a) refl) in
+    omega (arith, own, sum_to-bound (length net.network.arcs) (put_at rows event_of (event_of a)) a known, are (event_of a) there)
 
 at_most : (b : Bool) (x most : ℕ) → x ≤ most → (if b then x else 0) ≤ most
 at_most true x most h = h
@@ -54,21 +54,21 @@ either_zero true = refl
 either_zero false = refl
 
 -- no sum is larger than all activities can make it
-pub sum_small : {net : PricedNetwork} {rows : List Passed} (place : ℕ → ℕ) (sums : List ℕ) (e : ℕ) → ArePassed net rows →
-    AreSums net rows place sums → e < net.network.events → slice_index sums e ≤ length net.network.arcs * 2 ^ 67
-sum_small {net} {rows} place sums e passed are lt =
+pub sum_small : {net : PricedNetwork} {rows : List Passed} (event_of : ℕ → ℕ) (sums : List ℕ) (e : ℕ) → ArePassed net rows →
+    AreSums net rows event_of sums → e < net.network.events → slice_index sums e ≤ length net.network.arcs * 2 ^ 67
+sum_small {net} {rows} event_of sums e passed are lt =
     omega (
       arith,
       are e lt,
-      sum_to-most (length net.network.arcs) (2 ^ 67) (put_at rows place e)
-          (λ a below. at_most (place a == e) (flow_of rows a) (2 ^ 67) (omega (arith, (passed.each a below).small))),
+      sum_to-most (length net.network.arcs) (2 ^ 67) (put_at rows event_of e)
+          (λ a below. at_most (event_of a == e) (flow_of rows a) (2 ^ 67) (omega (arith, (passed.each a below).small))),
     )
 
 -- nothing flows where nothing has passed
-pub no_sums : {net : PricedNetwork} {rows : List Passed} (place : ℕ → ℕ) (sums : List ℕ) → IsNothing net rows →
-    ((e : ℕ) → e < net.network.events → slice_index sums e ≡ 0) → AreSums net rows place sums
-no_sums {net} {rows} place sums nothing none = λ e lt.
-    none e lt ∙ sym (sum_to-zero (length net.network.arcs) (put_at rows place e) (λ a below. ap (λ x. if place a == e then x else 0) (nothing.flow a below) ∙ either_zero (place a == e)))
+pub no_sums : {net : PricedNetwork} {rows : List Passed} (event_of : ℕ → ℕ) (sums : List ℕ) → IsNothing net rows →
+    ((e : ℕ) → e < net.network.events → slice_index sums e ≡ 0) → AreSums net rows event_of sums
+no_sums {net} {rows} event_of sums nothing none = λ e lt.
+    none e lt ∙ sym (sum_to-zero (length net.network.arcs) (put_at rows event_of e) (λ a below. ap (λ x. if event_of a == e then x else 0) (nothing.flow a below) ∙ either_zero (event_of a == e)))
 
 -- ---- the cost
 

@@ -1,6 +1,6 @@
 -- What a checker stands for after one more line.
 use Rattle.std.proofs.Common.{◌≡◌, ℕ, ◌+◌, List, [], ◌∷◌, ◌++◌, length, Option, Some, None, sym, ap, subst, ◌∙◌, arith, length-append}
-use Rattle.std.proofs.lemmas.Bool.{eqb-true}
+use Rattle.std.proofs.lemmas.Bool.{eqb-true, and_parts}
 use Rattle.std.specs.Prelude.{IfNone}
 use Rattle.pc_text.specs.Fields.{◌>>=◌}
 use Rattle.pc_cert.specs.Grammar.{next}
@@ -21,7 +21,6 @@ use Rattle.pc_check.specs.inside.Bounds.{IsBounded}
 use Rattle.pc_check.specs.inside.Advances.{Advances, moved_on}
 use Rattle.pc_check.specs.inside.Checking.{IsKept, IsGoing, Stands}
 use Rattle.pc_check.specs.inside.Safe.{IsSafe}
-use Rattle.pc_check.proofs.BelowLaws.{and_parts}
 use Rattle.pc_check.proofs.ReasonLaws.{holds_first}
 use Rattle.pc_check.proofs.BoundLaws.{Passes, event_first, all_come, lines_kept}
 use Rattle.pc_check.proofs.FailureLaws.{draft-append, failure_of-more, failure_of-next}

@@ -1,5 +1,6 @@
 -- No text is both certified and failing.
 use Rattle.std.proofs.Common.{◌≡◌, ℕ, ◌≤◌, ◌⊎◌, inl, inr, List, [], ◌∷◌, ◌++◌, length, Some, None, refl, sym, ap, ◌∙◌, arith, append_assoc, append-nil}
+use Rattle.std.proofs.lemmas.Option.{none-some}
 use Rattle.pc_cert.specs.declared.line.CertLine.{CertLine}
 use Rattle.pc_cert.specs.declared.place.Place.{Place}
 use Rattle.pc_cert.specs.declared.place.Place.TheVariants.{Start, Ended}
@@ -9,7 +10,7 @@ use Rattle.pc_cert.specs.Lines.{spelling, IsWritable}
 use Rattle.pc_cert.specs.Text.{text_of, AreWritable, ran}
 use Rattle.pc_text.proofs.FieldLemmas.{bind_some}
 use Rattle.pc_cert.proofs.LineLengths.{spelling_lacks_end, length-spelling}
-use Rattle.pc_cert.proofs.TextLaws.{spelling_once, split_once, lacks_no_stop, ran-append, text_once}
+use Rattle.pc_cert.proofs.TextLaws.{spelling_once, split_once, nil_not_cons, lacks_no_stop, ran-append, text_once}
 use Rattle.pc_cert.specs.Reader.{IsBadLine, IsTooLong}
 use Rattle.pc_crash.specs.Priced.{PricedNetwork}
 use Rattle.pc_check.specs.declared.checker.Fail.{Fail}
@@ -40,12 +41,6 @@ begin_with (x ∷ xs) (y ∷ ys) rest p q same =
     record { more = on.more; lines_are = ap (λ l. l ∷ xs) line ∙ ap (λ ls. y ∷ ls) on.lines_are; rest_is = on.rest_is; fit = on.fit }
 
 -- ---- a whole text has no line that is malformed or missing
-
-nil_not_cons : {x : ℕ} {xs : List ℕ} → x ∷ xs ≡ [] → ⊥
-nil_not_cons e = absurd cc
-
-contrary : (x : Fail) → None ≡ Some x → ⊥
-contrary x e = absurd cc
 
 -- the first line behind others that lead to a place may stand there
 pub next_line : (place behind : Place) (front more : List CertLine) (line : CertLine) → ran Start front ≡ Some place →
@@ -97,7 +92,7 @@ no_line_lacks place front (line ∷ more) held led whole lacks same = absurd (la
 pub not_both : (net : PricedNetwork) (text : List ℕ) (segments : ℕ) (fail : Fail) → IsCertified net text segments → IsFailing net text fail → ⊥
 not_both net text segments fail sure (fails place front rest led text_is failing) =
     let on = begin_with sure.lines front rest sure.whole.led.fit led.fit (sym sure.whole.whole ∙ text_is) in
-    contrary fail (sym sure.none ∙ ap (failure_of net) on.lines_are ∙ failure_of-more net front on.more fail failing)
+    none-some fail (sym sure.none ∙ ap (failure_of net) on.lines_are ∙ failure_of-more net front on.more fail failing)
 not_both net text segments fail sure (malformed front none stop zero_reason) =
     let on = begin_with sure.lines front (stop.bad ++ stop.more) sure.whole.led.fit stop.led.fit (sym sure.whole.whole ∙ stop.whole) in
     no_bad_line stop.place front on.more stop.bad stop.more stop.led.order (ap (ran Start) (sym on.lines_are) ∙ sure.whole.led.order) on.fit on.rest_is stop.why

@@ -1,7 +1,7 @@
 -- Steps that come through are a walk.
 use Rattle.std.proofs.Common.{◌≡◌, ℕ, ◌+◌, ◌<◌, Bool, true, false, cond, List, [], ◌∷◌, length, ◌⊎◌, inl, inr, Option, Some, None, refl, sym, ap, subst, ◌∙◌, arith}
-use Rattle.std.proofs.lemmas.Bool.{eqb-true}
-use Rattle.std.proofs.lemmas.Option.{cond_some}
+use Rattle.std.proofs.lemmas.Bool.{eqb-true, and_parts}
+use Rattle.std.proofs.lemmas.Option.{cond_some, none-some, same_Some}
 use Rattle.std.proofs.Math.ListN.{get_or-map}
 use Rattle.std.specs.Prelude.{◌==◌, bytes_eq, slice_index}
 use Rattle.pc_model.specs.declared.Term.{Term}
@@ -11,27 +11,17 @@ use Rattle.pc_model.specs.Schedule.{normals, crashes}
 use Rattle.pc_text.proofs.FieldLemmas.{bind_some}
 use Rattle.pc_crash.specs.Priced.{PricedNetwork}
 use Rattle.pc_check.specs.declared.walk.Reached.{Reached}
-use Rattle.pc_check.specs.Walks.{length_in, place_of, further, stepped, walked, at_start, is_through}
-use Rattle.pc_check.proofs.BelowLaws.{and_parts}
-
-some_same : (x y : ℕ) → Some x ≡ Some y → x ≡ y
-some_same x y e = cc
-
-reached_same : (x y : Reached) → Some x ≡ Some y → x ≡ y
-reached_same x y e = cc
-
-none_reached : (x : Reached) → None ≡ Some x → ⊥
-none_reached x e = absurd cc
+use Rattle.pc_check.specs.Walks.{length_in, index_of, further, stepped, walked, at_start, is_through}
 
 by_test : (b : Bool) (here : ℕ) (later : Option ℕ) (a : ℕ) → cond b (Some here) later ≡ Some a → (here ≡ a) ⊎ (later ≡ Some a)
-by_test true here later a e = inl (some_same here a e)
+by_test true here later a e = inl (same_Some here a e)
 by_test false here later a e = inr e
 
-place_within : (code : List ℕ) (i a : ℕ) (codes : List (List ℕ)) → place_of code i codes ≡ Some a → a < i + length codes
-place_within code i a [] h = absurd cc
-place_within code i a (c ∷ cs) h = elim (by_test (bytes_eq c code) i (place_of code (i + 1) cs) a h) [
+index_within : (code : List ℕ) (i a : ℕ) (codes : List (List ℕ)) → index_of code i codes ≡ Some a → a < i + length codes
+index_within code i a [] h = absurd cc
+index_within code i a (c ∷ cs) h = elim (by_test (bytes_eq c code) i (index_of code (i + 1) cs) a h) [
   | inl same ↦ omega arith
-  | inr later ↦ omega (arith, place_within code (i + 1) a cs later)
+  | inr later ↦ omega (arith, index_within code (i + 1) a cs later)
 ]
 
 -- the steps lead along activities
@@ -49,10 +39,10 @@ one_step : (net : PricedNetwork) (lengths : ℕ → ℕ) (list : List ℕ) (at m
     stepped net lengths (Some at) code ≡ Some middle
     → (a : ℕ) × (a < length net.network.arcs) × (from_of net.network.arcs a ≡ at.event) × (to_of net.network.arcs a ≡ middle.event) × (at.sum + slice_index list a ≡ middle.sum)
 one_step net lengths list at middle code all same h =
-    let named = bind_some (place_of code 0 net.activities) (λ a. further net.network lengths at a) middle h in
+    let named = bind_some (index_of code 0 net.activities) (λ a. further net.network lengths at a) middle h in
     let goes = cond_some (from_of net.network.arcs named.0 == at.event) (record { event = to_of net.network.arcs named.0; sum = at.sum + lengths named.0 }) middle (named.2) in (
       named.0,
-      omega (arith, place_within code 0 named.0 net.activities (named.1)),
+      omega (arith, index_within code 0 named.0 net.activities (named.1)),
       eqb-true _ _ (goes.0),
       ap (λ (r : Reached). r.event) (goes.1),
       ap (λ x. at.sum + x) (sym (same named.0)) ∙ ap (λ (r : Reached). r.sum) (goes.1),
@@ -61,14 +51,14 @@ one_step net lengths list at middle code all same h =
 behind_step : (net : PricedNetwork) (lengths : ℕ → ℕ) (codes : List (List ℕ)) (found : Option Reached) (behind : Reached) →
     walked net lengths found codes ≡ Some behind →
     (middle : Reached) × (found ≡ Some middle) × (walked net lengths (Some middle) codes ≡ Some behind)
-behind_step net lengths codes None behind h = absurd (none_reached behind (sym (nowhere net lengths codes) ∙ h))
+behind_step net lengths codes None behind h = absurd (none-some behind (sym (nowhere net lengths codes) ∙ h))
 behind_step net lengths codes (Some middle) behind h = (middle, refl, h)
 
 pub leads : (net : PricedNetwork) (lengths : ℕ → ℕ) (list : List ℕ) (at behind : Reached) (codes : List (List ℕ)) →
     length net.activities ≡ length net.network.arcs → ((a : ℕ) → lengths a ≡ slice_index list a) →
     walked net lengths (Some at) codes ≡ Some behind → Leads net.network list at behind
 leads net lengths list at behind [] all same h =
-    let is : at ≡ behind = reached_same at behind h in
+    let is : at ≡ behind = same_Some at behind h in
     record { walk = []; is_walk = ap (λ (r : Reached). r.event) is; adds = omega (arith, ap (λ (r : Reached). r.sum) is) }
 leads net lengths list at behind (code ∷ codes) all same h =
     let middle = behind_step net lengths codes (stepped net lengths (Some at) code) behind h in

@@ -17,7 +17,7 @@ flow_along net part a = whole_flow (knees_in net) (segment_in net part).flow (se
 
 -- the sum of what flows along those activities that have come and have an event at one of their ends
 abbrev pub flow_at : PricedNetwork → Part → (ℕ → ℕ) → ℕ → ℕ
-flow_at net part place e = if nat_lt e net.network.events then at_event (length part.acts) place (flow_along net part) e else 0
+flow_at net part event_of e = if nat_lt e net.network.events then at_event (length part.acts) event_of (flow_along net part) e else 0
 
 -- what the activities that have come cost at their durations
 abbrev pub spent_in : PricedNetwork → Part → ℕ

@@ -12,10 +12,10 @@ abbrev pub length_in : PricedNetwork → Bool → ℕ → ℕ
 length_in net true a = crash_of net.terms a
 length_in net false a = normal_of net.terms a
 
--- the first place of a code among codes, counted from i
-abbrev pub place_of : List ℕ → ℕ → List (List ℕ) → Option ℕ
-place_of code i [] = None
-place_of code i (c ∷ cs) = if bytes_eq c code then Some i else place_of code (i + 1) cs
+-- the first index of a code among codes, counted from i
+abbrev pub index_of : List ℕ → ℕ → List (List ℕ) → Option ℕ
+index_of code i [] = None
+index_of code i (c ∷ cs) = if bytes_eq c code then Some i else index_of code (i + 1) cs
 
 -- one activity further, where it begins at the event that the walk has reached
 abbrev pub further : Network → (ℕ → ℕ) → Reached → ℕ → Option Reached
@@ -24,7 +24,7 @@ further net lengths at a =
 
 -- one step further, where an activity has this code and begins at the event that the walk has reached
 abbrev pub stepped : PricedNetwork → (ℕ → ℕ) → Option Reached → List ℕ → Option Reached
-stepped net lengths at code = at >>= (λ here. place_of code 0 net.activities >>= (λ a. further net.network lengths here a))
+stepped net lengths at code = at >>= (λ here. index_of code 0 net.activities >>= (λ a. further net.network lengths here a))
 
 -- how far a walk comes with these steps, where they are one
 abbrev pub walked : PricedNetwork → (ℕ → ℕ) → Option Reached → List (List ℕ) → Option Reached

@@ -1,12 +1,10 @@
 //! Taking the rows of activities that occur again, several after one another.
 ghost use Rattle.std.specs.Prelude.{◌≡◌, ◌≢◌, ◌+◌, ◌^◌, ◌<◌, ◌≤◌, None, IfSome, length};
-ghost use Rattle.pc_check.specs.inside.Rows.{AddsLine, across_at, going};
-ghost use Rattle.pc_check.specs.inside.Along.{TakesAlong};
-ghost use Rattle.pc_check.specs.inside.Bounds.{IsBounded};
-ghost use Rattle.pc_check.specs.inside.Fronts.{AreFronts};
+ghost use Rattle.pc_check.specs.inside.Rows.{AddsLine, across_at};
+ghost use Rattle.pc_check.specs.inside.Along.{HasAdvanced, MayAdvance};
 ghost use Rattle.pc_check.specs.inside.Kept.{known_by, stretch_of};
 ghost use Rattle.pc_check.specs.inside.Passed.{ArePassed, PassesAcross};
-ghost use Rattle.pc_check.specs.inside.Safe.{IsCutOf, IsSafe, cut_in};
+ghost use Rattle.pc_check.specs.inside.Safe.{IsCutOf, IsSafe};
 
 use crate::cut::{Cut, cut_of};
 use crate::gaps::crossing_of;
@@ -30,22 +28,11 @@ pub(crate) fn advance_acts(
     reader: &mut CertReader,
     piece: &[u8],
 ) -> usize
-    requires safe { IsSafe net.now kept.old.tally }
-    requires fronts { AreFronts net.now fronts.now }
-    requires bounded { IsBounded net.now kept.old }
-    requires place { reader.old.place ≡ kept.old.place }
-    requires going { reader.old.malformed ≡ None }
-    requires alike { reader.old.lines ≡ kept.old.lines }
-    requires few { kept.old.lines < 2 ^ 63 }
-    ensures same_kept { result ≡ 0 → kept.new ≡ kept.old }
-    ensures same_reader { result ≡ 0 → reader.new ≡ reader.old }
-    ensures takes { 0 < result → TakesAlong piece.now result reader.old reader.new (going net.now kept.old)
-        (going net.now kept.new) }
-    ensures bounded { IsBounded net.now kept.new }
-    ensures safe { IsSafe net.now kept.new.tally }
+    requires { MayAdvance net.now fronts.now reader.old kept.old }
+    ensures { HasAdvanced net.now piece.now result reader.old reader.new kept.old kept.new }
 {
-    // The limit on events, so that no count of lines overflows.
-    let _events = net.net().events();
+    // The limits on events and activities, so that no count of lines overflows.
+    net.facts();
     let activities = net.net().activities();
     let mut place = reader.place();
     if !reader.is_between()
@@ -58,7 +45,7 @@ pub(crate) fn advance_acts(
     }
     let mut count = 0;
     let mut a = kept.tally.acts;
-    let mut cut = cut_so_far(kept);
+    let mut cut = kept.tally.cut;
     let mut rest = piece;
     loop {
         loop {
@@ -82,21 +69,8 @@ pub(crate) fn advance_acts(
     kept.place = place;
     kept.lines += count;
     kept.tally.acts = a;
-    kept.tally.forward = cut.forward;
-    kept.tally.backward = cut.backward;
-    kept.tally.stops = cut.stops;
+    kept.tally.cut = cut;
     piece.len() - rest.len()
-}
-
-/// The sums and the stop of the cut that are kept.
-fn cut_so_far(kept: &Kept) -> Cut
-    ensures { result ≡ cut_in kept.now.tally }
-{
-    Cut {
-        forward: kept.tally.forward,
-        backward: kept.tally.backward,
-        stops: kept.tally.stops,
-    }
 }
 
 /// Moves past the line at the front of the piece, if it is the line of this activity that passed last and passes again.

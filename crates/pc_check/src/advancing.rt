@@ -30,7 +30,7 @@ ghost use Rattle.pc_check.specs.inside.Crossings.{IsCrossing};
 ghost use Rattle.pc_check.specs.inside.Passed.{HasPassed};
 
 use crate::condition::Condition;
-use crate::cut::cut_of;
+use crate::cut::{Cut, cut_of};
 use crate::gaps::{Crossing, crossing_of};
 use crate::kept::{Kept, Tally};
 use crate::passed::{Passed, passed_of};
@@ -63,8 +63,7 @@ pub(crate) fn advance(
     ensures left { IfNone result (lines_left net.now kept.new < lines_left net.now kept.old) }
 {
     // A project has at most so many events and activities, so that no count of lines and no sum is too large.
-    let _events = net.net().events();
-    let _activities = net.net().activities();
+    net.facts();
     match judge(net, kept, known, line) {
         Some(condition) => Some(condition),
         None => {
@@ -200,9 +199,7 @@ pub(crate) fn begin_segment(
     tally.times.clear();
     tally.moves.clear();
     tally.acts = 0;
-    tally.forward = 0;
-    tally.backward = 0;
-    tally.stops = false;
+    tally.cut = Cut::none();
 }
 
 /// Adds an event, with its time and whether it moves.
@@ -229,13 +226,11 @@ pub(crate) fn add_act(net: &CrashNet<'_>, tally: &mut Tally, crossing: &Crossing
     ensures added { AddsAct net.now tally.old passed.duration passed.flows tally.new }
     ensures safe { IsSafe net.now tally.new }
 {
-    let cut = cut_of(net, tally, tally.acts, crossing);
+    let more = cut_of(net, tally, tally.acts, crossing);
     renew(net, tally, passed);
     // There are so few activities that the sums over a cut fit.
-    let _few = net.net().activities();
-    tally.forward += cut.forward;
-    tally.backward += cut.backward;
-    tally.stops = tally.stops || cut.stops;
+    net.facts();
+    tally.cut.add(&more);
     tally.acts += 1;
 }
 
@@ -257,7 +252,7 @@ fn renew(net: &CrashNet<'_>, tally: &mut Tally, passed: Passed)
     let to = net.net().to(a);
     let from = net.net().from(a);
     // There are so few activities that the sums at an event fit.
-    let _few = net.net().activities();
+    net.facts();
     let flow = tally.rows[a as usize].flow;
     let cost = tally.rows[a as usize].cost;
     exchange(&mut tally.inflow, to, flow, passed.flow);

@@ -161,7 +161,7 @@ impl<'n> Checker<'n> {
             OnYes result (AreCurve self.entry.net (segments_of self.entry.net lines)) }
     {
         // What is known of the network says that lines that do not fail show its curve.
-        let _priced = self.net.net();
+        self.net.facts();
         match self.fail {
             Some(fail) => Verdict::No {
                 line: fail.line,

@@ -48,16 +48,16 @@ fn has_cut_gain(net: &CrashNet<'_>, kept: &Kept) -> bool
     ensures { result ≡ has_cut_gain (known_by kept.now) }
 {
     // A project has at most so many activities, so that the sum of the gains is not too large.
-    let _few = net.net().activities();
+    net.facts();
     let tally = &kept.tally;
-    tally.upper == tally.lower || tally.forward == tally.backward + u128::from(tally.slope)
+    tally.upper == tally.lower || tally.cut.forward == tally.cut.backward + u128::from(tally.slope)
 }
 
 /// Whether some activity stops at the lower end, unless the segment has one length.
 fn has_stop(kept: &Kept) -> bool
     ensures { result ≡ has_stop (known_by kept.now) }
 {
-    kept.tally.upper == kept.tally.lower || kept.tally.stops
+    kept.tally.upper == kept.tally.lower || kept.tally.cut.stops
 }
 
 /// Whether what enters each event but the start and the end leaves it.

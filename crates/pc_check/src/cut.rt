@@ -1,12 +1,9 @@
 //! The cut of a segment: the sums over the activities that cross it, and what an activity adds to them.
 ghost use Rattle.std.specs.Prelude.{◌≡◌, ◌+◌, ◌^◌, ◌<◌, ◌≤◌, length, if◌then◌else◌};
 ghost use Rattle.pc_check.specs.inside.Kept.{stretch_of};
-ghost use Rattle.pc_check.specs.inside.Safe.{joined};
-ghost use Rattle.pc_laws.specs.Segment.{is_forward, is_backward, rises_above, span};
-ghost use Rattle.pc_crash.specs.Priced.{knees_in};
+ghost use Rattle.pc_check.specs.inside.Safe.{IsCutOf, joined, no_cut};
 ghost use Rattle.pc_check.specs.inside.KneeTests.{rises_over};
 ghost use Rattle.pc_check.specs.inside.Crossings.{IsCrossing};
-ghost use Rattle.pc_check.specs.Segments.{stops_in};
 
 use crate::acts::{rises_over, stops};
 use crate::gaps::{Crossing, Gap};
@@ -23,6 +20,17 @@ pub(crate) struct Cut {
 }
 
 impl Cut {
+    /// The cut when no activity has come.
+    pub(crate) fn none() -> Cut
+        ensures { result ≡ no_cut }
+    {
+        Cut {
+            forward: 0,
+            backward: 0,
+            stops: false,
+        }
+    }
+
     /// Adds what an activity adds to the cut.
     pub(crate) fn add(&mut self, more: &Cut)
         requires forward { self.old.forward + more.now.forward < 2 ^ 128 }
@@ -40,14 +48,7 @@ impl Cut {
 pub(crate) fn cut_of(net: &CrashNet<'_>, tally: &Tally, a: u32, crossing: &Crossing) -> Cut
     requires known { a < length net.now.network.arcs }
     requires crossing { IsCrossing net.now.network.arcs (stretch_of tally.now) a crossing.now }
-    ensures forward { result.forward ≡ (if is_forward net.now.network.arcs (stretch_of tally.now).moves a
-        then rises_above net.now.network (knees_in net.now) (stretch_of tally.now) (span (stretch_of tally.now)) a
-        else 0) }
-    ensures backward { result.backward ≡ (if is_backward net.now.network.arcs (stretch_of tally.now).moves a
-        then rises_above net.now.network (knees_in net.now) (stretch_of tally.now) 0 a else 0) }
-    ensures stops { result.stops ≡ stops_in net.now (stretch_of tally.now) a }
-    ensures small_forward { result.forward < 2 ^ 67 }
-    ensures small_backward { result.backward < 2 ^ 67 }
+    ensures { IsCutOf net.now (stretch_of tally.now) a result }
 {
     let list = net.knees(a);
     let knees = list.as_slice();

@@ -1,8 +1,7 @@
 //! Taking the rows of events, several after one another: each is read by its beginning.
 ghost use Rattle.std.specs.Prelude.{◌≡◌, ◌≢◌, ◌^◌, ◌<◌, None, length};
-ghost use Rattle.pc_check.specs.inside.Rows.{AddsLine, AreEnds, going};
-ghost use Rattle.pc_check.specs.inside.Along.{TakesAlong};
-ghost use Rattle.pc_check.specs.inside.Bounds.{IsBounded};
+ghost use Rattle.pc_check.specs.inside.Rows.{AddsLine, AreEnds};
+ghost use Rattle.pc_check.specs.inside.Along.{HasAdvanced, MayAdvance};
 ghost use Rattle.pc_check.specs.inside.Fronts.{AreFronts};
 ghost use Rattle.pc_check.specs.inside.Safe.{IsSafe};
 
@@ -40,23 +39,11 @@ pub(crate) fn advance_events(
     reader: &mut CertReader,
     piece: &[u8],
 ) -> usize
-    requires safe { IsSafe net.now kept.old.tally }
-    requires fronts { AreFronts net.now fronts.now }
-    requires bounded { IsBounded net.now kept.old }
-    requires place { reader.old.place ≡ kept.old.place }
-    requires going { reader.old.malformed ≡ None }
-    requires alike { reader.old.lines ≡ kept.old.lines }
-    requires few { kept.old.lines < 2 ^ 63 }
-    ensures same_kept { result ≡ 0 → kept.new ≡ kept.old }
-    ensures same_reader { result ≡ 0 → reader.new ≡ reader.old }
-    ensures takes { 0 < result → TakesAlong piece.now result reader.old reader.new (going net.now kept.old)
-        (going net.now kept.new) }
-    ensures bounded { IsBounded net.now kept.new }
-    ensures safe { IsSafe net.now kept.new.tally }
+    requires { MayAdvance net.now fronts.now reader.old kept.old }
+    ensures { HasAdvanced net.now piece.now result reader.old reader.new kept.old kept.new }
 {
     // The limits on events and activities, so that no count of lines overflows.
-    let _events = net.net().events();
-    let _activities = net.net().activities();
+    net.facts();
     let ends = ends_of(net);
     let mut place = reader.place();
     if !reader.is_between()

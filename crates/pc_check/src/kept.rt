@@ -7,6 +7,7 @@ ghost use Rattle.pc_check.specs.Draft.{empty_draft};
 ghost use Rattle.pc_check.specs.inside.Safe.{IsBegun, IsSafe};
 ghost use Rattle.pc_check.specs.inside.Fronts.{AreFronts};
 
+use crate::cut::Cut;
 use crate::passed::{Passed, none_passed};
 use crate::walk::Reached;
 use pc_cert::{EventFront, Place};
@@ -47,10 +48,7 @@ pub struct Tally {
     pub(crate) inflow: Vec<u128>,
     pub(crate) outflow: Vec<u128>,
     pub(crate) spent: u64,
-    /// the sums and the stop of the cut
-    pub(crate) forward: u128,
-    pub(crate) backward: u128,
-    pub(crate) stops: bool,
+    pub(crate) cut: Cut,
 }
 
 impl Drop for Tally {
@@ -68,9 +66,7 @@ impl Drop for Tally {
             inflow: _inflow,
             outflow: _outflow,
             spent: _spent,
-            forward: _forward,
-            backward: _backward,
-            stops: _stops,
+            cut: _cut,
         } = self;
     }
 }
@@ -116,13 +112,11 @@ fn tally_of(alloc: Global, net: &CrashNet<'_>) -> Result<Tally, AllocError>
         inflow: vec![in alloc; 0u128; events]?,
         outflow: vec![in alloc; 0u128; events]?,
         spent: 0,
-        forward: 0,
-        backward: 0,
-        stops: false,
+        cut: Cut::none(),
     })
 }
 
-/// The number in a list at a place, and 0 past its end.
+/// The number in a list at an index, and 0 past its end.
 pub(crate) fn number_at(numbers: &[u64], i: u32) -> u64
     ensures { result ≡ slice_index numbers.now i }
 {
@@ -132,7 +126,7 @@ pub(crate) fn number_at(numbers: &[u64], i: u32) -> u64
     }
 }
 
-/// The bit in a list at a place, and false past its end.
+/// The bit in a list at an index, and false past its end.
 pub(crate) fn bit_at(bits: &[bool], i: u32) -> bool
     ensures { result ≡ slice_index_or bits.now i false }
 {
@@ -142,7 +136,7 @@ pub(crate) fn bit_at(bits: &[bool], i: u32) -> bool
     }
 }
 
-/// The number in a list at a place that it has.
+/// The number in a list at an index that it has.
 pub(crate) fn known_number(numbers: &[u64], i: u32) -> u64
     requires { i < length numbers.now }
     ensures { result ≡ slice_index numbers.now i }
@@ -150,7 +144,7 @@ pub(crate) fn known_number(numbers: &[u64], i: u32) -> u64
     numbers[i as usize]
 }
 
-/// The bit in a list at a place that it has.
+/// The bit in a list at an index that it has.
 pub(crate) fn known_bit(bits: &[bool], i: u32) -> bool
     requires { i < length bits.now }
     ensures { result ≡ slice_index_or bits.now i false }

@@ -23,3 +23,4 @@ pub use audit::{Audit, AuditError, audit_source};
 pub use checker::{Checker, Fail, Verdict};
 pub use meaning::{certificates_print_the_curve, lines_are_few, one_verdict};
 pub use pc_cert::{CertLine, Flows};
+pub use walk::length_in;

@@ -76,8 +76,7 @@ fn reason_at_head(
     ensures { reason_of result ≡
         first_failing (condition 1 (has_head net.now version project.now events activities) ∷ []) }
 {
-    let known_version = if net.has_pieces() { 2 } else { 1 };
-    let has_head = version == known_version
+    let has_head = version == pc_cert::version(net)
         && *project == net.project()
         && events == u64::from(net.net().events())
         && activities == u64::from(net.net().activities());

@@ -1,7 +1,7 @@
 //! The two walks of a certificate, step by step.
 ghost use Rattle.std.specs.Prelude.{◌≡◌, ◌+◌, ◌^◌, ◌<◌, ◌≤◌, length, IfSome};
 ghost use Rattle.pc_model.specs.declared.limits.TheConstants.{MAX_DURATION};
-ghost use Rattle.pc_check.specs.Walks.{length_in, place_of, further, stepped, is_through};
+ghost use Rattle.pc_check.specs.Walks.{length_in, index_of, further, stepped, is_through};
 ghost use Rattle.pc_check.specs.inside.Walks.{sum_of};
 
 use pc_crash::CrashNet;
@@ -34,11 +34,11 @@ pub(crate) fn stepped(
 
 /// The activity with this code.
 fn named(net: &CrashNet<'_>, code: &Code) -> Option<u32>
-    ensures place { result ≡ place_of code.now 0 net.now.activities }
+    ensures index { result ≡ index_of code.now 0 net.now.activities }
     ensures known { IfSome result (λ a. a < length net.now.network.arcs) }
 {
     // For the fact that each activity has one code, and no two have the same.
-    let _sound = net.net();
+    net.facts();
     net.activity_named(code)
 }
 
@@ -57,14 +57,15 @@ fn further(net: &CrashNet<'_>, here: Reached, a: u32, is_crash: bool) -> Option<
     })
 }
 
-/// The length of an activity in one of the walks.
-fn length_in(net: &CrashNet<'_>, a: u32, is_crash: bool) -> u64
+/// Returns the length of an activity in one of the walks: its crash duration in the crash walk, and its normal duration
+/// in the normal walk.
+pub fn length_in(net: &CrashNet<'_>, a: u32, is_crash: bool) -> u64
     requires known { a < length net.now.network.arcs }
     ensures length { result ≡ length_in net.now is_crash a }
     ensures short { result ≤ MAX_DURATION }
 {
     // For the limit of a duration.
-    let _limits = net.net();
+    net.facts();
     let term = net.term(a);
     if is_crash { term.crash } else { term.normal }
 }

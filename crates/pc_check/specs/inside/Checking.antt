@@ -33,9 +33,9 @@ pub record IsTallied (net : PricedNetwork) (part : Part) (tally : Tally) : Type 
   pub acts : tally.acts ≡ length part.acts
   pub flows : (a : ℕ) → a < length part.acts → flow_of tally.rows.items a ≡ flow_along net part a
   pub costs : (a : ℕ) → a < length part.acts → cost_of tally.rows.items a ≡ activity_cost net.terms (knees_in net) a ((segment_in net part).duration a)
-  pub forward : tally.forward ≡ sum_to (length part.acts) (forward_by net (segment_in net part))
-  pub backward : tally.backward ≡ sum_to (length part.acts) (backward_by net (segment_in net part))
-  pub stops : tally.stops ≡ some_below (length part.acts) (stops_in net (segment_in net part))
+  pub forward : tally.cut.forward ≡ sum_to (length part.acts) (forward_by net (segment_in net part))
+  pub backward : tally.cut.backward ≡ sum_to (length part.acts) (backward_by net (segment_in net part))
+  pub stops : tally.cut.stops ≡ some_below (length part.acts) (stops_in net (segment_in net part))
 
 -- what is kept is what is known of lines that say so much
 pub record IsKept (net : PricedNetwork) (draft : Draft) (kept : Kept) : Type 0 where

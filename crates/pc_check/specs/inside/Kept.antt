@@ -37,7 +37,7 @@ known_by kept = record {
   inflow = slice_index kept.tally.inflow.items;
   outflow = slice_index kept.tally.outflow.items;
   spent = kept.tally.spent;
-  forward = kept.tally.forward;
-  backward = kept.tally.backward;
-  stops = kept.tally.stops;
+  forward = kept.tally.cut.forward;
+  backward = kept.tally.cut.backward;
+  stops = kept.tally.cut.stops;
 }

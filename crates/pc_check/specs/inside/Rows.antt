@@ -25,9 +25,9 @@ pub record AddsLine (net : PricedNetwork) (piece : List ℕ) (count : ℕ) (befo
   pub none : first_failing (conditions net (known_by old) line) ≡ None
   pub adds : Adds net line old new
 
--- what is kept where so many activities have come, with these sums and this stop of the cut
+-- what is kept where so many activities have come, with this cut
 abbrev pub across_at : Kept → ℕ → Cut → Kept
-across_at kept a cut = record kept { tally = record kept.tally { acts = a; forward = cut.forward; backward = cut.backward; stops = cut.stops } }
+across_at kept a cut = record kept { tally = record kept.tally { acts = a; cut = cut } }
 
 -- a checker that keeps this and has found no failure
 abbrev pub going : PricedNetwork → Kept → Checking

@@ -13,10 +13,10 @@ use Rattle.pc_check.specs.inside.KneeTests.{flow_sum}
 use Rattle.pc_check.specs.inside.Passed.{ArePassed, passed_at, flow_of, cost_of}
 use Rattle.pc_check.specs.Segments.{stops_in}
 
--- sums by event of what flows along all activities, each as its line said that passed last: into the events where `place` is an
+-- sums by event of what flows along all activities, each as its line said that passed last: into the events where `event_of` is an
 -- activity's ending event, and out of them where it is the beginning one
 abbrev pub AreSums : PricedNetwork → List Passed → (ℕ → ℕ) → List ℕ → Type 0
-AreSums net rows place sums = (e : ℕ) → e < net.network.events → slice_index sums e ≡ at_event (length net.network.arcs) place (flow_of rows) e
+AreSums net rows event_of sums = (e : ℕ) → e < net.network.events → slice_index sums e ≡ at_event (length net.network.arcs) event_of (flow_of rows) e
 
 -- there is room for all events, no activity has come that the network lacks, what is kept of each has passed, the sums of flows and of the
 -- cost are those of what is kept of all, and those of the cut are no larger than so many activities can make them
@@ -30,8 +30,12 @@ pub record IsSafe (net : PricedNetwork) (tally : Tally) : Type 0 where
   pub inflow : AreSums net tally.rows.items (to_of net.network.arcs) tally.inflow.items
   pub outflow : AreSums net tally.rows.items (from_of net.network.arcs) tally.outflow.items
   pub spent : tally.spent ≡ sum_to (length net.network.arcs) (cost_of tally.rows.items)
-  pub forward : tally.forward ≤ tally.acts * 2 ^ 67
-  pub backward : tally.backward ≤ tally.acts * 2 ^ 67
+  pub forward : tally.cut.forward ≤ tally.acts * 2 ^ 67
+  pub backward : tally.cut.backward ≤ tally.acts * 2 ^ 67
+
+-- the cut when no activity has come
+abbrev pub no_cut : Cut
+no_cut = record { forward = 0; backward = 0; stops = false }
 
 -- a segment with these ends, of which nothing has come
 pub record IsBegun (u l c s : ℕ) (tally : Tally) : Type 0 where
@@ -42,9 +46,7 @@ pub record IsBegun (u l c s : ℕ) (tally : Tally) : Type 0 where
   pub times : tally.times.items ≡ []
   pub moves : tally.moves.items ≡ []
   pub acts : tally.acts ≡ 0
-  pub forward : tally.forward ≡ 0
-  pub backward : tally.backward ≡ 0
-  pub stops : tally.stops ≡ false
+  pub cut : tally.cut ≡ no_cut
 
 -- sums by event with one number at one event in place of another
 pub record IsExchanged (old new : List ℕ) (event before now : ℕ) : Type 0 where
@@ -60,12 +62,12 @@ pub record IsRenewed (old new : List Passed) (a flows costs : ℕ) : Type 0 wher
 
 -- one more activity has come, with its duration and its flows
 pub record AddsAct (net : PricedNetwork) (old : Tally) (duration : ℕ) (flows : List ℕ) (new : Tally) : Type 0 where
-  pub rest : new ≡ record old { acts = old.acts + 1; rows = new.rows; inflow = new.inflow; outflow = new.outflow; spent = new.spent; forward = new.forward; backward = new.backward; stops = new.stops }
+  pub rest : new ≡ record old { acts = old.acts + 1; rows = new.rows; inflow = new.inflow; outflow = new.outflow; spent = new.spent; cut = new.cut }
   pub row : IsRenewed old.rows.items new.rows.items old.acts (flow_sum flows) (activity_cost net.terms (knees_in net) old.acts duration)
-  pub forward : new.forward ≡ old.forward + (if is_forward net.network.arcs (stretch_of old).moves old.acts
+  pub forward : new.cut.forward ≡ old.cut.forward + (if is_forward net.network.arcs (stretch_of old).moves old.acts
       then rises_above net.network (knees_in net) (stretch_of old) (span (stretch_of old)) old.acts else 0)
-  pub backward : new.backward ≡ old.backward + (if is_backward net.network.arcs (stretch_of old).moves old.acts then rises_above net.network (knees_in net) (stretch_of old) 0 old.acts else 0)
-  pub stops : new.stops ≡ (old.stops || stops_in net (stretch_of old) old.acts)
+  pub backward : new.cut.backward ≡ old.cut.backward + (if is_backward net.network.arcs (stretch_of old).moves old.acts then rises_above net.network (knees_in net) (stretch_of old) 0 old.acts else 0)
+  pub stops : new.cut.stops ≡ (old.cut.stops || stops_in net (stretch_of old) old.acts)
 
 -- what activity a adds to the cut: the rises of its knees above its gap, at the lower end where it is forward and at the upper end where it is
 -- backward, and whether it stops at the lower end
@@ -79,7 +81,3 @@ pub record IsCutOf (net : PricedNetwork) (seg : Segment) (a : ℕ) (cut : Cut) :
 -- the sums and the stop of the cut with what an activity adds
 abbrev pub joined : Cut → Cut → Cut
 joined cut more = record { forward = cut.forward + more.forward; backward = cut.backward + more.backward; stops = cut.stops || more.stops }
-
--- the sums and the stop of the cut that are kept
-abbrev pub cut_in : Tally → Cut
-cut_in tally = record { forward = tally.forward; backward = tally.backward; stops = tally.stops }

@@ -1,4 +1,4 @@
-use Rattle.std.proofs.Common.{ap, subst, arith}
+use Rattle.std.proofs.Common.{subst}
 use Rattle.pc_model.specs.Network.{Network, IsOrder}
 use Rattle.pc_certify.proofs.CertifiedLaws.{certified, text_certified, all_same, curve}
 use Rattle.pc_certify.proofs.SmallLaws.{IsSized, small_segments}
@@ -7,15 +7,15 @@ use Rattle.pc_certify.proofs.laws.written_is_certified.Goals as goal
 pub returns : goal.returns
 returns c =
     let net = c.args.net.now in
-    let known = c.net-network.ensures in
+    let known = c.facts.ensures in
     let sized : IsSized net = record {
       priced = known.priced;
       limits = known.limits;
       pieces = known.pieces;
       piece_limits = known.piece_limits;
-      few = omega (arith, c.events-few.ensures.events, c.events-few.ensures.limit, ap (λ (n : Network). n.events) known.network);
+      few = known.events;
       order = c.order-order.result.now;
-      ordered = subst (λ (n : Network). IsOrder n c.order-order.result.now) known.network c.order-order.ensures.order;
+      ordered = subst (λ (n : Network). IsOrder n c.order-order.result.now) c.net.ensures.network c.order-order.ensures.order;
     } in
     record {
       certified = certified net sized known.activity_names;

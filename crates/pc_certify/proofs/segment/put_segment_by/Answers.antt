@@ -16,7 +16,7 @@ returns g c =
     record {
       text = Adds-as _ (text_of-between (ends_line seg) (listed net.network.events (event_line net seg)) (listed (length net.network.arcs) (act_line net seg)) Close)
           (c.put_ends.ensures ⨾ lines ⨾ c.put.ensures);
-      fit = λ small. segment_fits net c.net-whole.ensures.priced c.net-whole.ensures.pieces seg c.put_events.ensures.codes c.put_acts.ensures.codes small;
+      fit = λ small. segment_fits net c.facts.ensures.priced c.facts.ensures.pieces seg c.put_events.ensures.codes c.put_acts.ensures.codes small;
       events = c.put_events.ensures.rows;
       acts = c.put_acts.ensures.rows;
     }

@@ -1,5 +1,4 @@
 use Rattle.std.proofs.Common.{◌^◌, ◌<◌, ◌≤◌, length, refl, sym, ap, subst, ◌∙◌, arith}
-use Rattle.pc_model.specs.declared.limits.TheConstants.{MAX_EVENTS, MAX_ACTIVITIES}
 use Rattle.pc_check.specs.inside.Bounds.{IsBounded}
 use Rattle.pc_check.proofs.BoundLaws.{Passes, bounded_behind, fewer_behind, may_be_added, lines_few, lines_kept}
 use Rattle.pc_check.specs.inside.Reasons.{reason_of}
@@ -22,16 +21,14 @@ returns-in-Some-clause-bounded c = subst (λ k. IsBounded c.args.net.now k) (sym
 
 pub returns-in-Some-clause-few : goal.returns-in-Some-clause-few
 returns-in-Some-clause-few c = subst (λ k. k.lines < 2 ^ 63) (sym c.in-Some.ensures.same)
-    (lines_few c.requires.bounded (omega (arith, c.events-events.ensures.limit, c.events-events.ensures.events, ap (λ n. n.events) c.net.ensures.network))
-    (omega (arith, c.activities-activities.ensures.limit, c.activities-activities.ensures.activities, ap (λ n. length n.arcs) c.net-2.ensures.network)))
+    (lines_few c.requires.bounded c.facts.ensures.events c.facts.ensures.activities)
 
 pub returns-in-Some-clause-safe : goal.returns-in-Some-clause-safe
 returns-in-Some-clause-safe c = c.judge.ensures.safe
 
 pub overflow_add-kept : goal.overflow_add-kept
 overflow_add-kept c =
-    let few = lines_few c.requires.bounded (omega (arith, c.events-events.ensures.limit, c.events-events.ensures.events, ap (λ n. n.events) c.net.ensures.network))
-    (omega (arith, c.activities-activities.ensures.limit, c.activities-activities.ensures.activities, ap (λ n. length n.arcs) c.net-2.ensures.network)) in
+    let few = lines_few c.requires.bounded c.facts.ensures.events c.facts.ensures.activities in
     omega (arith, few, lines_kept _ _ _ _ c.in-None.ensures.added)
 
 pub returns-in-None-clause-reason : goal.returns-in-None-clause-reason
@@ -41,8 +38,7 @@ pub returns-in-None-clause-few : goal.returns-in-None-clause-few
 returns-in-None-clause-few c =
     let passes : Passes c.args.net.now c.args.line.now c.args.kept.now c.args.behind = record { goes = c.requires.goes; passes = sym c.judge.ensures.reason ∙ ap reason_of c.in-None.is } in
     lines_few (bounded_behind c.judge.new.kept c.requires.bounded passes c.in-None.ensures.added)
-    (omega (arith, c.events-events.ensures.limit, c.events-events.ensures.events, ap (λ n. n.events) c.net.ensures.network))
-    (omega (arith, c.activities-activities.ensures.limit, c.activities-activities.ensures.activities, ap (λ n. length n.arcs) c.net-2.ensures.network))
+    c.facts.ensures.events c.facts.ensures.activities
 
 pub returns-in-None-clause-safe : goal.returns-in-None-clause-safe
 returns-in-None-clause-safe c = c.judge.ensures.safe
@@ -50,15 +46,7 @@ returns-in-None-clause-safe c = c.judge.ensures.safe
 pub judge-requires-clause-fits : goal.judge-requires-clause-fits
 judge-requires-clause-fits c = λ none.
     let passes : Passes c.args.net.now c.args.line.now c.args.kept.now c.args.behind = record { goes = c.requires.goes; passes = none } in
-    let events : c.args.net.now.network.events ≤ MAX_EVENTS = omega (arith, c.events-events.ensures.limit, c.events-events.ensures.events, ap (λ n. n.events) c.net.ensures.network) in
-    let activities : length c.args.net.now.network.arcs
-    ≤ MAX_ACTIVITIES = omega (
-      arith,
-      c.activities-activities.ensures.limit,
-      c.activities-activities.ensures.activities,
-      ap (λ n. length n.arcs) c.net-2.ensures.network,
-    ) in
-    may_be_added c.args.net.now c.args.line.now c.args.kept.now c.args.behind c.requires.bounded passes events activities
+    may_be_added c.args.net.now c.args.line.now c.args.kept.now c.args.behind c.requires.bounded passes c.facts.ensures.events c.facts.ensures.activities
 
 pub returns-in-None-clause-advances : goal.returns-in-None-clause-advances
 returns-in-None-clause-advances c =

@@ -1,6 +1,5 @@
 use Rattle.std.proofs.Common.{◌≡◌, ◌<◌, ◌≤◌, length, set, refl, ap, subst, ◌∙◌, arith}
 use Rattle.std.specs.Prelude.{slice_index}
-use Rattle.pc_model.specs.declared.limits.TheConstants.{MAX_ACTIVITIES}
 use Rattle.pc_model.specs.Walk.{from_of, to_of}
 use Rattle.pc_check.specs.declared.passed.Passed.{Passed}
 use Rattle.pc_check.specs.inside.Passed.{flow_of, cost_of}
@@ -28,51 +27,49 @@ pub exchange-requires-clause-there : goal.exchange-requires-clause-there
 exchange-requires-clause-there c =
     let net = c.args.net.now in
     let tally = c.args.tally.now in
-    let place = to_of net.network.arcs in
-    let to : c.to-to.result ≡ place tally.acts = c.to-to.ensures.event ∙ ap (λ n. to_of n.arcs tally.acts) c.net.ensures.network in
-    let there : place tally.acts < net.network.events = omega (arith, c.to-to.ensures.known, to, ap (λ n. n.events) c.net.ensures.network) in
+    let event_of = to_of net.network.arcs in
+    let to : c.to-to.result ≡ event_of tally.acts = c.to-to.ensures.event ∙ ap (λ n. to_of n.arcs tally.acts) c.net.ensures.network in
+    let there : event_of tally.acts < net.network.events = omega (arith, c.to-to.ensures.known, to, ap (λ n. n.events) c.net.ensures.network) in
     let row = row_read tally.acts c.index.result.now c.requires.safe.rows c.requires.known c.index.ensures in
     omega (
       arith,
       ap (λ (r : Passed). r.flow) row,
       ap (slice_index tally.inflow.items) to,
-      is_in_sum net tally.rows.items place tally.acts tally.inflow.items c.requires.known there c.requires.safe.inflow,
+      is_in_sum net tally.rows.items event_of tally.acts tally.inflow.items c.requires.known there c.requires.safe.inflow,
     )
 
 pub exchange-requires-clause-small : goal.exchange-requires-clause-small
 exchange-requires-clause-small c =
     let net = c.args.net.now in
     let tally = c.args.tally.now in
-    let place = to_of net.network.arcs in
-    let to : c.to-to.result ≡ place tally.acts = c.to-to.ensures.event ∙ ap (λ n. to_of n.arcs tally.acts) c.net.ensures.network in
-    let there : place tally.acts < net.network.events = omega (arith, c.to-to.ensures.known, to, ap (λ n. n.events) c.net.ensures.network) in
-    let few : length net.network.arcs ≤ MAX_ACTIVITIES = omega (arith, c.activities-few.ensures.limit, c.activities-few.ensures.activities, ap (λ n. length n.arcs) c.net-3.ensures.network) in
-    omega (arith, few, ap (slice_index tally.inflow.items) to, sum_small place tally.inflow.items (place tally.acts) c.requires.safe.rows c.requires.safe.inflow there, c.requires.passed.small)
+    let event_of = to_of net.network.arcs in
+    let to : c.to-to.result ≡ event_of tally.acts = c.to-to.ensures.event ∙ ap (λ n. to_of n.arcs tally.acts) c.net.ensures.network in
+    let there : event_of tally.acts < net.network.events = omega (arith, c.to-to.ensures.known, to, ap (λ n. n.events) c.net.ensures.network) in
+    omega (arith, c.facts.ensures.activities, ap (slice_index tally.inflow.items) to, sum_small event_of tally.inflow.items (event_of tally.acts) c.requires.safe.rows c.requires.safe.inflow there, c.requires.passed.small)
 
 pub exchange-requires-2-clause-there : goal.exchange-requires-2-clause-there
 exchange-requires-2-clause-there c =
     let net = c.args.net.now in
     let tally = c.args.tally.now in
-    let place = from_of net.network.arcs in
-    let from : c.from-from.result ≡ place tally.acts = c.from-from.ensures.event ∙ ap (λ n. from_of n.arcs tally.acts) c.net-2.ensures.network in
-    let there : place tally.acts < net.network.events = omega (arith, c.from-from.ensures.known, from, ap (λ n. n.events) c.net-2.ensures.network) in
+    let event_of = from_of net.network.arcs in
+    let from : c.from-from.result ≡ event_of tally.acts = c.from-from.ensures.event ∙ ap (λ n. from_of n.arcs tally.acts) c.net-2.ensures.network in
+    let there : event_of tally.acts < net.network.events = omega (arith, c.from-from.ensures.known, from, ap (λ n. n.events) c.net-2.ensures.network) in
     let row = row_read tally.acts c.index.result.now c.requires.safe.rows c.requires.known c.index.ensures in
     omega (
       arith,
       ap (λ (r : Passed). r.flow) row,
       ap (slice_index tally.outflow.items) from,
-      is_in_sum net tally.rows.items place tally.acts tally.outflow.items c.requires.known there c.requires.safe.outflow,
+      is_in_sum net tally.rows.items event_of tally.acts tally.outflow.items c.requires.known there c.requires.safe.outflow,
     )
 
 pub exchange-requires-2-clause-small : goal.exchange-requires-2-clause-small
 exchange-requires-2-clause-small c =
     let net = c.args.net.now in
     let tally = c.args.tally.now in
-    let place = from_of net.network.arcs in
-    let from : c.from-from.result ≡ place tally.acts = c.from-from.ensures.event ∙ ap (λ n. from_of n.arcs tally.acts) c.net-2.ensures.network in
-    let there : place tally.acts < net.network.events = omega (arith, c.from-from.ensures.known, from, ap (λ n. n.events) c.net-2.ensures.network) in
-    let few : length net.network.arcs ≤ MAX_ACTIVITIES = omega (arith, c.activities-few.ensures.limit, c.activities-few.ensures.activities, ap (λ n. length n.arcs) c.net-3.ensures.network) in
-    omega (arith, few, ap (slice_index tally.outflow.items) from, sum_small place tally.outflow.items (place tally.acts) c.requires.safe.rows c.requires.safe.outflow there, c.requires.passed.small)
+    let event_of = from_of net.network.arcs in
+    let from : c.from-from.result ≡ event_of tally.acts = c.from-from.ensures.event ∙ ap (λ n. from_of n.arcs tally.acts) c.net-2.ensures.network in
+    let there : event_of tally.acts < net.network.events = omega (arith, c.from-from.ensures.known, from, ap (λ n. n.events) c.net-2.ensures.network) in
+    omega (arith, c.facts.ensures.activities, ap (slice_index tally.outflow.items) from, sum_small event_of tally.outflow.items (event_of tally.acts) c.requires.safe.rows c.requires.safe.outflow there, c.requires.passed.small)
 
 pub overflow_sub-tally : goal.overflow_sub-tally
 overflow_sub-tally c =
@@ -82,14 +79,7 @@ overflow_sub-tally c =
 
 pub overflow_add-tally : goal.overflow_add-tally
 overflow_add-tally c =
-    let few : length c.args.net.now.network.arcs
-    ≤ MAX_ACTIVITIES = omega (
-      arith,
-      c.activities-few.ensures.limit,
-      c.activities-few.ensures.activities,
-      ap (λ n. length n.arcs) c.net-3.ensures.network,
-    ) in
-    omega (arith, few, c.requires.safe.spent, cost_small c.requires.safe.rows, c.requires.passed.cheap)
+    omega (arith, c.facts.ensures.activities, c.requires.safe.spent, cost_small c.requires.safe.rows, c.requires.passed.cheap)
 
 pub returns-clause-row : goal.returns-clause-row
 returns-clause-row c = row_renewed c.args.tally.now.acts c.args.passed c.requires.safe.rows c.requires.known

@@ -2,6 +2,7 @@ use Rattle.std.proofs.Common.{◌≡◌, length, ap, ◌∙◌, arith}
 use Rattle.std.specs.Prelude.{slice_index}
 use Rattle.std.proofs.lemmas.List.{get_or-replicate, length-replicate}
 use Rattle.pc_model.specs.Walk.{from_of, to_of}
+use Rattle.pc_check.specs.declared.cut.Cut.{Cut}
 use Rattle.pc_check.proofs.SumLaws.{no_sums, no_cost}
 use Rattle.pc_check.proofs.kept.tally_of.Goals as goal
 
@@ -24,6 +25,6 @@ returns-clause-safe c =
           (λ e lt. ap (λ xs. slice_index xs e) (c.in_ok-vec-2.ensures.items_if_clones_equal (λ y is. cc))
           ∙ get_or-replicate c.events-events.result e 0 0 (omega (arith, lt, events)));
       spent = no_cost nothing;
-      forward = omega arith;
-      backward = omega arith;
+      forward = omega (arith, ap (λ (cut : Cut). cut.forward) c.none.ensures);
+      backward = omega (arith, ap (λ (cut : Cut). cut.backward) c.none.ensures);
     }

@@ -4,12 +4,12 @@ use Rattle.pc_certify.proofs.walks.Walks.build.Goals as goal
 pub longest-requires : goal.longest-requires
 longest-requires c =
     let net = c.args.net.now in
-    rw (c.net.ensures.network, c.deref.ensures.value, c.in_ok-normal.ensures) (normals-lengths net.network net.terms c.net.ensures.priced.terms_fit c.net.ensures.limits)
+    rw (c.net.ensures.network, c.deref.ensures.value, c.in_ok-normal.ensures) (normals-lengths net.network net.terms c.facts.ensures.priced.terms_fit c.facts.ensures.limits)
 
 pub longest-requires-2 : goal.longest-requires-2
 longest-requires-2 c =
     let net = c.args.net.now in
-    rw (c.net-2.ensures.network, c.deref-2.ensures.value, c.in_ok-crash.ensures) (crashes-lengths net.network net.terms c.net.ensures.priced.terms_fit c.net.ensures.limits)
+    rw (c.net-2.ensures.network, c.deref-2.ensures.value, c.in_ok-crash.ensures) (crashes-lengths net.network net.terms c.facts.ensures.priced.terms_fit c.facts.ensures.limits)
 
 pub returns : goal.returns
 returns c =

@@ -9,8 +9,8 @@ returns-clause-curve c = λ lines h.
     curve_at_yes c.args.self lines
     (ap (λ s. s.fail) (sym c.self.view_is) ∙ c.in-None.is)
     c.requires
-    (subst (λ s. IsPriced s.net.network s.net.terms (knees_in s.net)) c.self.view_is c.net-priced.ensures.priced)
-    (subst (λ s. length s.net.activities ≡ length s.net.network.arcs) c.self.view_is c.net-priced.ensures.activity_names.one_each)
+    (subst (λ s. IsPriced s.net.network s.net.terms (knees_in s.net)) c.self.view_is c.facts.ensures.priced)
+    (subst (λ s. length s.net.activities ≡ length s.net.network.arcs) c.self.view_is c.facts.ensures.activity_names.one_each)
     h
 
 pub returns-in-Some-clause-finds : goal.returns-in-Some-clause-finds

@@ -10,26 +10,16 @@ use Rattle.pc_check.specs.inside.Fronts.{AreFronts}
 use Rattle.pc_check.proofs.TakeLaws.{when_none}
 use Rattle.pc_check.proofs.checker.Checker.take_rows.Goals as goal
 
-pub advance_acts-used-requires-clause-safe : goal.advance_acts-used-requires-clause-safe
-advance_acts-used-requires-clause-safe c = c.self.invariant.safe
-
-pub advance_acts-used-requires-clause-fronts : goal.advance_acts-used-requires-clause-fronts
-advance_acts-used-requires-clause-fronts c = subst (λ fs. AreFronts c.self.inside.net.now fs) (sym c.deref.ensures.value) c.self.invariant.fronts
-
-pub advance_acts-used-requires-clause-bounded : goal.advance_acts-used-requires-clause-bounded
-advance_acts-used-requires-clause-bounded c = when_none c.self.inside.fail (ap (λ s. s.fail) c.self.view_is ∙ c.requires.no_fail) c.self.invariant.bounded
-
-pub advance_acts-used-requires-clause-place : goal.advance_acts-used-requires-clause-place
-advance_acts-used-requires-clause-place c = c.requires.place ∙ sym (ap (λ s. s.kept.place) c.self.view_is)
-
-pub advance_acts-used-requires-clause-going : goal.advance_acts-used-requires-clause-going
-advance_acts-used-requires-clause-going c = c.requires.going
-
-pub advance_acts-used-requires-clause-alike : goal.advance_acts-used-requires-clause-alike
-advance_acts-used-requires-clause-alike c = c.requires.alike ∙ sym (ap (λ s. s.kept.lines) c.self.view_is)
-
-pub advance_acts-used-requires-clause-few : goal.advance_acts-used-requires-clause-few
-advance_acts-used-requires-clause-few c = omega (arith, ap (λ s. s.kept.lines) c.self.view_is, c.requires.few)
+pub advance_acts-used-requires : goal.advance_acts-used-requires
+advance_acts-used-requires c = record {
+  safe = c.self.invariant.safe;
+  fronts = subst (λ fs. AreFronts c.self.inside.net.now fs) (sym c.deref.ensures.value) c.self.invariant.fronts;
+  bounded = when_none c.self.inside.fail (ap (λ s. s.fail) c.self.view_is ∙ c.requires.no_fail) c.self.invariant.bounded;
+  place = c.requires.place ∙ sym (ap (λ s. s.kept.place) c.self.view_is);
+  going = c.requires.going;
+  alike = c.requires.alike ∙ sym (ap (λ s. s.kept.lines) c.self.view_is);
+  few = omega (arith, ap (λ s. s.kept.lines) c.self.view_is, c.requires.few);
+}
 
 pub invariant_of-self : goal.invariant_of-self
 invariant_of-self c =
@@ -55,34 +45,20 @@ returns-then-used-gt0-clause-takes c = λ some.
     (subst (λ f. TakesAlong c.args.piece.now c.advance_acts-used.result c.args.reader.now new.reader (record { net = net; kept = c.self.inside.kept; fail = f })
     (record { net = net; kept = new.kept; fail = f })) (sym none) (c.advance_acts-used.ensures.takes some))
 
-pub advance_events-requires-clause-safe : goal.advance_events-requires-clause-safe
-advance_events-requires-clause-safe c = c.advance_acts-used.ensures.safe
-
-pub advance_events-requires-clause-fronts : goal.advance_events-requires-clause-fronts
-advance_events-requires-clause-fronts c = subst (λ fs. AreFronts c.self.inside.net.now fs) (sym c.deref-2.ensures.value) c.self.invariant.fronts
-
-pub advance_events-requires-clause-bounded : goal.advance_events-requires-clause-bounded
-advance_events-requires-clause-bounded c = c.advance_acts-used.ensures.bounded
-
-pub advance_events-requires-clause-place : goal.advance_events-requires-clause-place
-advance_events-requires-clause-place c =
+pub advance_events-requires : goal.advance_events-requires
+advance_events-requires c =
     let nothing : c.advance_acts-used.result ≡ 0 = omega (arith, c.if-used-gt0.false) in
-    ap (λ r. r.place) (c.advance_acts-used.ensures.same_reader nothing) ∙ c.requires.place ∙ sym (ap (λ s. s.kept.place) c.self.view_is)
-    ∙ sym (ap (λ k. k.place) (c.advance_acts-used.ensures.same_kept nothing))
-
-pub advance_events-requires-clause-going : goal.advance_events-requires-clause-going
-advance_events-requires-clause-going c = ap (λ r. r.malformed) (c.advance_acts-used.ensures.same_reader (omega (arith, c.if-used-gt0.false))) ∙ c.requires.going
-
-pub advance_events-requires-clause-alike : goal.advance_events-requires-clause-alike
-advance_events-requires-clause-alike c =
-    let nothing : c.advance_acts-used.result ≡ 0 = omega (arith, c.if-used-gt0.false) in
-    ap (λ r. r.lines) (c.advance_acts-used.ensures.same_reader nothing) ∙ c.requires.alike ∙ sym (ap (λ s. s.kept.lines) c.self.view_is)
-    ∙ sym (ap (λ k. k.lines) (c.advance_acts-used.ensures.same_kept nothing))
-
-pub advance_events-requires-clause-few : goal.advance_events-requires-clause-few
-advance_events-requires-clause-few c =
-    let nothing : c.advance_acts-used.result ≡ 0 = omega (arith, c.if-used-gt0.false) in
-    omega (arith, ap (λ k. k.lines) (c.advance_acts-used.ensures.same_kept nothing), ap (λ s. s.kept.lines) c.self.view_is, c.requires.few)
+    let kept = c.advance_acts-used.ensures.same_kept nothing in
+    let reader = c.advance_acts-used.ensures.same_reader nothing in
+    record {
+      safe = c.advance_acts-used.ensures.safe;
+      fronts = subst (λ fs. AreFronts c.self.inside.net.now fs) (sym c.deref-2.ensures.value) c.self.invariant.fronts;
+      bounded = c.advance_acts-used.ensures.bounded;
+      place = ap (λ r. r.place) reader ∙ c.requires.place ∙ sym (ap (λ s. s.kept.place) c.self.view_is) ∙ sym (ap (λ k. k.place) kept);
+      going = ap (λ r. r.malformed) reader ∙ c.requires.going;
+      alike = ap (λ r. r.lines) reader ∙ c.requires.alike ∙ sym (ap (λ s. s.kept.lines) c.self.view_is) ∙ sym (ap (λ k. k.lines) kept);
+      few = omega (arith, ap (λ k. k.lines) kept, ap (λ s. s.kept.lines) c.self.view_is, c.requires.few);
+    }
 
 pub invariant_of-self-2 : goal.invariant_of-self-2
 invariant_of-self-2 c =
