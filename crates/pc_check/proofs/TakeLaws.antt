@@ -1,7 +1,7 @@
 -- What a checker stands for after one more line.
 use Rattle.std.proofs.Common.{◌≡◌, ℕ, ◌+◌, List, [], ◌∷◌, ◌++◌, length, Option, Some, None, sym, ap, subst, ◌∙◌, arith, length-append}
 use Rattle.std.proofs.lemmas.Bool.{eqb-true, and_parts}
-use Rattle.std.specs.Prelude.{IfNone}
+use Rattle.std.specs.Prelude.{IfNone, IsSome}
 use Rattle.pc_text.specs.Fields.{◌>>=◌}
 use Rattle.pc_cert.specs.Grammar.{next}
 use Rattle.pc_cert.specs.Text.{ran}
@@ -82,6 +82,12 @@ pub stays : (net : PricedNetwork) (kept : Kept) (found : Option Fail) (lines : L
     found ≡ Some fail → Stands net kept found lines → Stands net kept found (lines ++ line ∷ [])
 stays net kept found lines line fail is h =
     subst (λ f. Stands net kept f (lines ++ line ∷ [])) (sym is) (failure_of-more net lines (line ∷ []) fail (subst (λ f. Stands net kept f lines) is h))
+
+-- where the line is not allowed, a failure is kept
+pub stays_failed : (net : PricedNetwork) (kept : Kept) (found : Option Fail) (lines : List CertLine) (line : CertLine) →
+    IfNone found (IsSome (next kept.place line)) → next kept.place line ≡ None → Stands net kept found lines → Stands net kept found (lines ++ line ∷ [])
+stays_failed net kept None lines line allowed none h = absurd (subst (λ behind. IsSome behind) none allowed)
+stays_failed net kept (Some fail) lines line allowed none h = failure_of-more net lines (line ∷ []) fail h
 
 -- none is kept
 pub is_going : (net : PricedNetwork) (kept : Kept) (found : Option Fail) (lines : List CertLine) → found ≡ None → Stands net kept found lines → IsGoing net kept lines

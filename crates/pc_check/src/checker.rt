@@ -87,12 +87,10 @@ impl<'n> Checker<'n> {
         ensures few { IfNone result (self.new.kept.lines < 2 ^ 63) }
         ensures left { IfNone result (lines_left self.new.net self.new.kept < lines_left self.old.net self.old.kept) }
     {
-        if let Some(fail) = self.fail {
-            return Some(fail);
-        }
         match self.kept.place.next(&line) {
             Some(behind) => self.take_known(&KnownLine::of(line), &line, behind),
-            None => unreachable!(),
+            // Only after a failure may a line come that is not allowed.
+            None => self.fail,
         }
     }
 

@@ -28,18 +28,10 @@ pub(crate) fn stepped(
     ensures short { sum_of result ≤ sum_of at + MAX_DURATION }
 {
     let here = at?;
-    let a = named(net, code)?;
-    further(net, here, a, is_crash)
-}
-
-/// The activity with this code.
-fn named(net: &CrashNet<'_>, code: &Code) -> Option<u32>
-    ensures index { result ≡ index_of code.now 0 net.now.activities }
-    ensures known { IfSome result (λ a. a < length net.now.network.arcs) }
-{
-    // For the fact that each activity has one code, and no two have the same.
+    // Each activity has one code, and no two have the same.
     net.facts();
-    net.activity_named(code)
+    let a = net.activity_named(code)?;
+    further(net, here, a, is_crash)
 }
 
 fn further(net: &CrashNet<'_>, here: Reached, a: u32, is_crash: bool) -> Option<Reached>
