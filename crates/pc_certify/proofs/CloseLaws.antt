@@ -71,7 +71,8 @@ module _ (net : PricedNetwork) (priced : IsPriced net.network net.terms (knees_i
       (sum_to-same ((knees_in net).count a) (slice_index (flows_along net seg a)) (seg.flow a) (λ k within. flow_is net seg a k within))
       ∙ ap (λ n. sum_to ((knees_in net).count a) (seg.flow a) + n) (beside_is net seg a)
 
-  same_flow_at : (event_of : ℕ → ℕ) (e : ℕ) → e < net.network.events → flow_at net (part_of net seg) event_of e ≡ at_event (length net.network.arcs) event_of (whole_flow (knees_in net) seg.flow seg.beside) e
+  same_flow_at : (event_of : ℕ → ℕ) (e : ℕ) → e < net.network.events →
+      flow_at net (part_of net seg) event_of e ≡ at_event (length net.network.arcs) event_of (whole_flow (knees_in net) seg.flow seg.beside) e
   same_flow_at event_of e lt =
       flow_at-whole net (part_of net seg) event_of e all_acts lt
       ∙ sum_to-same (length net.network.arcs) (λ a. if event_of a == e then flow_along net (part_of net seg) a else 0)

@@ -77,7 +77,9 @@ module _ (net : PricedNetwork) (priced : IsPriced net.network net.terms (knees_i
         (Pass-one net (in_body normal crash segments (acts_part net seg j)) (act_line net seg j) (act_passes j (omega arith)))
 
     close_passes : reason_at net (in_body normal crash segments (part_of net seg)) Close ≡ None
-    close_passes = close_holds net (said net (in_body normal crash segments (part_of net seg))) whole.right.proper.ordered (ends net priced seg (in_body normal crash segments (part_of net seg)) refl whole)
+    close_passes =
+        let draft = in_body normal crash segments (part_of net seg) in
+        close_holds net (said net draft) whole.right.proper.ordered (ends net priced seg draft refl whole)
 
     -- the lines of the segment, where its first one passes
     pub segment_passes : (before : Part) → reason_at net (in_body normal crash segments before) (ends_line seg) ≡ None

@@ -292,7 +292,8 @@ module _ (net : PricedNetwork) (part : Part) (row : ActRow) where
       ≡ old.cut.backward + backward_by net (segment_in net part) (length part.acts)
   backward_there old seg = ap (λ s. old.cut.backward + backward_by net s (length part.acts)) seg
 
-  stops_there : (old : Tally) → stretch_of old ≡ outline part → (old.cut.stops || stops_in net (stretch_of old) (length part.acts)) ≡ (old.cut.stops || stops_in net (segment_in net part) (length part.acts))
+  stops_there : (old : Tally) → stretch_of old ≡ outline part →
+      (old.cut.stops || stops_in net (stretch_of old) (length part.acts)) ≡ (old.cut.stops || stops_in net (segment_in net part) (length part.acts))
   stops_there old seg = ap (λ s. old.cut.stops || stops_in net s (length part.acts)) seg
 
   -- an activity

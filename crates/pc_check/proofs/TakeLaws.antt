@@ -1,5 +1,5 @@
 -- What a checker stands for after one more line.
-use Rattle.std.proofs.Common.{◌≡◌, ℕ, ◌+◌, List, [], ◌∷◌, ◌++◌, length, Option, Some, None, sym, ap, subst, ◌∙◌, arith, length-append}
+use Rattle.std.proofs.Common.{◌≡◌, ℕ, ◌+◌, true, false, List, [], ◌∷◌, ◌++◌, length, Option, Some, None, sym, ap, subst, ◌∙◌, arith, length-append}
 use Rattle.std.proofs.lemmas.Bool.{eqb-true, and_parts}
 use Rattle.std.specs.Prelude.{IfNone, IsSome}
 use Rattle.pc_text.specs.Fields.{◌>>=◌}
@@ -86,7 +86,7 @@ stays net kept found lines line fail is h =
 -- where the line is not allowed, a failure is kept
 pub stays_failed : (net : PricedNetwork) (kept : Kept) (found : Option Fail) (lines : List CertLine) (line : CertLine) →
     IfNone found (IsSome (next kept.place line)) → next kept.place line ≡ None → Stands net kept found lines → Stands net kept found (lines ++ line ∷ [])
-stays_failed net kept None lines line allowed none h = absurd (subst (λ behind. IsSome behind) none allowed)
+stays_failed net kept None lines line allowed none h = absurd (let e : false ≡ true = subst (λ behind. IsSome behind) none allowed in cc)
 stays_failed net kept (Some fail) lines line allowed none h = failure_of-more net lines (line ∷ []) fail h
 
 -- none is kept

@@ -1,5 +1,5 @@
 //! Taking the rows of activities that occur again, several after one another.
-ghost use Rattle.std.specs.Prelude.{◌≡◌, ◌≢◌, ◌+◌, ◌^◌, ◌<◌, ◌≤◌, None, IfSome, length};
+ghost use Rattle.std.specs.Prelude.{◌≡◌, ◌≢◌, ◌+◌, ◌<◌, ◌≤◌, IfSome, length};
 ghost use Rattle.pc_check.specs.inside.Rows.{AddsLine, across_at};
 ghost use Rattle.pc_check.specs.inside.Along.{HasAdvanced, MayAdvance};
 ghost use Rattle.pc_check.specs.inside.Kept.{known_by, stretch_of};

@@ -1,5 +1,5 @@
 //! Taking the rows of events, several after one another: each is read by its beginning.
-ghost use Rattle.std.specs.Prelude.{◌≡◌, ◌≢◌, ◌^◌, ◌<◌, None, length};
+ghost use Rattle.std.specs.Prelude.{◌≡◌, ◌≢◌, ◌<◌, length};
 ghost use Rattle.pc_check.specs.inside.Rows.{AddsLine, AreEnds};
 ghost use Rattle.pc_check.specs.inside.Along.{HasAdvanced, MayAdvance};
 ghost use Rattle.pc_check.specs.inside.Fronts.{AreFronts};

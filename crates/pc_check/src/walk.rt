@@ -1,7 +1,7 @@
 //! The two walks of a certificate, step by step.
-ghost use Rattle.std.specs.Prelude.{◌≡◌, ◌+◌, ◌^◌, ◌<◌, ◌≤◌, length, IfSome};
+ghost use Rattle.std.specs.Prelude.{◌≡◌, ◌+◌, ◌^◌, ◌<◌, ◌≤◌, length};
 ghost use Rattle.pc_model.specs.declared.limits.TheConstants.{MAX_DURATION};
-ghost use Rattle.pc_check.specs.Walks.{length_in, index_of, further, stepped, is_through};
+ghost use Rattle.pc_check.specs.Walks.{length_in, further, stepped, is_through};
 ghost use Rattle.pc_check.specs.inside.Walks.{sum_of};
 
 use pc_crash::CrashNet;

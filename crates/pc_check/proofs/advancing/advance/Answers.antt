@@ -1,4 +1,4 @@
-use Rattle.std.proofs.Common.{◌^◌, ◌<◌, ◌≤◌, length, refl, sym, ap, subst, ◌∙◌, arith}
+use Rattle.std.proofs.Common.{◌^◌, ◌<◌, refl, sym, ap, subst, ◌∙◌, arith}
 use Rattle.pc_check.specs.inside.Bounds.{IsBounded}
 use Rattle.pc_check.proofs.BoundLaws.{Passes, bounded_behind, fewer_behind, may_be_added, lines_few, lines_kept}
 use Rattle.pc_check.specs.inside.Reasons.{reason_of}

@@ -1,4 +1,4 @@
-use Rattle.std.proofs.Common.{◌≡◌, ◌<◌, ◌≤◌, length, set, refl, ap, subst, ◌∙◌, arith}
+use Rattle.std.proofs.Common.{◌≡◌, ◌<◌, length, set, refl, ap, subst, ◌∙◌, arith}
 use Rattle.std.specs.Prelude.{slice_index}
 use Rattle.pc_model.specs.Walk.{from_of, to_of}
 use Rattle.pc_check.specs.declared.passed.Passed.{Passed}
@@ -45,7 +45,8 @@ exchange-requires-clause-small c =
     let event_of = to_of net.network.arcs in
     let to : c.to-to.result ≡ event_of tally.acts = c.to-to.ensures.event ∙ ap (λ n. to_of n.arcs tally.acts) c.net.ensures.network in
     let there : event_of tally.acts < net.network.events = omega (arith, c.to-to.ensures.known, to, ap (λ n. n.events) c.net.ensures.network) in
-    omega (arith, c.facts.ensures.activities, ap (slice_index tally.inflow.items) to, sum_small event_of tally.inflow.items (event_of tally.acts) c.requires.safe.rows c.requires.safe.inflow there, c.requires.passed.small)
+    let small = sum_small event_of tally.inflow.items (event_of tally.acts) c.requires.safe.rows c.requires.safe.inflow there in
+    omega (arith, c.facts.ensures.activities, ap (slice_index tally.inflow.items) to, small, c.requires.passed.small)
 
 pub exchange-requires-2-clause-there : goal.exchange-requires-2-clause-there
 exchange-requires-2-clause-there c =
@@ -69,7 +70,8 @@ exchange-requires-2-clause-small c =
     let event_of = from_of net.network.arcs in
     let from : c.from-from.result ≡ event_of tally.acts = c.from-from.ensures.event ∙ ap (λ n. from_of n.arcs tally.acts) c.net-2.ensures.network in
     let there : event_of tally.acts < net.network.events = omega (arith, c.from-from.ensures.known, from, ap (λ n. n.events) c.net-2.ensures.network) in
-    omega (arith, c.facts.ensures.activities, ap (slice_index tally.outflow.items) from, sum_small event_of tally.outflow.items (event_of tally.acts) c.requires.safe.rows c.requires.safe.outflow there, c.requires.passed.small)
+    let small = sum_small event_of tally.outflow.items (event_of tally.acts) c.requires.safe.rows c.requires.safe.outflow there in
+    omega (arith, c.facts.ensures.activities, ap (slice_index tally.outflow.items) from, small, c.requires.passed.small)
 
 pub overflow_sub-tally : goal.overflow_sub-tally
 overflow_sub-tally c =

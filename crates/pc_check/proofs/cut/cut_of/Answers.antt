@@ -9,10 +9,12 @@ pub returns : goal.returns
 returns c = record {
   forward = c.rises_if.ensures.sum
       ∙ ap (λ list. if c.args.crossing.now.forward then rises_over c.args.crossing.now.lower.head c.args.crossing.now.lower.tail list else 0) c.as_slice-knees.ensures
-      ∙ rises_if-list (knees_in c.args.net.now) c.args.a c.knees-list.result c.knees-list.ensures _ _ _ _ _ _ c.requires.crossing.forward c.requires.crossing.lower_head c.requires.crossing.lower_tail;
+      ∙ rises_if-list (knees_in c.args.net.now) c.args.a c.knees-list.result c.knees-list.ensures _ _ _ _ _ _
+      c.requires.crossing.forward c.requires.crossing.lower_head c.requires.crossing.lower_tail;
   backward = c.rises_if-2.ensures.sum
       ∙ ap (λ list. if c.args.crossing.now.backward then rises_over c.args.crossing.now.upper.head c.args.crossing.now.upper.tail list else 0) c.as_slice-knees.ensures
-      ∙ rises_if-list (knees_in c.args.net.now) c.args.a c.knees-list.result c.knees-list.ensures _ _ _ _ _ _ c.requires.crossing.backward c.requires.crossing.upper_head c.requires.crossing.upper_tail;
+      ∙ rises_if-list (knees_in c.args.net.now) c.args.a c.knees-list.result c.knees-list.ensures _ _ _ _ _ _
+      c.requires.crossing.backward c.requires.crossing.upper_head c.requires.crossing.upper_tail;
   stops = c.stops.ensures
       ∙ ap (λ list. stops_over c.args.crossing.now c.term.result.crash list) c.as_slice-knees.ensures
       ∙ ap (λ term. stops_over c.args.crossing.now term.crash c.knees-list.result) c.term.ensures

@@ -1,4 +1,4 @@
-use Rattle.std.proofs.Common.{◌≡◌, ◌+◌, ◌<◌, ◌≤◌, drop, length, sym, ap, subst, arith}
+use Rattle.std.proofs.Common.{◌≡◌, ◌+◌, ◌<◌, drop, sym, ap, subst, arith}
 use Rattle.std.proofs.lemmas.List.{take_all, length-drop}
 use Rattle.pc_check.proofs.AlongLaws.{IsAlong, along_begins, along_ends, along_more, none_taken}
 use Rattle.pc_check.proofs.event_rows.advance_events.Goals as goal
@@ -43,7 +43,8 @@ overflow_sub-result c = omega (arith, c.loop-ends.invariant.left.long)
 pub returns : goal.returns
 returns c =
     let nothing : c.add_row-used.result ≡ 0 = omega (arith, c.if-used-eq0.true) in
-    along_ends c.go_on.new.self c.add_row-used.new.place c.add_row-used.new.kept c.loop-ends.invariant (c.add_row-used.ensures.same_place nothing) (c.add_row-used.ensures.same_kept nothing) c.go_on.ensures
+    along_ends c.go_on.new.self c.add_row-used.new.place c.add_row-used.new.kept c.loop-ends.invariant
+    (c.add_row-used.ensures.same_place nothing) (c.add_row-used.ensures.same_kept nothing) c.go_on.ensures
 
 pub returns-then-not-is_between : goal.returns-then-not-is_between
 returns-then-not-is_between c = none_taken c.args.piece.now c.requires
