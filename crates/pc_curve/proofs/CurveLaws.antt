@@ -22,7 +22,7 @@ abbrev pub IsPricedThere : Course → Type 0
 IsPricedThere c = IsPriced c.net.network c.net.terms (knees_in c.net)
 
 -- what is known of a network is known of that of its solver
-pub priced-there : (net : PricedNetwork) (c : Course) → c.net ≡ net → IsPriced net.network net.terms (knees_in net) → IsPricedThere c
+priced-there : (net : PricedNetwork) (c : Course) → c.net ≡ net → IsPriced net.network net.terms (knees_in net) → IsPricedThere c
 priced-there net c same priced = subst (λ (n : PricedNetwork). IsPriced n.network n.terms (knees_in n)) (sym same) priced
 
 -- what is read from the present segment for a length that it holds is right

@@ -147,7 +147,7 @@ fn break_after<L: Ledger>(
     match last {
         None => {
             // What is known of the network says that the least costs are those of a curve.
-            let _net = solver.net().net();
+            solver.facts();
             solver.next_segment(steps);
             Some(break_at_upper(solver))
         }
@@ -168,7 +168,7 @@ fn break_below<L: Ledger>(solver: &mut Solver<'_>, last: u64, steps: &mut Steps<
     ensures counted { steps.new ≤ steps.old + most_looks solver.old solver.new }
 {
     // At any time a solver's slope is at most the sum of the last slopes.
-    let _given = solver.given();
+    solver.facts();
     if last == solver.shortest() {
         None
     } else {
@@ -187,10 +187,8 @@ fn next_turn<L: Ledger>(solver: &mut Solver<'_>, last: u64, steps: &mut Steps<L>
     ensures gentle { solver.new.slope ≤ slopes_in solver.new.net }
     ensures counted { steps.new ≤ steps.old + most_looks solver.old solver.new }
 {
-    // What is known of the network says that the least costs are those of a curve.
-    let _net = solver.net().net();
-    // The present segment is on the curve.
-    let _given = solver.given();
+    // What is known of the network says that the least costs are those of a curve, and the present segment is on it.
+    solver.facts();
     let mut slope = solver.slope();
     while solver.next_segment(steps) {
         if solver.slope() != slope && solver.upper() < last {

@@ -33,8 +33,7 @@ pub fn put_curve<O: Sink, L: Ledger>(
     ensures counted { steps.new ≤ steps.old + most_looks solver.old solver.new }
 {
     // Which lengths the two ends of the curve are.
-    let _longest = solver.longest();
-    let _shortest = solver.shortest();
+    solver.facts();
     let mut breaks = Breaks::new();
     while let Some(point) = breaks.next(solver, steps) {
         put_break(page, sink, &point);

@@ -67,7 +67,7 @@ pub fn point_at<L: Ledger>(
 {
     let net = solver.net();
     // What is known of the network says that what is read is a cheapest schedule.
-    let _net = net.net();
+    net.facts();
     let cost = cost_at(solver, length, steps);
     read_times(net, solver, length, times);
     read_durations(net, times, durations);
@@ -81,6 +81,8 @@ fn read_times(net: &CrashNet<'_>, solver: &Solver<'_>, limit: u64, times: &mut [
     requires places { length times.old ≡ net.now.network.events }
     ensures { AreTimesRead net.now (present solver.now) limit times.new }
 {
+    // The network is priced, so that no time falls below 0.
+    net.facts();
     let fall = solver.upper() - limit;
     for e in 0..net.net().events() {
         let time = solver.time(e);
@@ -130,7 +132,7 @@ pub(crate) fn least_cost_for(solver: &Solver<'_>, length: u64) -> u64
     ensures least { curve_in solver.now.net length result }
 {
     // What is known of the network says that no cost is too large.
-    let _net = solver.net().net();
+    solver.facts();
     solver.cost() + solver.slope() * (solver.upper() - length)
 }
 
@@ -155,5 +157,6 @@ fn is_as_low(solver: &Solver<'_>, length: u64) -> bool
     ensures whole { solver.now.given ≡ true → IsOnCurve solver.now }
     ensures gentle { solver.now.slope ≤ slopes_in solver.now.net }
 {
+    solver.facts();
     solver.given() && solver.lower() <= length
 }

@@ -53,7 +53,7 @@ pub fn figures_of<L: Ledger>(solver: &mut Solver<'_>, steps: &mut Steps<L>) -> C
     ensures counted { steps.new ≤ steps.old + most_looks solver.old solver.new }
 {
     // What is known of the network says that the least costs are those of a curve.
-    let _net = solver.net().net();
+    solver.facts();
     let longest = solver.longest();
     let shortest = solver.shortest();
     first_segment(solver, steps);

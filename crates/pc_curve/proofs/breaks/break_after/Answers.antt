@@ -1,17 +1,16 @@
 use Rattle.std.proofs.Common.{◌≡◌, ◌∙◌, true, false, true≢false, inl, inr, sym, subst}
 use Rattle.std.proofs.lemmas.Bool.{cases_Bool}
 use Rattle.pc_curve.specs.inside.Breaks.{StandsBy, IsNextBreak}
-use Rattle.pc_curve.proofs.CurveLaws.{priced-there, first-break, first-place}
+use Rattle.pc_curve.proofs.CurveLaws.{first-break, first-place}
 use Rattle.pc_curve.proofs.breaks.break_after.Goals as goal
 
 pub returns-in-None-clause-next : goal.returns-in-None-clause-next
 returns-in-None-clause-next g c =
     let untouched : c.args.solver.now.given ≡ false = subst (λ last. StandsBy last c.args.solver.now) c.in-None.is c.requires.place in
-    let priced = priced-there c.net.result.now c.args.solver.now (sym c.net.ensures) c.net-net.ensures.priced in
     elim (cases_Bool c.next_segment.result) [
       | inl goes ↦
           subst (λ last. IsNextBreak c.args.solver.now last c.break_at_upper.result) (sym c.in-None.is)
-          (first-break c.args.solver.now c.next_segment.new.self c.break_at_upper.result priced untouched c.next_segment.ensures.same
+          (first-break c.args.solver.now c.next_segment.new.self c.break_at_upper.result c.facts.ensures.priced untouched c.next_segment.ensures.same
           (c.next_segment.ensures.next goes) (record {
             length = c.break_at_upper.ensures.length;
             cost = c.break_at_upper.ensures.cost;

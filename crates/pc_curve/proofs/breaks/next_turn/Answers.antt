@@ -3,17 +3,16 @@ use Rattle.pc_flow.specs.Courses.{lower_of}
 use Rattle.pc_flow.specs.inside.Courses.{present, HasEnded}
 use Rattle.pc_curve.specs.inside.Points.{IsThere}
 use Rattle.pc_flow.proofs.LookLaws.{same-joins, further-joins, looks-none, looks-join}
-use Rattle.pc_curve.proofs.CurveLaws.{priced-there, IsOnTheWay, way-begins, way-there, way-ends, ends-place, way-lower, way-goes_on, way-turns, turns-place}
+use Rattle.pc_curve.proofs.CurveLaws.{IsOnTheWay, way-begins, way-there, way-ends, ends-place, way-lower, way-goes_on, way-turns, turns-place}
 use Rattle.pc_curve.proofs.breaks.next_turn.Goals.{else-slope-via-then-slope+else-upper-last, else-slope-via-else-slope}
 use Rattle.pc_curve.proofs.breaks.next_turn.Goals as goal
 
 pub loop-solver-init : goal.loop-solver-init
 loop-solver-init g c =
     let from = c.args.solver.now in
-    let priced = priced-there c.net.result.now from (sym c.net.ensures) c.net-net.ensures.priced in
+    let priced = c.facts.ensures.priced in
     record {
-      way = way-begins from c.args.last priced c.requires.place (c.given-given.ensures.whole (c.given-given.ensures.given ∙ c.requires.place.given))
-          c.given-given.ensures.range;
+      way = way-begins from c.args.last priced c.requires.place (c.facts.ensures.whole c.requires.place.given) c.facts.ensures.range;
       slope = c.slope-slope.ensures;
       counted = omega (arith, looks-none from);
     }
@@ -21,7 +20,7 @@ loop-solver-init g c =
 pub returns-then-upper-last-clause-next : goal.returns-then-upper-last-clause-next
 returns-then-upper-last-clause-next g c =
     let from = c.args.solver.now in
-    let priced = priced-there c.net.result.now from (sym c.net.ensures) c.net-net.ensures.priced in
+    let priced = c.facts.ensures.priced in
     let stop = c.loop-solver.solver in
     let next = c.next_segment.new.self in
     let going : HasEnded stop → ⊥ = λ ended. true≢false (sym c.loop-solver-test.true ∙ c.next_segment.ensures.ended.1 ended) in
@@ -39,7 +38,7 @@ returns-then-upper-last-clause-next g c =
 pub returns-then-upper-last-clause-counted : goal.returns-then-upper-last-clause-counted
 returns-then-upper-last-clause-counted g c =
     let from = c.args.solver.now in
-    let priced = priced-there c.net.result.now from (sym c.net.ensures) c.net-net.ensures.priced in
+    let priced = c.facts.ensures.priced in
     let stop = c.loop-solver.solver in
     let next = c.next_segment.new.self in
     let going : HasEnded stop → ⊥ = λ ended. true≢false (sym c.loop-solver-test.true ∙ c.next_segment.ensures.ended.1 ended) in
@@ -53,7 +52,7 @@ returns-then-upper-last-clause-further g c =
 pub loop-solver-smaller : goal.loop-solver-smaller
 loop-solver-smaller g c =
     let from = c.args.solver.now in
-    let priced = priced-there c.net.result.now from (sym c.net.ensures) c.net-net.ensures.priced in
+    let priced = c.facts.ensures.priced in
     let stop = c.loop-solver.solver in
     let next = c.next_segment.new.self in
     let going : HasEnded stop → ⊥ = λ ended. true≢false (sym c.loop-solver-test.true ∙ c.next_segment.ensures.ended.1 ended) in
@@ -63,7 +62,7 @@ loop-solver-smaller g c =
 pub loop-solver-preserved : goal.loop-solver-preserved
 loop-solver-preserved g c =
     let from = c.args.solver.now in
-    let priced = priced-there c.net.result.now from (sym c.net.ensures) c.net-net.ensures.priced in
+    let priced = c.facts.ensures.priced in
     let stop = c.loop-solver.solver in
     let next = c.next_segment.new.self in
     let way = c.loop-solver.invariant.way in
@@ -85,7 +84,7 @@ loop-solver-preserved g c =
 pub break_at_lower-requires : goal.break_at_lower-requires
 break_at_lower-requires g c =
     let from = c.args.solver.now in
-    let priced = priced-there c.net.result.now from (sym c.net.ensures) c.net-net.ensures.priced in
+    let priced = c.facts.ensures.priced in
     let stop = c.loop-solver.solver in
     let stays : c.next_segment.new.self ≡ stop = c.next_segment.ensures.unchanged c.loop-solver-test.false in
     subst (λ d. IsThere d (lower_of d)) (sym stays) (way-there from c.args.last priced c.requires.place.within stop c.loop-solver.invariant.way)
@@ -93,7 +92,7 @@ break_at_lower-requires g c =
 pub returns-clause-next : goal.returns-clause-next
 returns-clause-next g c =
     let from = c.args.solver.now in
-    let priced = priced-there c.net.result.now from (sym c.net.ensures) c.net-net.ensures.priced in
+    let priced = c.facts.ensures.priced in
     let last = c.next_segment.new.self in
     let stays : last ≡ c.loop-solver.solver = c.next_segment.ensures.unchanged c.loop-solver-test.false in
     let way = subst (λ d. IsOnTheWay from c.args.last d) (sym stays) c.loop-solver.invariant.way in
@@ -107,7 +106,7 @@ returns-clause-next g c =
 pub returns-clause-place : goal.returns-clause-place
 returns-clause-place g c =
     let from = c.args.solver.now in
-    let priced = priced-there c.net.result.now from (sym c.net.ensures) c.net-net.ensures.priced in
+    let priced = c.facts.ensures.priced in
     let last = c.next_segment.new.self in
     let stays : last ≡ c.loop-solver.solver = c.next_segment.ensures.unchanged c.loop-solver-test.false in
     let way = subst (λ d. IsOnTheWay from c.args.last d) (sym stays) c.loop-solver.invariant.way in
@@ -130,7 +129,7 @@ break_at_upper-requires g c = (c.next_segment.ensures.next c.loop-solver-test.tr
 pub returns-then-upper-last-clause-place : goal.returns-then-upper-last-clause-place
 returns-then-upper-last-clause-place g c =
     let from = c.args.solver.now in
-    let priced = priced-there c.net.result.now from (sym c.net.ensures) c.net-net.ensures.priced in
+    let priced = c.facts.ensures.priced in
     let stop = c.loop-solver.solver in
     let next = c.next_segment.new.self in
     let going : HasEnded stop → ⊥ = λ ended. true≢false (sym c.loop-solver-test.true ∙ c.next_segment.ensures.ended.1 ended) in

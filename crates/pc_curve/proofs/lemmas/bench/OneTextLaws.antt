@@ -1,11 +1,10 @@
 -- A network has one text of figures.
-use Rattle.std.proofs.Common.{◌≡◌, ℕ, ◌+◌, ◌-◌, ◌<◌, ◌≤◌, List, length, refl, sym, ap, ◌∙◌, subst, arith}
-use Rattle.pc_model.specs.Sums.{sum_to}
+use Rattle.std.proofs.Common.{◌≡◌, ℕ, ◌+◌, ◌-◌, ◌≤◌, List, length, refl, sym, ap, ◌∙◌, subst, arith}
 use Rattle.pc_model.specs.Schedule.{AreTerms}
 use Rattle.pc_model.proofs.Schedules.Shortest.{shortest_below_schedule}
 use Rattle.pc_model.proofs.Sums.{sum_to-same}
 use Rattle.pc_model.proofs.Walks.WalkLaws.{greatest_unique}
-use Rattle.pc_laws.specs.Curve.{Breakpoint, AreBreakpoints}
+use Rattle.pc_laws.specs.Curve.{Breakpoint}
 use Rattle.pc_crash.specs.Priced.{PricedNetwork}
 use Rattle.pc_curve.specs.Points.{curve_in}
 use Rattle.pc_curve.proofs.OneTextLaws.{one_cost, one_points}

@@ -19,7 +19,7 @@ read c =
 -- and that it is small
 small : (c : After-upper) → c.cost.result + c.slope.result * (c.upper.result - c.args.length) ≤ 220000000000000000
 small c =
-    let known = rw c.net.ensures at c.net-net.ensures in
+    let known = c.facts.ensures in
     omega (
       arith,
       read c,
@@ -28,9 +28,8 @@ small c =
 
 pub returns-clause-least : goal.returns-clause-least
 returns-clause-least c =
-    let known = rw c.net.ensures at c.net-net.ensures in
     subst (curve_in c.args.solver.now.net c.args.length) (sym (read c))
-    (read-least c.args.solver.now.net known.priced c.args.solver.now refl c.args.length c.requires)
+    (read-least c.args.solver.now.net c.facts.ensures.priced c.args.solver.now refl c.args.length c.requires)
 
 pub overflow_mul-result : goal.overflow_mul-result
 overflow_mul-result c = omega (arith, small c)

@@ -4,32 +4,32 @@ use Rattle.pc_curve.proofs.points.point_at.Goals as goal
 
 pub read_durations-requires-clause-fit : goal.read_durations-requires-clause-fit
 read_durations-requires-clause-fit g c =
-    read-fit c.net-net.result.now c.net-net-2.ensures.priced c.cost_at-cost.new.solver (c.cost_at-cost.ensures.same.net ∙ sym c.net-net.ensures) c.args.length
+    read-fit c.net-net.result.now c.facts.ensures.priced c.cost_at-cost.new.solver (c.cost_at-cost.ensures.same.net ∙ sym c.net-net.ensures) c.args.length
     c.cost_at-cost.ensures.there c.read_times.new.times c.read_times.ensures
 
 pub returns-clause-schedule : goal.returns-clause-schedule
 returns-clause-schedule g c =
     rw (← c.net-net.ensures)
-    (read-schedule c.net-net.result.now c.net-net-2.ensures.priced c.cost_at-cost.new.solver (c.cost_at-cost.ensures.same.net ∙ sym c.net-net.ensures) c.args.length
+    (read-schedule c.net-net.result.now c.facts.ensures.priced c.cost_at-cost.new.solver (c.cost_at-cost.ensures.same.net ∙ sym c.net-net.ensures) c.args.length
     c.cost_at-cost.ensures.there c.read_times.new.times c.read_times.ensures c.read_durations.new.durations c.read_durations.ensures)
 
 pub returns-clause-ends : goal.returns-clause-ends
 returns-clause-ends g c =
     rw (← c.net-net.ensures)
-    (read-ends c.net-net.result.now c.net-net-2.ensures.priced c.cost_at-cost.new.solver (c.cost_at-cost.ensures.same.net ∙ sym c.net-net.ensures) c.args.length
+    (read-ends c.net-net.result.now c.facts.ensures.priced c.cost_at-cost.new.solver (c.cost_at-cost.ensures.same.net ∙ sym c.net-net.ensures) c.args.length
     c.cost_at-cost.ensures.there c.read_times.new.times c.read_times.ensures)
 
 pub returns-clause-costs : goal.returns-clause-costs
 returns-clause-costs g c =
     c.cost_at-cost.ensures.read
     ∙ rw (← c.net-net.ensures)
-    (read-costs c.net-net.result.now c.net-net-2.ensures.priced c.cost_at-cost.new.solver (c.cost_at-cost.ensures.same.net ∙ sym c.net-net.ensures) c.args.length
+    (read-costs c.net-net.result.now c.facts.ensures.priced c.cost_at-cost.new.solver (c.cost_at-cost.ensures.same.net ∙ sym c.net-net.ensures) c.args.length
     c.cost_at-cost.ensures.there c.read_times.new.times c.read_times.ensures c.read_durations.new.durations c.read_durations.ensures)
 
 pub returns-clause-durations : goal.returns-clause-durations
 returns-clause-durations g c =
     rw (← c.net-net.ensures)
-    (read-durations c.net-net.result.now c.net-net-2.ensures.priced c.cost_at-cost.new.solver (c.cost_at-cost.ensures.same.net ∙ sym c.net-net.ensures) c.args.length
+    (read-durations c.net-net.result.now c.facts.ensures.priced c.cost_at-cost.new.solver (c.cost_at-cost.ensures.same.net ∙ sym c.net-net.ensures) c.args.length
     c.cost_at-cost.ensures.there c.read_times.new.times c.read_times.ensures c.read_durations.new.durations c.read_durations.ensures)
 
 pub read_times-requires-clause-net : goal.read_times-requires-clause-net

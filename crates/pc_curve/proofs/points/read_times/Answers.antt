@@ -12,7 +12,7 @@ overflow_sub-times c =
       arith,
       c.upper.ensures,
       c.time-time.ensures,
-      fall-within c.args.net.now c.net.ensures.priced c.args.solver.now c.requires.net c.args.limit c.requires.there c.loop-e.e known c.moves.result
+      fall-within c.args.net.now c.facts.ensures.priced c.args.solver.now c.requires.net c.args.limit c.requires.there c.loop-e.e known c.moves.result
           c.moves.ensures c.if-moves.true,
     )
 
@@ -25,12 +25,12 @@ loop-e-preserved c =
           w.times-is
           ∙ ap (λ n. c.time-time.result - (n - c.args.limit)) c.upper.ensures
           ∙ ap (λ n. n - ((present c.args.solver.now).upper - c.args.limit)) c.time-time.ensures
-          ∙ time-falls c.args.net.now c.net.ensures.priced c.args.solver.now c.requires.net c.args.limit c.requires.there c.loop-e.e c.moves.result
+          ∙ time-falls c.args.net.now c.facts.ensures.priced c.args.solver.now c.requires.net c.args.limit c.requires.there c.loop-e.e c.moves.result
           c.moves.ensures w.if-moves.true
       | else-moves w ↦
           w.times-is
           ∙ c.time-time.ensures
-          ∙ time-stays c.args.net.now c.net.ensures.priced c.args.solver.now c.requires.net c.args.limit c.requires.there c.loop-e.e c.moves.result
+          ∙ time-stays c.args.net.now c.facts.ensures.priced c.args.solver.now c.requires.net c.args.limit c.requires.there c.loop-e.e c.moves.result
           c.moves.ensures w.if-moves.false
     ] in
     time-more (present c.args.solver.now) c.args.limit c.loop-e.e c.loop-e.times c.if-moves.times c.loop-e.invariant

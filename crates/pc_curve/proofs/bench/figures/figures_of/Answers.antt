@@ -19,7 +19,7 @@ loop-solver-init g c =
     let all_normal = c.longest-longest.ensures.all_normal in
     record {
       tallied = subst (IsTallied net longest shortest c.first_segment.new.solver) (sym c.first_tally-tally.ensures)
-          (tally-begins net (rw c.net.ensures at c.net-net.ensures).priced longest shortest c.longest-longest.ensures.limit from c.first_segment.new.solver along
+          (tally-begins net c.facts.ensures.priced longest shortest c.longest-longest.ensures.limit from c.first_segment.new.solver along
           c.first_segment.ensures.same c.first_segment.ensures.next c.requires all_normal);
       same = c.first_segment.ensures.same;
       further = c.first_segment.ensures.further;
@@ -30,7 +30,7 @@ pub next_tally-tally-requires-clause-small : goal.next_tally-tally-requires-clau
 next_tally-tally-requires-clause-small g c =
     let so_far = c.loop-solver.invariant.tallied in
     let going : HasEnded c.loop-solver.solver → ⊥ = λ ended. true≢false (sym c.loop-solver-test.true ∙ c.next_segment.ensures.ended.1 ended) in
-    tally-numbers c.args.solver.now.net (rw c.net.ensures at c.net-net.ensures).priced c.longest-longest.result c.shortest-shortest.result c.longest-longest.ensures.limit
+    tally-numbers c.args.solver.now.net c.facts.ensures.priced c.longest-longest.result c.shortest-shortest.result c.longest-longest.ensures.limit
     c.loop-solver.solver c.next_segment.new.self so_far.along c.next_segment.ensures.same (c.next_segment.ensures.next c.loop-solver-test.true)
     c.loop-solver.tally so_far going
 
@@ -38,7 +38,7 @@ pub loop-solver-smaller : goal.loop-solver-smaller
 loop-solver-smaller g c =
     let so_far = c.loop-solver.invariant.tallied in
     let going : HasEnded c.loop-solver.solver → ⊥ = λ ended. true≢false (sym c.loop-solver-test.true ∙ c.next_segment.ensures.ended.1 ended) in
-    tally-lower c.args.solver.now.net (rw c.net.ensures at c.net-net.ensures).priced c.longest-longest.result c.shortest-shortest.result c.longest-longest.ensures.limit
+    tally-lower c.args.solver.now.net c.facts.ensures.priced c.longest-longest.result c.shortest-shortest.result c.longest-longest.ensures.limit
     c.loop-solver.solver c.next_segment.new.self so_far.along c.next_segment.ensures.same (c.next_segment.ensures.next c.loop-solver-test.true)
     c.loop-solver.tally so_far going
 
@@ -52,7 +52,7 @@ loop-solver-preserved g c =
     let before = c.loop-solver.invariant in
     record {
       tallied = subst (IsTallied c.args.solver.now.net c.longest-longest.result c.shortest-shortest.result c.next_segment.new.self) (sym c.next_tally-tally.ensures)
-          (tally-grows c.args.solver.now.net (rw c.net.ensures at c.net-net.ensures).priced c.longest-longest.result c.shortest-shortest.result c.longest-longest.ensures.limit
+          (tally-grows c.args.solver.now.net c.facts.ensures.priced c.longest-longest.result c.shortest-shortest.result c.longest-longest.ensures.limit
           c.loop-solver.solver c.next_segment.new.self so_far.along c.next_segment.ensures.same (c.next_segment.ensures.next c.loop-solver-test.true)
           c.loop-solver.tally so_far going);
       same = same-joins from stop next before.same c.next_segment.ensures.same;
@@ -78,7 +78,7 @@ returns-clause-figures g c =
     let from = c.args.solver.now in
     let longest = c.longest-longest.result in
     let shortest = c.shortest-shortest.result in
-    let priced = (rw c.net.ensures at c.net-net.ensures).priced in
+    let priced = c.facts.ensures.priced in
     let limit = c.longest-longest.ensures.limit in
     let along : IsAlong net longest shortest from =
     record { same_net = refl; same_longest = sym c.longest-longest.ensures.longest; same_shortest = sym c.shortest-shortest.ensures.shortest } in
@@ -130,7 +130,7 @@ first_tally-tally-requires-clause-small g c =
     let shortest = c.shortest-shortest.result in
     let along : IsAlong net longest shortest from =
     record { same_net = refl; same_longest = sym c.longest-longest.ensures.longest; same_shortest = sym c.shortest-shortest.ensures.shortest } in
-    (tally-begins net (rw c.net.ensures at c.net-net.ensures).priced longest shortest c.longest-longest.ensures.limit from c.first_segment.new.solver along
+    (tally-begins net c.facts.ensures.priced longest shortest c.longest-longest.ensures.limit from c.first_segment.new.solver along
     c.first_segment.ensures.same c.first_segment.ensures.next c.requires c.longest-longest.ensures.all_normal).numbers
 
 pub cost_at_lower-requires-clause-given : goal.cost_at_lower-requires-clause-given
