@@ -60,8 +60,7 @@ pub fn best<L: Ledger>(solver: &mut Solver<'_>, terms: &TimeTerms, steps: &mut S
 {
     // What is known of the network says that the least costs are those of a curve, and before the first segment nothing
     // has fallen.
-    let _net = solver.net().net();
-    let _given = solver.given();
+    solver.facts();
     // What one unit more saves where the next segment begins.
     let mut gain = 0;
     while solver.next_segment(steps) {
@@ -102,12 +101,12 @@ fn best_at<L: Ledger>(
     ensures range { solver.new.shortest ≤ lower_of solver.new }
 {
     // What is known of the network says that the least costs are those of a curve.
-    let _net = solver.net().net();
+    solver.facts();
     let shortest = solver.shortest();
     let longest = solver.longest();
     let direct = cost_at(solver, length, steps);
     // At any time a solver's slope is at most the sum of the last slopes, and its lower end is in the range.
-    let _given = solver.given();
+    solver.facts();
     let time = time_cost(terms, length);
     Best {
         length,

@@ -9,7 +9,7 @@ use Rattle.pc_total.proofs.finding.best.Goals as goal
 
 come_down : (g : Over) (c : After-stop_in-stop g) → IsNextDown c.args.solver.now c.loop-solver.solver c.next_segment.new.self
 come_down g c = record {
-  priced = (rw c.net.ensures at c.net-net.ensures).priced;
+  priced = c.facts.ensures.priced;
   same = c.next_segment.ensures.same;
   further = c.next_segment.ensures.further;
   next = c.next_segment.ensures.next c.loop-solver-test.true;
@@ -87,7 +87,7 @@ returns-then-stop-lower-clause-limit g c =
     omega (
       arith,
       all,
-      looks-most from last (c.given-given.ensures.level (c.given-given.ensures.given ∙ c.requires.before)) (same-joins from next last same c.best_at.ensures.same)
+      looks-most from last (c.facts.ensures.level c.requires.before) (same-joins from next last same c.best_at.ensures.same)
           c.best_at.ensures.gentle c.best_at.ensures.range,
     )
 
@@ -161,7 +161,7 @@ returns-clause-limit g c =
     omega (
       arith,
       all,
-      looks-most from c.best_at-2.new.solver (c.given-given.ensures.level (c.given-given.ensures.given ∙ c.requires.before))
+      looks-most from c.best_at-2.new.solver (c.facts.ensures.level c.requires.before)
           (same-joins from last c.best_at-2.new.solver way.same c.best_at-2.ensures.same) c.best_at-2.ensures.gentle c.best_at-2.ensures.range,
     )
 

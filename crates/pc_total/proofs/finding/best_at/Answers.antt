@@ -9,13 +9,13 @@ use Rattle.pc_total.proofs.finding.best_at.Goals as goal
 
 pub overflow_cast-result : goal.overflow_cast-result
 overflow_cast-result g c =
-    let known = rw c.net.ensures at c.net-net.ensures in
+    let known = c.facts.ensures in
     let small = least-small c.args.solver.now.net known.priced known.limits known.pieces known.piece_limits c.args.length c.cost_at-direct.result c.cost_at-direct.ensures.least in
     omega (arith, ints, small)
 
 pub overflow_add-result : goal.overflow_add-result
 overflow_add-result g c =
-    let known = rw c.net.ensures at c.net-net.ensures in
+    let known = c.facts.ensures in
     let terms = c.args.terms.now in
     let limit : c.args.length ≤ MAX_LENGTH = omega (arith, c.requires.to_come.within, c.longest-longest.ensures.longest, c.longest-longest.ensures.limit) in
     omega (
@@ -29,7 +29,7 @@ overflow_add-result g c =
 
 pub returns-clause-best : goal.returns-clause-best
 returns-clause-best g c =
-    let known = rw c.net.ensures at c.net-net.ensures in
+    let known = c.facts.ensures in
     let terms = c.args.terms.now in
     let from = c.args.solver.now in
     let limit : c.args.length ≤ MAX_LENGTH = omega (arith, c.requires.to_come.within, c.longest-longest.ensures.longest, c.longest-longest.ensures.limit) in
@@ -65,4 +65,4 @@ pub above_at-requires-clause-small : goal.above_at-requires-clause-small
 above_at-requires-clause-small g c = c.requires.small_gain
 
 pub returns-clause-range : goal.returns-clause-range
-returns-clause-range g c = c.given-given.ensures.range
+returns-clause-range g c = c.facts-2.ensures.range
