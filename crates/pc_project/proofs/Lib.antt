@@ -4,7 +4,7 @@ pub mod CardLaws
 pub mod FitLaws
 pub mod LoopLaws
 pub mod MisfitLaws
-mod NumberLaws
+pub mod NumberLaws
 mod PlannedLaws
 mod RangeLaws
 mod CountLaws

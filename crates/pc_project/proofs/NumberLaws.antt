@@ -8,16 +8,16 @@ use Rattle.std.proofs.lemmas.List.Quantifiers.{position-Some}
 use Rattle.pc_deck.specs.Deck.{Deck, account_codes, act_codes, event_codes, item_codes, named_among, number_among, resource_codes}
 
 -- what is found stands somewhere
-found_at : (found : Option ℕ) → IsSome found → (i : ℕ) × (found ≡ Some i)
+pub found_at : (found : Option ℕ) → IsSome found → (i : ℕ) × (found ≡ Some i)
 found_at (Some i) known = (i, refl)
 found_at None known = absurd (false≢true known)
 
 -- a code that is found has a number below the count of codes, and it stands there
-record HasNumber (codes : List (List ℕ)) (code : List ℕ) : Type 0 where
-  within : number_among codes code < length codes
-  code_there : get_or codes (number_among codes code) [] ≡ code
+pub record HasNumber (codes : List (List ℕ)) (code : List ℕ) : Type 0 where
+  pub within : number_among codes code < length codes
+  pub code_there : get_or codes (number_among codes code) [] ≡ code
 
-has_number : (codes : List (List ℕ)) (code : List ℕ) → IsSome (named_among codes code) → HasNumber codes code
+pub has_number : (codes : List (List ℕ)) (code : List ℕ) → IsSome (named_among codes code) → HasNumber codes code
 has_number codes code known =
     let at = found_at (named_among codes code) known in
     let number : number_among codes code ≡ at.0 = ap (λ found. unwrap_or found (length codes)) at.1 in

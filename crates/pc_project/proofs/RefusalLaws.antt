@@ -8,7 +8,6 @@ use Rattle.pc_wbs.specs.declared.tree.ItemRow.{ItemRow}
 use Rattle.pc_wbs.proofs.ExactLaws.{IsTree-not_refused}
 use Rattle.pc_net.specs.declared.refusal.NetError.{NetError}
 use Rattle.pc_net.specs.declared.refusal.NetError.TheVariants as net
-use Rattle.pc_net.specs.Refusals.{IsNetError as IsNetRefusal}
 use Rattle.pc_net.proofs.RefusalLaws.{refused_is_not_sound}
 use Rattle.pc_deck.specs.declared.kinds.acct.AcctCard.{AcctCard}
 use Rattle.pc_deck.specs.declared.kinds.act.ActCard.{ActCard}
@@ -183,15 +182,10 @@ pub handed_on : {T E : Type 0} (P : E → Type 0) (result : Result T E) (error :
 handed_on P (Ok value) error is has = tt
 handed_on P (Err e) error is has = subst P (sym is) has
 
--- what a refusal that is told as one of the tree, or of the network, says
+-- what a refusal that is told as one of the tree says
 pub refused_by_tree : (deck : Deck) (result : DeckError) → HasNoMisfit deck → Refuses (IsTreeFault deck.items (rows_of deck)) result → Refuses (IsRefusedWith deck) result
 refused_by_tree deck (Fault fault) cards at = of_tree cards at
 refused_by_tree deck OutOfMemory cards at = tt
-
-pub refused_by_net : (deck : Deck) (e : NetError) (result : DeckError) → HasNoMisfit deck → IsTree (rows_of deck) →
-    IsNetRefusal (network_of deck) e → Refuses (λ fault. net_fault deck e ≡ Fault fault) result → Refuses (IsRefusedWith deck) result
-refused_by_net deck e (Fault fault) cards items refused is = of_network cards items e refused is
-refused_by_net deck e OutOfMemory cards items refused is = tt
 
 -- what a fault of leaves, of packages, of statuses and as-of, of amounts to go or of pieces says
 pub refused_by_leaves : (deck : Deck) (result : DeckError) → HasSoundPlan deck → Refuses (IsFirstFault (HasLeafFault deck)) result → Refuses (IsRefusedWith deck) result

@@ -3,7 +3,6 @@ ghost use Rattle.std.specs.Prelude.{◌≡◌, ◌<◌, All, length, IfOk, IfErr
 ghost use Rattle.pc_model.specs.Network.{IsSound};
 ghost use Rattle.pc_wbs.specs.Climb.{IsTree};
 ghost use Rattle.pc_net.specs.Refusals.{IsNetError};
-ghost use Rattle.pc_net.specs.declared.refusal.NetError.TheVariants as net;
 ghost use Rattle.pc_faults.specs.inside.First.{Refuses};
 ghost use Rattle.pc_project.specs.inside.Numbered.{AreNumbersOf};
 ghost use Rattle.pc_project.specs.Project.{network_of, rows_of};
@@ -32,41 +31,33 @@ pub(crate) fn net_of(alloc: Global, cards: &Cards, numbers: &Numbers) -> Result<
     let events = cards.events().len() as u32;
     match Net::build(alloc, events, numbers.start, numbers.end, &arcs) {
         Ok(net) => Ok(net),
-        Err(error) => Err(fault_of(alloc, cards, error)),
+        Err(error) => Err(DeckError::Fault(fault_of(alloc, cards, error)?)),
     }
 }
 
 /// Returns the fault that reports a refusal of the network.
-fn fault_of(alloc: Global, cards: &Cards, error: NetError) -> DeckError
+fn fault_of(alloc: Global, cards: &Cards, error: NetError) -> Result<Fault, AllocError>
     requires { IsNetError (network_of cards.now) error }
-    ensures { Refuses (λ fault. net_fault cards.now error ≡ DeckError.Fault fault) result }
+    ensures { IfOk result (λ fault. net_fault cards.now error ≡ DeckError.Fault fault) }
 {
     match error {
         NetError::StartEntered { arc } => {
             let card = act_card(cards, arc);
-            DeckError::Fault(Fault::enters_start(card.row, card.code))
+            Ok(Fault::enters_start(card.row, card.code))
         }
         NetError::EndLeft { arc } => {
             let card = act_card(cards, arc);
-            DeckError::Fault(Fault::leaves_end(card.row, card.code))
+            Ok(Fault::leaves_end(card.row, card.code))
         }
         NetError::Dangling { event, entered } => {
             let card = event_card(cards, event);
-            DeckError::Fault(Fault::dangling(card.row, card.code, entered))
+            Ok(Fault::dangling(card.row, card.code, entered))
         }
-        NetError::Cycle(acts) => match fault_of_cycle(alloc, cards, acts.as_slice()) {
-            Ok(fault) => DeckError::Fault(fault),
-            Err(_) => DeckError::OutOfMemory,
-        },
-        NetError::OutOfMemory => DeckError::OutOfMemory,
+        NetError::Cycle(cycle) => {
+            let acts = cycle.as_slice();
+            let names = codes_at(alloc, cards.act_codes(), acts)?;
+            Ok(Fault::cycle(act_card(cards, acts[0]).row, names))
+        }
+        NetError::OutOfMemory => Err(AllocError),
     }
-}
-
-fn fault_of_cycle(alloc: Global, cards: &Cards, acts: &[u32]) -> Result<Fault, AllocError>
-    requires some { 0 < length acts.now }
-    requires known { All (λ act. act < length cards.now.acts) acts.now }
-    ensures { IfOk result (λ fault. net_fault cards.now (net.Cycle acts.now) ≡ DeckError.Fault fault) }
-{
-    let names = codes_at(alloc, cards.act_codes(), acts)?;
-    Ok(Fault::cycle(act_card(cards, acts[0]).row, names))
 }

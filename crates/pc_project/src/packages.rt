@@ -34,10 +34,7 @@ pub(crate) fn check_packages(
     ensures first { IfErr result (Refuses (IsFirstUnevenFault cards.now)) }
 {
     let work = work_rows(alloc, cards, &numbers.placements)?;
-    match reconcile(alloc, tree, &numbers.accounts, &work) {
-        Ok(()) => Ok(()),
-        Err(uneven) => Err(fault_of(cards, uneven)),
-    }
+    reconcile(alloc, tree, &numbers.accounts, &work).map_err(|uneven| fault_of(cards, uneven))
 }
 
 /// Returns the fault that reports an uneven package.

@@ -123,44 +123,18 @@ fn frame_of(alloc: Global, cards: &Cards, numbers: &Numbers) -> Result<Frame, De
     // Called for the bound on each entry (`AreEntriesWithinLimits`), which the book's type keeps.
     let _entries = book.entries();
     check_costs(alloc, cards, numbers)?;
-    let mut frame = Frame {
+    let acts = cards.acts();
+    let unit_days = cards.project().unit_days;
+    Ok(Frame {
         tree,
         net,
         book,
         states,
-        places: Vec::new(alloc),
-        terms: Vec::new(alloc),
-        expected: Vec::new(alloc),
-        variances: Vec::new(alloc),
-    };
-    frame.fill(alloc, cards, &numbers.placements)?;
-    Ok(frame)
-}
-
-impl Frame {
-    /// Replaces the lists of activities by those of the cards.
-    fn fill(
-        &mut self,
-        alloc: Global,
-        cards: &Cards,
-        placements: &[Placement],
-    ) -> Result<(), AllocError>
-        requires ordered { All HasOrderedEstimates cards.now.acts }
-        requires placements { placements.now ≡ map (placement_of cards.now) cards.now.acts }
-        ensures lists { OnOk result (AreProjectLists cards.now self.new) }
-        ensures tree { self.new.tree ≡ self.old.tree }
-        ensures network { self.new.net ≡ self.old.net }
-        ensures entries { self.new.book ≡ self.old.book }
-        ensures states { self.new.states.items ≡ self.old.states.items }
-    {
-        let acts = cards.acts();
-        let unit_days = cards.project().unit_days;
-        self.places = places(alloc, placements)?;
-        self.terms = terms(alloc, acts)?;
-        self.expected = expected_times(alloc, acts, unit_days)?;
-        self.variances = variances(alloc, acts, unit_days)?;
-        Ok(())
-    }
+        places: places(alloc, &numbers.placements)?,
+        terms: terms(alloc, acts)?,
+        expected: expected_times(alloc, acts, unit_days)?,
+        variances: variances(alloc, acts, unit_days)?,
+    })
 }
 
 /// Checks that activities and accounts are on leaves, and that the budgets of each package are the costs of its

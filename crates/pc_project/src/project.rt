@@ -87,6 +87,13 @@ impl Model for Project {
 }
 
 impl Project {
+    /// Does nothing. Says what is known of every project, for a proof that needs it and asks for nothing else.
+    pub fn facts(&self)
+        ensures planned { IsPlanned self.now }
+    {
+        let _ = &self.cards;
+    }
+
     /// Returns the cards of the deck.
     pub fn cards(&self) -> &Cards
         ensures cards { result.now ≡ self.now.deck }

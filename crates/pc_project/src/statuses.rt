@@ -44,20 +44,9 @@ pub(crate) fn states_of(
     let activities = cards.acts().len() as u32;
     let statuses = Vec::from_slice(alloc, &numbers.statuses)?;
     let log = Log::build(alloc, activities, statuses)?;
-    states_in(alloc, cards, &log)
-}
-
-fn states_in(alloc: Global, cards: &Cards, log: &Log) -> Result<Vec<ActState>, DeckError>
-    requires activities { log.now.activities ≡ length cards.now.acts }
-    requires statuses { log.now.statuses ≡ statuses_in cards.now }
-    ensures states { IfOk result (λ states. AreStatesOf cards.now.project.start_day (statuses_in cards.now)
-        (length cards.now.acts) states.items) }
-    ensures ordered { OnOk result (HasNoDisorder cards.now) }
-    ensures first { IfErr result (Refuses (IsFirstFault (HasDisorder cards.now))) }
-{
-    match earliest(as_of_fault(cards), status_fault(cards, log)) {
+    match earliest(as_of_fault(cards), status_fault(cards, &log)) {
         Some(fault) => Err(DeckError::Fault(fault)),
-        None => Ok(states(alloc, cards, log)?),
+        None => Ok(states(alloc, cards, &log)?),
     }
 }
 

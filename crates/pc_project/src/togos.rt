@@ -28,16 +28,14 @@ pub(crate) fn book_of(alloc: Global, cards: &Cards, numbers: &Numbers) -> Result
     ensures first { IfErr result (Refuses (IsFirstSecondToGo cards.now)) }
 {
     let as_of = as_of(cards);
-    match Book::build(
+    Book::build(
         alloc,
         &numbers.accounts,
         &numbers.charges,
         &numbers.togos,
         as_of,
-    ) {
-        Ok(book) => Ok(book),
-        Err(error) => Err(fault_of(cards, error)),
-    }
+    )
+    .map_err(|error| fault_of(cards, error))
 }
 
 /// Returns the fault that reports a second amount to go.

@@ -7,12 +7,12 @@ use Rattle.pc_model.specs.Network.{IsInRange, IsSound, Network}
 use Rattle.pc_faults.specs.declared.kind.Kind.TheVariants.{Act}
 use Rattle.pc_net.specs.Refusals.{IsNetError}
 use Rattle.pc_project.specs.Project.{arc_of, network_of}
+use Rattle.pc_project.specs.Refusal.{of_network}
 use Rattle.pc_project.specs.inside.Numbered.{AreNumbersOf}
 use Rattle.pc_project.specs.inside.Project.{placement_of}
 use Rattle.pc_project.specs.declared.numbers.Numbers.{Numbers}
 use Rattle.pc_project.specs.declared.placed.Placement.{Placement}
 use Rattle.pc_project.proofs.FitLaws.{network_of-in_range, network_of-is}
-use Rattle.pc_project.proofs.RefusalLaws.{refused_by_net}
 use Rattle.pc_project.proofs.network.net_of.Goals as goal
 
 -- the arcs of the placements are those of the cards
@@ -63,9 +63,9 @@ fault_of-requires c =
 
 pub returns-clause-refused : goal.returns-clause-refused
 returns-clause-refused c =
-    refused_by_net c.args.cards.now c.in-Err.error c.fault_of.result c.requires.numbers.faultless c.requires.tree
+    of_network c.requires.numbers.faultless c.requires.tree c.in-Err.error
     (subst (λ net. IsNetError net c.in-Err.error)
     (net_is c.args.cards.now c.args.numbers.now _ c.deref-2.result.now c.deref.result.now c.requires.numbers
     (ap length c.events.ensures.cards) (c.deref-2.ensures.value ∙ c.in_ok-arcs.ensures) c.deref.ensures.value)
     c.in-Err.ensures.refused)
-    c.fault_of.ensures
+    c.in_ok-fault_of-in-Err.ensures

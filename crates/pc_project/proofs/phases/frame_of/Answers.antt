@@ -1,8 +1,17 @@
-use Rattle.std.proofs.Common.{length, sym, ◌∙◌, ap, subst}
+use Rattle.std.proofs.Common.{◌≤◌, length, map, sym, ◌∙◌, ap, subst}
+use Rattle.std.specs.Prelude.{All}
 use Rattle.std.proofs.lemmas.List.{length-map}
+use Rattle.std.proofs.lemmas.Simd.{map-map}
+use Rattle.pc_model.specs.declared.limits.TheConstants.{MAX_UNIT_DAYS}
+use Rattle.pc_times.specs.Estimates.{expected_time, variance_of}
+use Rattle.pc_deck.specs.inside.Act.{IsActWithin}
+use Rattle.pc_deck.specs.declared.kinds.project.ProjectCard.{ProjectCard}
+use Rattle.pc_deck.proofs.NumberLemmas.{acts-within, project-within}
 use Rattle.pc_wbs.specs.Climb.{AreInRange, IsTree}
 use Rattle.pc_faults.specs.inside.First.{Refuses}
-use Rattle.pc_project.specs.Project.{row_of}
+use Rattle.pc_project.specs.Misfit.{HasOrderedEstimates}
+use Rattle.pc_project.specs.Project.{row_of, term_of}
+use Rattle.pc_project.specs.inside.Project.{placement_of}
 use Rattle.pc_project.specs.Refusal.{IsRefusedWith, IsTreeFault}
 use Rattle.pc_project.proofs.FitLaws.{all_fit, rows_of-in_range}
 use Rattle.pc_project.proofs.RefusalLaws.{handed_on, refused_by_statuses, refused_by_togos, refused_by_tree}
@@ -79,11 +88,46 @@ check_costs-requires-clause-figures c = record {
   once = c.in_ok-book.ensures.once;
 }
 
-pub fill-requires-clause-ordered : goal.fill-requires-clause-ordered
-fill-requires-clause-ordered c = λ k d within. (all_fit c.args.cards.now c.requires.faultless k d within).ordered
+pub expected_times-requires-clause-unit : goal.expected_times-requires-clause-unit
+expected_times-requires-clause-unit c =
+    subst (λ (card : ProjectCard). card.unit_days ≤ MAX_UNIT_DAYS) (sym c.project.ensures.card) (project-within c.args.cards.now c.acts-acts.ensures.within).unit_within
 
-pub fill-requires-clause-placements : goal.fill-requires-clause-placements
-fill-requires-clause-placements c = c.deref-2.ensures.value ∙ c.requires.lists.placements
+pub expected_times-requires-clause-within : goal.expected_times-requires-clause-within
+expected_times-requires-clause-within c =
+    subst (All IsActWithin) (sym c.acts-acts.ensures.cards) (acts-within c.args.cards.now c.acts-acts.ensures.within)
+
+pub variances-requires-clause-unit : goal.variances-requires-clause-unit
+variances-requires-clause-unit c =
+    subst (λ (card : ProjectCard). card.unit_days ≤ MAX_UNIT_DAYS) (sym c.project.ensures.card) (project-within c.args.cards.now c.acts-acts.ensures.within).unit_within
+
+pub variances-requires-clause-within : goal.variances-requires-clause-within
+variances-requires-clause-within c =
+    subst (All IsActWithin) (sym c.acts-acts.ensures.cards) (acts-within c.args.cards.now c.acts-acts.ensures.within)
+
+pub expected_times-requires-clause-ordered : goal.expected_times-requires-clause-ordered
+expected_times-requires-clause-ordered c =
+    subst (All HasOrderedEstimates) (sym c.acts-acts.ensures.cards) (λ k d within. (all_fit c.args.cards.now c.requires.faultless k d within).ordered)
+
+pub variances-requires-clause-ordered : goal.variances-requires-clause-ordered
+variances-requires-clause-ordered c =
+    subst (All HasOrderedEstimates) (sym c.acts-acts.ensures.cards) (λ k d within. (all_fit c.args.cards.now c.requires.faultless k d within).ordered)
+
+pub returns-clause-lists : goal.returns-clause-lists
+returns-clause-lists c =
+    let deck = c.args.cards.now in
+    let acts = c.acts-acts.ensures.cards in
+    let card = c.project.ensures.card in
+    record {
+      places = c.in_ok-places.ensures ∙ (ap (map (λ placement. placement.item)) (c.deref-2.ensures.value ∙ c.requires.lists.placements)
+          ∙ map-map (λ placement. placement.item) (placement_of deck) deck.acts);
+      terms = c.in_ok-terms.ensures ∙ ap (map term_of) acts;
+      expected = c.in_ok-expected_times.ensures
+          ∙ (ap (map (λ act. expected_time act.opt act.likely act.pess c.project.result.now.unit_days)) acts
+          ∙ ap (λ (card : ProjectCard). map (λ act. expected_time act.opt act.likely act.pess card.unit_days) deck.acts) card);
+      variances = c.in_ok-variances.ensures
+          ∙ (ap (map (λ act. variance_of act.opt act.pess c.project.result.now.unit_days)) acts
+          ∙ ap (λ (card : ProjectCard). map (λ act. variance_of act.opt act.pess card.unit_days) deck.acts) card);
+    }
 
 pub returns-clause-makes : goal.returns-clause-makes
 returns-clause-makes c = record {

@@ -1,7 +1,4 @@
-use Rattle.std.proofs.Common.{◌≡◌, ◌+◌, ◌∙◌, sym, ap, subst, None}
-use Rattle.std.specs.Prelude.{Option, Some}
-use Rattle.pc_faults.specs.declared.fault.Fault.{Fault}
-use Rattle.pc_faults.specs.inside.First.{earliest}
+use Rattle.std.proofs.Common.{◌+◌, ◌∙◌, sym, ap, subst}
 use Rattle.pc_faults.proofs.FirstLaws.{earliest-some}
 use Rattle.pc_project.proofs.LoopLaws.{IsFirstBefore, first_with, first_without, first_of_all, map_take_more}
 use Rattle.pc_project.proofs.refers.look_up_all.Goals.{in-Ok+in_ok-push-in-Ok, in-Err}

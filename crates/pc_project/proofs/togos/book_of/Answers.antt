@@ -1,4 +1,5 @@
-use Rattle.std.proofs.Common.{◌∙◌, length, sym, ap, subst, arith}
+use Rattle.std.proofs.Common.{◌≡◌, ◌∙◌, length, sym, ap, subst, arith}
+use Rattle.std.specs.Prelude.{Result, Ok, Err, OnOk, is_ok}
 use Rattle.std.proofs.lemmas.List.{length-map}
 use Rattle.pc_faults.specs.declared.kind.Kind.TheVariants.{Acct, Charge, ToGo}
 use Rattle.pc_accounts.specs.Amounts.{AreBudgets, AreMoney}
@@ -6,6 +7,12 @@ use Rattle.pc_accounts.specs.Second.{IsRepeated}
 use Rattle.pc_project.specs.Project.{account_of, accounts_in, money_of}
 use Rattle.pc_project.proofs.FigureLaws.{accounts_cheap, are_charges, are_togos}
 use Rattle.pc_project.proofs.togos.book_of.Goals as goal
+
+-- what holds where the one result is a value holds where the other is
+on_ok : {T E D P Q : Type 0} (one : Result T E) (other : Result T D) → is_ok other ≡ is_ok one → OnOk one P → (P → Q) → OnOk other Q
+on_ok one (Err error) same holds says = tt
+on_ok (Ok value) (Ok other) same holds says = says holds
+on_ok (Err error) (Ok other) same holds says = cc
 
 pub build-requires-clause-few_accounts : goal.build-requires-clause-few_accounts
 build-requires-clause-few_accounts c =
@@ -36,6 +43,7 @@ build-requires-clause-togos c =
     subst (λ n. AreMoney n c.deref-3.result.now) (sym (ap length (c.deref.ensures.value ∙ c.requires.lists.accounts)))
     (subst (AreMoney (length (accounts_in c.args.cards.now))) (sym (c.deref-3.ensures.value ∙ c.requires.lists.togos)) (are_togos c.args.cards.now c.requires.within c.requires.faultless))
 
-pub returns-in-Ok-clause-once : goal.returns-in-Ok-clause-once
-returns-in-Ok-clause-once c = λ k repeated.
-    c.in-Ok.ensures.once k (subst (λ togos. IsRepeated togos k) (sym (c.deref-3.ensures.value ∙ c.requires.lists.togos)) repeated)
+pub returns-clause-once : goal.returns-clause-once
+returns-clause-once c =
+    on_ok c.build.result c.map_err.result c.map_err.ensures.variant c.build.ensures.once
+    (λ once k repeated. once k (subst (λ togos. IsRepeated togos k) (sym (c.deref-3.ensures.value ∙ c.requires.lists.togos)) repeated))
