@@ -1,5 +1,5 @@
 -- The steps of a through walk come through.
-use Rattle.std.proofs.Common.{◌≡◌, ℕ, ◌+◌, ◌<◌, Bool, true, false, ◌&&◌, List, [], ◌∷◌, ◌++◌, length, Some, None, refl, sym, ap, subst, ◌∙◌, arith, append_assoc, append-nil}
+use Rattle.std.proofs.Common.{◌≡◌, ℕ, ◌+◌, ◌<◌, true, false, List, [], ◌∷◌, ◌++◌, length, Some, None, refl, sym, ap, subst, ◌∙◌, arith, append_assoc, append-nil}
 use Rattle.std.proofs.lemmas.Bool.{eq-eqb, cond-true, and_from}
 use Rattle.std.specs.Prelude.{map, slice_index, ◌==◌}
 use Rattle.pc_model.specs.Codes.{text_at}
@@ -24,7 +24,7 @@ codes_of net walk = map (λ a. text_at net.activities a) walk
 module _ (net : PricedNetwork) (names : AreNames (length net.network.arcs) net.activities) where
   -- an activity is found by its code
   named : (a : ℕ) → a < length net.network.arcs → index_of (text_at net.activities a) 0 net.activities ≡ Some a
-  named a lt = sym (named_is_index (Some a) (length net.network.arcs) (text_at net.activities a) net.activities names.one_each names.once lt refl tt)
+  named a lt = sym (named_is_index (Some a) (text_at net.activities a) names lt refl tt)
 
   -- a step along an activity that begins where the walk is
   one_step : (lengths : ℕ → ℕ) (at : Reached) (a : ℕ) → a < length net.network.arcs → from_of net.network.arcs a ≡ at.event
