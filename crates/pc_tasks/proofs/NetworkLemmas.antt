@@ -18,7 +18,7 @@ use Rattle.pc_tasks.specs.Drawn.{after_links, arrows_deck, first_link, last_link
 use Rattle.pc_tasks.specs.Known.{CanBeDrawn, IsKnownAfter}
 use Rattle.pc_tasks.specs.Lists.{after_row, afters_in}
 use Rattle.pc_tasks.proofs.EventLemmas as events
-use Rattle.pc_tasks.proofs.PlaceLemmas.{found-within}
+use Rattle.pc_project.proofs.NumberLaws.{has_number}
 
 -- an activity from one event to another
 abbrev arc : ℕ → ℕ → Arc
@@ -28,8 +28,8 @@ arc from to = record { from = from; to = to }
 pub task_number-within : (deck : Deck) (after : AfterCard) → IsKnownAfter deck after →
     (number_among (task_codes deck) after.task < length deck.tasks) × (number_among (task_codes deck) after.before < length deck.tasks)
 task_number-within deck after known = (
-  omega (arith, found-within after.task (task_codes deck) known.task, length-map deck.tasks (λ task. task.code)),
-  omega (arith, found-within after.before (task_codes deck) known.before, length-map deck.tasks (λ task. task.code)),
+  omega (arith, (has_number (task_codes deck) after.task known.task).within, length-map deck.tasks (λ task. task.code)),
+  omega (arith, (has_number (task_codes deck) after.before known.before).within, length-map deck.tasks (λ task. task.code)),
 )
 
 -- both numbers of a row are those of tasks

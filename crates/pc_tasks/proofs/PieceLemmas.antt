@@ -13,7 +13,8 @@ use Rattle.pc_deck.specs.declared.kinds.task.TaskCard.{TaskCard}
 use Rattle.pc_tasks.specs.Drawn.{arrows_deck, links_of, task_acts}
 use Rattle.pc_tasks.specs.Known.{CanBeDrawn, IsKnownPiece}
 use Rattle.pc_tasks.specs.Lists.{task_piece, task_pieces}
-use Rattle.pc_tasks.proofs.PlaceLemmas.{found-before, found-within}
+use Rattle.pc_project.proofs.NumberLaws.{has_number}
+use Rattle.pc_tasks.proofs.PlaceLemmas.{found-before}
 
 abbrev code_of : ActCard → List ℕ
 code_of act = act.code
@@ -60,6 +61,6 @@ module _ (deck : Deck) where
       All-map (λ (piece : PieceRow). piece.activity < length deck.tasks) (task_piece deck) deck.pieces
       (λ k d inside. omega (
         arith,
-        found-within (get_or deck.pieces k d).activity (task_codes deck) (can.pieces k d inside),
+        (has_number (task_codes deck) (get_or deck.pieces k d).activity (can.pieces k d inside)).within,
         length-map deck.tasks (λ task. task.code),
       ))

@@ -1,13 +1,14 @@
 -- Where a code stands among codes.
-use Rattle.std.proofs.Common.{◌≡◌, ◌≢◌, ℕ, zero, suc, ◌+◌, ◌<◌, ◌≤◌, Bool, true, false, cond, nat_eq, List, [], ◌∷◌, ◌++◌, length, Option, Some, None, refl, sym, ◌∙◌, ap, subst, arith}
-use Rattle.std.specs.Prelude.{IsSome, unwrap_or, nat_lt, not}
+use Rattle.std.proofs.Common.{◌≡◌, ◌≢◌, ℕ, zero, suc, ◌+◌, ◌<◌, ◌≤◌, Bool, true, false, cond, nat_eq, List, [], ◌∷◌, ◌++◌, length, Some, None, refl, sym, ◌∙◌, ap, subst, arith}
+use Rattle.std.specs.Prelude.{IsSome, nat_lt, not}
 use Rattle.std.specs.Cmp.Lexicographic.{pointwise, bytes_decides}
 use Rattle.std.specs.List.{position_or_len}
 use Rattle.std.proofs.lemmas.Bool.{cond-true, false≢true, false_from_ne_true, lt-ltb}
 use Rattle.std.proofs.lemmas.List.{get_or_append_left, length-append}
 use Rattle.std.proofs.lemmas.List.Quantifiers.{position-Some}
 use Rattle.pc_model.specs.Codes.{text_at, IsNamedOnce}
-use Rattle.pc_deck.specs.Deck.{named_among, number_among}
+use Rattle.pc_deck.specs.Deck.{named_among}
+use Rattle.pc_project.proofs.NumberLaws.{found_at}
 
 is_same : (code other : List ℕ) → other ≡ code → pointwise nat_eq code other ≡ true
 is_same code other same = (bytes_decides code other).1 (sym same)
@@ -32,19 +33,6 @@ first_place-is code codes k inside is before =
 -- where no code stands twice, at the only one
 pub only_place-is : (code : List ℕ) (codes : List (List ℕ)) (k : ℕ) → IsNamedOnce codes → k < length codes → text_at codes k ≡ code → named_among codes code ≡ Some k
 only_place-is code codes k once inside is = first_place-is code codes k inside is (λ j before same. once j k before inside (same ∙ sym is))
-
--- what is found stands somewhere
-found_at : (found : Option ℕ) → IsSome found → (i : ℕ) × (found ≡ Some i)
-found_at (Some i) known = (i, refl)
-found_at None known = absurd (false≢true known)
-
--- a code that is found has a number below the count of codes
-pub found-within : (code : List ℕ) (codes : List (List ℕ)) → IsSome (named_among codes code) → number_among codes code < length codes
-found-within code codes known =
-    let (i, at) = found_at (named_among codes code) known in
-    let number : number_among codes code ≡ i = ap (λ found. unwrap_or found (length codes)) at in
-    let found = position-Some (pointwise nat_eq code) codes i [] at in
-    omega (arith, found.0, number)
 
 -- it is found at the same place where more codes stand behind
 pub found-before : (code : List ℕ) (codes more : List (List ℕ)) → IsSome (named_among codes code) → named_among (codes ++ more) code ≡ named_among codes code

@@ -1,18 +1,8 @@
--- What one more number or element of a list puts behind others.
-use Rattle.std.proofs.Common.{◌≡◌, ℕ, ◌+◌, ◌<◌, List, [], ◌∷◌, ◌++◌, length, map, take, get_or, sym, ◌∙◌, ap, arith, append_assoc}
-use Rattle.std.specs.List.{range_with_len}
+-- What one more element of a list puts behind others.
+use Rattle.std.proofs.Common.{◌≡◌, ℕ, ◌+◌, ◌<◌, List, [], ◌∷◌, ◌++◌, length, map, take, get_or, sym, ◌∙◌, ap, append_assoc}
 use Rattle.std.proofs.lemmas.List.{map_push, take_more}
-use Rattle.std.proofs.lemmas.List.FromFn.{map-range_with_len_more}
 
 module _ {X : Type 0} where
-  -- what the next number gives
-  pub put_number : (f : ℕ → X) (front now : List X) (i : ℕ) (x : X) → now ≡ front ++ map f (range_with_len 0 i) → x ≡ f i → now ++ x ∷ [] ≡ front ++ map f (range_with_len 0 (i + 1))
-  put_number f front now i x is here =
-      ap (λ xs. xs ++ x ∷ []) is
-      ∙ (ap (λ y. (front ++ map f (range_with_len 0 i)) ++ y ∷ []) here
-      ∙ (append_assoc front (map f (range_with_len 0 i)) (f i ∷ [])
-      ∙ ap (λ back. front ++ back) (sym (map-range_with_len_more f 0 i i (omega arith)))))
-
   -- what the next place of a list gives
   pub put_place : {Y : Type 0} (f : Y → X) (ys : List Y) (front now : List X) (i : ℕ) (x : X) (d : Y) → i < length ys →
       now ≡ front ++ map f (take i ys) → x ≡ f (get_or ys i d) → now ++ x ∷ [] ≡ front ++ map f (take (i + 1) ys)

@@ -31,7 +31,10 @@ pub fn drawn_project(alloc: Global, cards: &TaskCards) -> Result<Project, DeckEr
     ensures refused { IfErr result (Refuses (IsTasksRefusedWith cards.now)) }
 {
     let afters = sound_rows(alloc, cards)?;
-    project_of_tasks(alloc, cards, &afters)
+    let plan = drawn_of(alloc, cards, &afters)?;
+    drawn_deck_keeps_least_costs();
+    let project = project_of(alloc, plan)?;
+    Ok(project)
 }
 
 /// Returns the text of the generated plan, in canonical form.
@@ -43,25 +46,7 @@ pub fn arrows_of(alloc: Global, cards: &TaskCards) -> Result<Vec<u8>, DeckError>
     ensures refused { IfErr result (Refuses (IsTasksRefusedWith cards.now)) }
 {
     let project = drawn_project(alloc, cards)?;
-    let text = deck_text_of(alloc, &project)?;
-    Ok(text)
-}
-
-/// Makes the project of the plan generated from tasks without a fault.
-fn project_of_tasks(
-    alloc: Global,
-    cards: &TaskCards,
-    afters: &[AfterRow],
-) -> Result<Project, DeckError>
-    requires sound { HasSoundTasks cards.now }
-    requires afters { afters.now ≡ afters_in cards.now }
-    ensures project { IfOk result (IsDrawnProject cards.now) }
-    ensures refused { IfErr result (Refuses (IsTasksRefusedWith cards.now)) }
-{
-    drawn_deck_keeps_least_costs();
-    let plan = drawn_of(alloc, cards, afters)?;
-    let project = project_of(alloc, plan)?;
-    Ok(project)
+    Ok(deck_text_of(alloc, &project)?)
 }
 
 /// Returns the plan generated from tasks without a fault.
@@ -76,6 +61,5 @@ fn drawn_of(alloc: Global, cards: &TaskCards, afters: &[AfterRow]) -> Result<Car
     let items = items_of(alloc, cards)?;
     let events = events_of(alloc, cards)?;
     let acts = acts_of(alloc, cards, afters)?;
-    let plan = Cards::build_drawn(alloc, cards, &items, &events, &acts)?;
-    Ok(plan)
+    Cards::build_drawn(alloc, cards, &items, &events, &acts)
 }

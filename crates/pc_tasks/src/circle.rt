@@ -28,28 +28,10 @@ pub(crate) fn first_circle(
         (HasNoTaskCycle afters.now)
         (λ cycle. IsFirstTaskCycle afters.now cycle.items)) }
 {
-    let arcs = wide_arcs(alloc, tasks, afters)?;
-    circle_in(alloc, tasks, afters, &arcs)
-}
-
-/// Finds the first circle by the first cycle of the wide arrows, which they have exactly if there is a circle.
-fn circle_in(
-    alloc: Global,
-    tasks: u32,
-    afters: &[AfterRow],
-    arcs: &[Arc],
-) -> Result<Option<Vec<u32>>, AllocError>
-    requires some { 0 < tasks }
-    requires few { tasks ≤ MAX_TASKS }
-    requires few_afters { length afters.now ≤ MAX_AFTERS }
-    requires among { AreAmong tasks afters.now }
-    requires wide { arcs.now ≡ (wide_arrows tasks afters.now).arcs }
-    ensures { IfOk result (λ found. MatchOption found
-        (HasNoTaskCycle afters.now)
-        (λ cycle. IsFirstTaskCycle afters.now cycle.items)) }
-{
+    // The wide arrows have a cycle exactly if there is a circle, and their first one passes the first circle.
     wide_arrows_have_the_cycles();
-    match Net::build(alloc, 2 * tasks + 2, 0, 2 * tasks + 1, arcs) {
+    let arcs = wide_arcs(alloc, tasks, afters)?;
+    match Net::build(alloc, 2 * tasks + 2, 0, 2 * tasks + 1, &arcs) {
         Ok(_) => Ok(None),
         Err(NetError::Cycle(walk)) => Ok(Some(tasks_of(alloc, tasks, walk.as_slice())?)),
         Err(NetError::OutOfMemory) => Err(AllocError),
@@ -59,7 +41,7 @@ fn circle_in(
     }
 }
 
-/// Returns the activities of the wide arrows.
+/// Returns the activities of the wide arrows: the tasks, and then the links of the rows, from the start and to the end.
 fn wide_arcs(alloc: Global, tasks: u32, afters: &[AfterRow]) -> Result<Vec<Arc>, AllocError>
     requires few { tasks ≤ MAX_TASKS }
     requires few_afters { length afters.now ≤ MAX_AFTERS }
@@ -68,76 +50,25 @@ fn wide_arcs(alloc: Global, tasks: u32, afters: &[AfterRow]) -> Result<Vec<Arc>,
 {
     let room = 3 * tasks as usize + afters.len();
     let mut arcs = Vec::with_capacity(alloc, room)?;
-    put_arcs(&mut arcs, tasks, afters)?;
-    Ok(arcs)
-}
-
-fn put_arcs(arcs: &mut Vec<Arc>, tasks: u32, afters: &[AfterRow]) -> Result<(), AllocError>
-    requires few { tasks ≤ MAX_TASKS }
-    requires among { AreAmong tasks afters.now }
-    ensures { OnOk result (arcs.new.items ≡ arcs.old.items ++ (wide_arrows tasks afters.now).arcs) }
-{
-    put_tasks(arcs, tasks)?;
-    put_afters(arcs, tasks, afters)?;
-    put_firsts(arcs, tasks)?;
-    put_lasts(arcs, tasks)
-}
-
-/// Appends an activity for each task.
-fn put_tasks(arcs: &mut Vec<Arc>, tasks: u32) -> Result<(), AllocError>
-    requires { tasks ≤ MAX_TASKS }
-    ensures { OnOk result (arcs.new.items ≡ arcs.old.items ++ map task_arc (range_with_len 0 tasks)) }
-{
-    for i in 0..tasks {
-        arcs.push(Arc {
-            from: 2 * i + 1,
-            to: 2 * i + 2,
-        })?;
-    }
-    Ok(())
-}
-
-/// Appends a link for each row.
-fn put_afters(arcs: &mut Vec<Arc>, tasks: u32, afters: &[AfterRow]) -> Result<(), AllocError>
-    requires few { tasks ≤ MAX_TASKS }
-    requires among { AreAmong tasks afters.now }
-    ensures { OnOk result (arcs.new.items ≡ arcs.old.items ++ map after_arc afters.now) }
-{
+    arcs.extend((0..tasks).map(|i| Arc {
+        from: 2 * i + 1,
+        to: 2 * i + 2,
+    }))?;
     for after in afters {
         arcs.push(Arc {
             from: 2 * after.before + 2,
             to: 2 * after.task + 1,
         })?;
     }
-    Ok(())
-}
-
-/// Appends a link from the start to each task.
-fn put_firsts(arcs: &mut Vec<Arc>, tasks: u32) -> Result<(), AllocError>
-    requires { tasks ≤ MAX_TASKS }
-    ensures { OnOk result (arcs.new.items ≡ arcs.old.items ++ map first_arc (range_with_len 0 tasks)) }
-{
-    for i in 0..tasks {
-        arcs.push(Arc {
-            from: 0,
-            to: 2 * i + 1,
-        })?;
-    }
-    Ok(())
-}
-
-/// Appends a link from each task to the end.
-fn put_lasts(arcs: &mut Vec<Arc>, tasks: u32) -> Result<(), AllocError>
-    requires { tasks ≤ MAX_TASKS }
-    ensures { OnOk result (arcs.new.items ≡ arcs.old.items ++ map (last_arc tasks) (range_with_len 0 tasks)) }
-{
-    for i in 0..tasks {
-        arcs.push(Arc {
-            from: 2 * i + 2,
-            to: 2 * tasks + 1,
-        })?;
-    }
-    Ok(())
+    arcs.extend((0..tasks).map(|i| Arc {
+        from: 0,
+        to: 2 * i + 1,
+    }))?;
+    arcs.extend((0..tasks).map(|i| Arc {
+        from: 2 * i + 2,
+        to: 2 * tasks + 1,
+    }))?;
+    Ok(arcs)
 }
 
 /// Returns the tasks among the activities of a walk.

@@ -1,9 +1,8 @@
 //! The tasks that links connect to the start and to the end.
 ghost use Rattle.std.specs.Prelude.{◌≡◌, ◌<◌, ◌^◌, false, not, filter, length, slice_index_or, IfOk};
-ghost use Rattle.pc_tasks.specs.network.Arrows.{comes_after, comes_before, firsts, lasts};
+ghost use Rattle.pc_tasks.specs.network.Arrows.{firsts, lasts};
 ghost use Rattle.pc_tasks.specs.network.Tasks.{AreAmong};
 ghost use Rattle.std.specs.List.{range_with_len};
-ghost use Rattle.pc_tasks.specs.inside.Marks.{AreMarks};
 
 use crate::network::AfterRow;
 use std::alloc::{AllocError, Global};
@@ -13,9 +12,11 @@ pub(crate) fn firsts(alloc: Global, tasks: u32, afters: &[AfterRow]) -> Result<V
     requires { AreAmong tasks afters.now }
     ensures { IfOk result (λ found. found.items ≡ firsts tasks afters.now) }
 {
-    let come = coming_after(alloc, tasks, afters)?;
-    let found = unmarked(alloc, &come)?;
-    Ok(found)
+    let mut come = vec![in alloc; false; tasks as usize]?;
+    for after in afters {
+        come[after.task as usize] = true;
+    }
+    unmarked(alloc, &come)
 }
 
 /// Returns the tasks that no other comes after, in card order. Linear in tasks and rows.
@@ -23,33 +24,11 @@ pub(crate) fn lasts(alloc: Global, tasks: u32, afters: &[AfterRow]) -> Result<Ve
     requires { AreAmong tasks afters.now }
     ensures { IfOk result (λ found. found.items ≡ lasts tasks afters.now) }
 {
-    let come = coming_before(alloc, tasks, afters)?;
-    let found = unmarked(alloc, &come)?;
-    Ok(found)
-}
-
-/// Returns for each task whether it comes after some other.
-fn coming_after(alloc: Global, tasks: u32, afters: &[AfterRow]) -> Result<Vec<bool>, AllocError>
-    requires { AreAmong tasks afters.now }
-    ensures { IfOk result (λ marks. AreMarks tasks (comes_after afters.now) marks.items) }
-{
-    let mut marks = vec![in alloc; false; tasks as usize]?;
+    let mut come = vec![in alloc; false; tasks as usize]?;
     for after in afters {
-        marks[after.task as usize] = true;
+        come[after.before as usize] = true;
     }
-    Ok(marks)
-}
-
-/// Returns for each task whether some other comes after it.
-fn coming_before(alloc: Global, tasks: u32, afters: &[AfterRow]) -> Result<Vec<bool>, AllocError>
-    requires { AreAmong tasks afters.now }
-    ensures { IfOk result (λ marks. AreMarks tasks (comes_before afters.now) marks.items) }
-{
-    let mut marks = vec![in alloc; false; tasks as usize]?;
-    for after in afters {
-        marks[after.before as usize] = true;
-    }
-    Ok(marks)
+    unmarked(alloc, &come)
 }
 
 /// Returns the numbers without a mark, in their order.

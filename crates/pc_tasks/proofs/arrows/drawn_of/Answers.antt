@@ -1,4 +1,5 @@
 use Rattle.std.proofs.Common.{◌∙◌}
+use Rattle.std.proofs.lemmas.Result.{IfOk-weaker}
 use Rattle.pc_tasks.proofs.KeepLemmas.{made-drawn, made-within, rows-among}
 use Rattle.pc_tasks.proofs.KnownLemmas.{can_be_drawn}
 use Rattle.pc_tasks.proofs.arrows.drawn_of.Goals as goal
@@ -15,6 +16,9 @@ build_drawn-requires c =
 
 pub returns-clause-drawn : goal.returns-clause-drawn
 returns-clause-drawn c =
-    c.in_ok-plan.ensures
+    IfOk-weaker c.build_drawn.result _ _
+    (λ plan is.
+    is
     ∙ made-drawn c.args.cards.now c.deref.result.now c.deref-2.result.now c.deref-3.result.now
-    (c.deref.ensures.value ∙ c.in_ok-items.ensures) (c.deref-2.ensures.value ∙ c.in_ok-events.ensures) (c.deref-3.ensures.value ∙ c.in_ok-acts.ensures)
+    (c.deref.ensures.value ∙ c.in_ok-items.ensures) (c.deref-2.ensures.value ∙ c.in_ok-events.ensures) (c.deref-3.ensures.value ∙ c.in_ok-acts.ensures))
+    c.build_drawn.ensures

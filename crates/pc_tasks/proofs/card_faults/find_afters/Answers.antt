@@ -1,8 +1,7 @@
-use Rattle.std.proofs.Common.{◌≡◌, ◌+◌, ◌∙◌, Option, Some, None, sym, ap, map, subst}
+use Rattle.std.proofs.Common.{◌+◌, ◌∙◌, sym, ap, map, subst}
 use Rattle.std.specs.List.{Any}
 use Rattle.std.proofs.lemmas.List.{take_all}
-use Rattle.pc_faults.specs.declared.fault.Fault.{Fault}
-use Rattle.pc_faults.specs.inside.First.{IsFirstIn, earliest}
+use Rattle.pc_faults.specs.inside.First.{IsFirstIn}
 use Rattle.pc_tasks.specs.Lists.{after_row}
 use Rattle.pc_tasks.specs.Misfit.{HasAfterFault}
 use Rattle.pc_faults.proofs.FirstLaws.{earliest-some}

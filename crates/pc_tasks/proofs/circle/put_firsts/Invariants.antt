@@ -1,7 +1,0 @@
-use Rattle.std.proofs.Common.{◌≡◌, ◌++◌, map}
-use Rattle.std.specs.List.{range_with_len}
-use Rattle.pc_tasks.specs.network.Arrows.{first_arc}
-use Rattle.pc_tasks.proofs.circle.put_firsts.Given as goal
-
-abbrev pub invariant-loop-i : goal.invariant-loop-i
-invariant-loop-i l = l.arcs.items ≡ l.initial.arcs.items ++ map first_arc (range_with_len 0 l.i)
