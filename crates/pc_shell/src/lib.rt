@@ -10,4 +10,4 @@ mod words;
 pub use crate::reading::{NoProject, load_deck, project_in};
 pub use crate::sending::{refuse, send};
 pub use crate::status::Status;
-pub use crate::words::{deck_name, project_named, words_of};
+pub use crate::words::{deck_file, project_named, words_of};

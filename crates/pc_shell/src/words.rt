@@ -1,5 +1,5 @@
 //! The words that a program was started with, and the deck that the only word names.
-ghost use Rattle.std.specs.Prelude.{◌≡◌, ◌↔◌, length, IfOk, IfErr, IsSome};
+ghost use Rattle.std.specs.Prelude.{◌≡◌, IfOk, IfErr};
 ghost use Rattle.pc_deck.specs.Limits.{longest_deck};
 ghost use Rattle.pc_edges.specs.Pulls.{IsReadWithin};
 ghost use Rattle.pc_edges.specs.declared.loading.TheConstants.{STREAM_ROOM};
@@ -9,12 +9,14 @@ ghost use Rattle.pc_shell.specs.Sides.{side};
 use crate::reading::{NoProject, read_project};
 use crate::sending::{refuse, send};
 use crate::status::Status;
-use pc_edges::{Failed, Sink, Source};
+use pc_edges::{Failed, FileSource, Sink, Source, draw_key};
 use pc_project::Project;
 use std::alloc::{AllocError, Global};
 use std::env;
+use std::fs::File;
 use std::io::ErrorKind;
-use std::rt::Env;
+use std::random::RandomSource;
+use std::rt::{Env, Files};
 
 /// Returns the words after the program's name, or no words if one of them is not UTF-8: no form has such a word.
 ///
@@ -29,14 +31,16 @@ pub fn words_of<R: Env + AllocGlobal>(rt: &R) -> Result<Vec<String>, AllocError>
     }
 }
 
-/// Returns the only word, the name of the deck, or `None` if there is not exactly one word: then no file is opened.
-pub fn deck_name(words: &[String]) -> Option<&str>
-    ensures { IsSome result ↔ (length words.now ≡ 1) }
+/// Returns the source of the deck that the only word names, with a key that it draws. If there is not exactly one word,
+/// no file is opened.
+pub fn deck_file<R: Files<File = File> + RandomSource>(rt: &R, words: &[String]) -> FileSource
+    ensures faults { ⟦<FileSource as Source>⟧.faults result ≡ 0 }
 {
-    match words {
-        [word] => Some(word.as_str()),
-        _ => None,
-    }
+    let deck = match words {
+        [word] => FileSource::at(rt, word.as_str()),
+        _ => FileSource::missing(),
+    };
+    deck.with_key(draw_key(rt))
 }
 
 /// Returns the project of the deck that the one word names.

@@ -1,12 +1,12 @@
 //! `pert_whatif`: reads a deck from the file that its word names and lines from standard input, and writes to standard
 //! output an answer to each line, before it reads more.
 //!
-//! The program only collects its words, draws a random key, makes the adapters of the file and the real streams and
-//! calls [`pc_whatif::session_run`], which returns its exit status.
+//! The program only collects its words, makes the adapters of the file and the real streams and calls
+//! [`pc_whatif::session_run`], which returns its exit status.
 #![tactic(auto)]
 
-use pc_edges::{FileSource, ReadSource, WriteSink, draw_key};
-use pc_shell::{Status, deck_name, words_of};
+use pc_edges::{ReadSource, WriteSink};
+use pc_shell::{Status, deck_file, words_of};
 use pc_whatif::session_run;
 use std::process::ExitCode;
 
@@ -14,11 +14,7 @@ fn main(rt: HostRuntime) -> ExitCode {
     let Ok(words) = words_of(&rt) else {
         return ExitCode::from(Status::OutOfMemory.code());
     };
-    let mut deck = match deck_name(&words) {
-        Some(name) => FileSource::at(&rt, name),
-        None => FileSource::missing(),
-    }
-    .with_key(draw_key(&rt));
+    let mut deck = deck_file(&rt, &words);
     let mut edits = ReadSource::new(rt.stdin());
     let mut out = WriteSink::new(rt.stdout());
     let mut err = WriteSink::new(rt.stderr());
