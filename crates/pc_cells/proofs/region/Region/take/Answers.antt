@@ -55,10 +55,10 @@ returns-clause-there_is_room c =
 
 -- the fields when the cells of the span are filled and the next start stands behind them
 taken : (c : goal.After-self-3-1) → HasOneMore (record {
-      cells = with_items c.self.inside.cells c.fill_range.new.cells;
-      starts = with_item c.self.inside.starts (c.self.inside.count + 1) (c.index-place.result.now + c.args.len);
-      count = c.self.inside.count + 1;
-    }) c.args.self.now c.index-place.result.now c.args.len
+  cells = with_items c.self.inside.cells c.fill_range.new.cells;
+  starts = with_item c.self.inside.starts (c.self.inside.count + 1) (c.index-place.result.now + c.args.len);
+  count = c.self.inside.count + 1;
+}) c.args.self.now c.index-place.result.now c.args.len
 taken c =
     let r = c.self.inside in
     let now = c.args.self.now in
