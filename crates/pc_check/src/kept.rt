@@ -48,6 +48,7 @@ pub struct Tally {
     pub(crate) inflow: Vec<u128>,
     pub(crate) outflow: Vec<u128>,
     pub(crate) spent: u64,
+    /// the cut, by the activities that have come
     pub(crate) cut: Cut,
 }
 
