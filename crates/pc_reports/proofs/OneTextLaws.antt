@@ -1,9 +1,9 @@
 -- A project has one report of each kind.
-use Rattle.std.proofs.Common.{◌≡◌, ℕ, ◌<◌, List, [], length, slice_index, Option, refl, sym, ap, ◌∙◌, subst, arith}
+use Rattle.std.proofs.Common.{◌≡◌, ℕ, List, [], slice_index, Option, refl, sym, ap, ◌∙◌, subst, arith}
 use Rattle.std.specs.Prelude.{ℤ, pos, ◌-ℤ◌, slice_index_or}
 use Rattle.std.proofs.lemmas.Int.{ints}
 use Rattle.std.proofs.lemmas.List.{ext_get_or}
-use Rattle.pc_days.specs.Dates.{IsAfterSixths, NamesDay}
+use Rattle.pc_days.specs.Dates.{NamesDay}
 use Rattle.pc_days.proofs.Reading.{NamesDay-same}
 use Rattle.pc_days.proofs.Sixths.{one_day}
 use Rattle.pc_model.specs.Network.{Network}

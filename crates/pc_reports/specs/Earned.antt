@@ -1,5 +1,5 @@
 -- What the report of the value of work tells.
-use Rattle.std.specs.Prelude.{◌≡◌, ℕ, ◌<◌, ℤ, pos, ◌-ℤ◌, List, length, slice_index, slice_index_or, Option}
+use Rattle.std.specs.Prelude.{◌≡◌, ℕ, ℤ, List, slice_index, Option}
 use Rattle.pc_accounts.specs.status.Statuses.{IsSixths}
 use Rattle.pc_times.specs.Forecast.{Expected, IsForecast}
 use Rattle.pc_times.specs.Late.{AreLate}

@@ -1,5 +1,5 @@
 -- The text of the management summary.
-use Rattle.std.specs.Prelude.{◌≡◌, ℕ, ◌+◌, ℤ, List, [], ◌∷◌, ◌++◌, length, slice_index_or, codes, decimal}
+use Rattle.std.specs.Prelude.{◌≡◌, ℕ, ◌+◌, List, [], ◌∷◌, ◌++◌, length, slice_index_or, codes, decimal}
 use Rattle.std.specs.Fmt.{signed_decimal}
 use Rattle.pc_edges.specs.Texts.{texts_to}
 use Rattle.pc_edges.specs.page.Cells.{left, right, row}

@@ -15,7 +15,6 @@ ghost use Rattle.std.specs.Prelude.{
 ghost use Rattle.std.specs.List.{All};
 ghost use Rattle.pc_times.specs.declared.TheConstants.{MAX_TIME};
 ghost use Rattle.pc_rollup.specs.Least.{least_at};
-ghost use Rattle.pc_rollup.specs.figures.Slacks.{AreLeastSlacks, slack_at};
 ghost use Rattle.pc_reports.specs.Earned.{AreForecasts, AreLateFor};
 ghost use Rattle.pc_reports.specs.inside.Earned.{IsForecastOf};
 
@@ -57,22 +56,12 @@ impl Forecasts {
         ensures { IfOk result (AreForecasts project.now) }
     {
         let expected = forecast_of(alloc, project)?;
-        Forecasts::build_from(alloc, project, &expected)
-    }
-
-    fn build_from(
-        alloc: Global,
-        project: &Project,
-        expected: &Forecast,
-    ) -> Result<Forecasts, AllocError>
-        requires { IsForecastOf project.now expected.now }
-        ensures { IfOk result (AreForecasts project.now) }
-    {
         let late = late_times(alloc, project)?;
-        let times = event_times(alloc, project, expected)?;
+        let times = event_times(alloc, project, &expected)?;
+        let (tree, places) = (project.tree(), project.places());
         Ok(Forecasts {
             dates: dates_of(alloc, project.start_day(), &times)?,
-            slacks: item_slacks(alloc, project, &late, expected)?,
+            slacks: least_slacks(alloc, tree, places, project.net(), &late, &expected)?,
             times,
             late,
         })
@@ -129,23 +118,6 @@ fn late_times(alloc: Global, project: &Project) -> Result<Vec<i64>, AllocError>
     let net = project.net();
     let reached = early(alloc, net, project.expected())?;
     late_to_meet(alloc, project, reached[net.end() as usize])
-}
-
-/// Returns for each item the least forecast slack of the activities on it or below it.
-fn item_slacks(
-    alloc: Global,
-    project: &Project,
-    late: &[i64],
-    expected: &Forecast,
-) -> Result<Vec<Option<i64>>, AllocError>
-    requires finish_each { length expected.now.finishes ≡ length project.now.network.arcs }
-    requires late_each { length late.now ≡ project.now.network.events }
-    requires limit { All (λ time. unsigned_abs time ≤ MAX_TIME) late.now }
-    ensures { IfOk result (λ slacks. AreLeastSlacks project.now.tree project.now.places
-        (slack_at project.now.network late.now expected.now.finishes) slacks.items) }
-{
-    let (tree, places) = (project.tree(), project.places());
-    least_slacks(alloc, tree, places, project.net(), late, expected)
 }
 
 /// Returns the forecast of each event, in card order.

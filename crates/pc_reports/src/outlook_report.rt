@@ -71,8 +71,11 @@ impl OutlookReport {
         ensures outlook { IfOk result (IsOutlook project.now durations.now) }
         ensures top { IfOk result (TellsTop project.now durations.now) }
     {
+        let costs = costs_in(alloc, net, durations)?;
+        let (tree, places) = (project.tree(), project.places());
+        let entries = project.book().entries();
         Ok(OutlookReport {
-            outlook: outlook_at(alloc, project, net, durations)?,
+            outlook: Outlook::build(alloc, tree, places, &costs, project.accounts(), entries)?,
         })
     }
 
@@ -111,23 +114,6 @@ impl Report for OutlookReport {
     fn put_on<O: Sink>(self, page: &mut Page, sink: &mut O, project: &Project) {
         self.put(page, sink, project);
     }
-}
-
-fn outlook_at(
-    alloc: Global,
-    project: &Project,
-    net: &CrashNet<'_>,
-    durations: &[u64],
-) -> Result<Outlook, AllocError>
-    requires priced { IsPricedNetOf project.now net.now }
-    requires one_each { length durations.now ≡ length project.now.network.arcs }
-    ensures outlook { IfOk result (IsOutlook project.now durations.now) }
-    ensures top { IfOk result (TellsTop project.now durations.now) }
-{
-    let costs = costs_in(alloc, net, durations)?;
-    let (tree, places) = (project.tree(), project.places());
-    let entries = project.book().entries();
-    Outlook::build(alloc, tree, places, &costs, project.accounts(), entries)
 }
 
 /// Returns what each activity costs at its duration. Durations are in units, one per activity in card order. Linear in

@@ -57,6 +57,7 @@ fn put_times<O: Sink>(page: &mut Page, sink: &mut O, net: &CrashNet<'_>, times: 
     requires { length times.now ≡ net.now.network.events }
     ensures { Puts O.taken O.faults page.old sink.old page.new sink.new (times_text net.now.events times.now) }
 {
+    net.facts();
     for e in 0..net.net().events() {
         put_named(page, sink, b"EVENT ", &net.event_code(e), times[e as usize]);
     }
@@ -67,6 +68,7 @@ fn put_durations<O: Sink>(page: &mut Page, sink: &mut O, net: &CrashNet<'_>, dur
     ensures { Puts O.taken O.faults page.old sink.old page.new sink.new
         (durations_text net.now.activities durations.now) }
 {
+    net.facts();
     for a in 0..net.net().activities() {
         put_named(
             page,

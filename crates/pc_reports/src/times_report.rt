@@ -77,7 +77,7 @@ impl TimesReport {
         ensures { Puts O.taken O.faults page.old sink.old page.new sink.new (times_text project.now self.now) }
     {
         // How many events and activities there are, and which numbers of them may be.
-        let _net = project.net();
+        project.facts();
         let view = Reported {
             project,
             longest: &self.longest,

@@ -5,7 +5,6 @@ ghost use Rattle.pc_edges.specs.inside.page.Puts.{Puts};
 ghost use Rattle.pc_reports.specs.Earned.{IsEarned};
 ghost use Rattle.pc_reports.specs.ValueText.{value_text};
 ghost use Rattle.pc_rollup.specs.figures.Outline.{row_at};
-ghost use Rattle.pc_rollup.specs.figures.Worth.{IsWorthOf};
 
 use crate::dates::put_dated;
 use crate::forecasts::Forecasts;
@@ -51,10 +50,12 @@ impl ValueReport {
     pub fn build(alloc: Global, project: &Project) -> Result<ValueReport, AllocError>
         ensures { IfOk result (IsEarned project.now) }
     {
+        let entries = project.book().entries();
+        let (tree, places, states) = (project.tree(), project.places(), project.states());
         Ok(ValueReport {
-            outline: outline_of(alloc, project.tree())?,
+            outline: outline_of(alloc, tree)?,
             forecasts: Forecasts::build(alloc, project)?,
-            worth: worth_of(alloc, project)?,
+            worth: Worth::build(alloc, tree, places, states, project.accounts(), entries)?,
         })
     }
 
@@ -125,13 +126,4 @@ impl Report for ValueReport {
     fn put_on<O: Sink>(self, page: &mut Page, sink: &mut O, project: &Project) {
         self.put(page, sink, project);
     }
-}
-
-fn worth_of(alloc: Global, project: &Project) -> Result<Worth, AllocError>
-    ensures { IfOk result (IsWorthOf project.now.tree project.now.places project.now.states project.now.accounts
-        project.now.entries) }
-{
-    let entries = project.book().entries();
-    let (tree, places, states) = (project.tree(), project.places(), project.states());
-    Worth::build(alloc, tree, places, states, project.accounts(), entries)
 }

@@ -1,6 +1,5 @@
-use Rattle.std.proofs.Common.{pos, refl, ◌∙◌, arith}
+use Rattle.std.proofs.Common.{refl, ◌∙◌, arith}
 use Rattle.std.proofs.lemmas.Int.{ints}
-use Rattle.pc_days.specs.Dates.{IsAfterSixths}
 use Rattle.pc_reports.specs.Times.{printed}
 use Rattle.pc_reports.proofs.DateLaws.{date_of-printed, date_of-past}
 use Rattle.pc_reports.proofs.dates.date_text.Goals as goal

@@ -19,5 +19,5 @@ pub returns : goal.returns
 returns g c =
     let net = c.args.net.now in
     let count : c.activities-a-end.result ≡ length net.network.arcs = cc in
-    let all : c.loop-a.a ≡ length net.activities = omega (arith, count, c.loop-a-test.false, c.loop-a.auto, c.net.ensures.activity_names.one_each) in
+    let all : c.loop-a.a ≡ length net.activities = omega (arith, count, c.loop-a-test.false, c.loop-a.auto, c.facts.ensures.activity_names.one_each) in
     Adds-as _ (ap (λ n. texts_to n (named_line_at (codes "ACT ") net.activities c.args.durations.now)) all) c.loop-a.invariant

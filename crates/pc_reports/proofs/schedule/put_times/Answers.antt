@@ -19,5 +19,5 @@ pub returns : goal.returns
 returns g c =
     let net = c.args.net.now in
     let count : c.events-e-end.result ≡ net.network.events = cc in
-    let all : c.loop-e.e ≡ length net.events = omega (arith, count, c.loop-e-test.false, c.loop-e.auto, c.net.ensures.event_names.one_each) in
+    let all : c.loop-e.e ≡ length net.events = omega (arith, count, c.loop-e-test.false, c.loop-e.auto, c.facts.ensures.event_names.one_each) in
     Adds-as _ (ap (λ n. texts_to n (named_line_at (codes "EVENT ") net.events c.args.times.now)) all) c.loop-e.invariant

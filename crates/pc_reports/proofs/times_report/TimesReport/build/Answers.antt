@@ -2,7 +2,6 @@ use Rattle.std.proofs.Common.{◌≡◌, ℕ, slice_index, ap, subst, sym, ◌�
 use Rattle.pc_model.specs.Network.{Network}
 use Rattle.pc_times.specs.Late.{AreLate}
 use Rattle.pc_reports.specs.Times.{end_to_meet}
-use Rattle.pc_reports.specs.inside.Times.{AreSmall}
 use Rattle.pc_reports.proofs.times_report.TimesReport.build.Goals as goal
 
 pub longest-requires : goal.longest-requires

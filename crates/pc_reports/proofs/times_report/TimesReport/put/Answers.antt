@@ -9,7 +9,7 @@ use Rattle.pc_reports.proofs.times_report.TimesReport.put.Goals as goal
 pub put_times-requires : goal.put_times-requires
 put_times-requires g c =
     let project = c.args.project.now in
-    let planned = c.net-net.ensures.planned in
+    let planned = c.facts.ensures.planned in
     let times : Times = c.args.self.now in
     let is : IsTimes project times = c.requires in
     let small : AreSmall times = subst AreSmall c.self.view_is c.self.invariant in

@@ -1,7 +1,6 @@
 use Rattle.std.proofs.Common.{arith}
-use Rattle.pc_rollup.proofs.lemmas.figures.PushLaws.{if_answered}
 use Rattle.pc_reports.proofs.OutlookLaws.{costs_told, outlook_told, top_told}
-use Rattle.pc_reports.proofs.outlook_report.outlook_at.Goals as goal
+use Rattle.pc_reports.proofs.outlook_report.OutlookReport.build_priced.Goals as goal
 
 pub build-requires : goal.build-requires
 build-requires c =
@@ -22,18 +21,13 @@ build-requires c =
 
 pub returns-clause-outlook : goal.returns-clause-outlook
 returns-clause-outlook c =
-    let planned = c.book.ensures.planned in
-    let costs = costs_told _ _ _ _ c.requires.priced c.in_ok-costs.ensures.costs in
-    if_answered c.build.result _ _
-    (λ outlook is. outlook_told c.args.project.now c.args.durations.now c.in_ok-costs.costs.items outlook planned.place_each costs
-    (rw (← c.deref.ensures.value, ← c.tree-tree.ensures.tree, ← c.places-places.ensures.places, ← c.accounts.ensures.accounts, ← c.book.ensures.entries, ← c.entries-entries.ensures.entries) is))
-    c.build.ensures.outlook
+    outlook_told c.args.project.now c.args.durations.now c.in_ok-costs.costs.items c.in_ok-build.field-0 c.book.ensures.planned.place_each
+    (costs_told _ _ _ _ c.requires.priced c.in_ok-costs.ensures.costs)
+    (rw (← c.deref.ensures.value, ← c.tree-tree.ensures.tree, ← c.places-places.ensures.places, ← c.accounts.ensures.accounts, ← c.book.ensures.entries, ← c.entries-entries.ensures.entries) c.in_ok-build.ensures.outlook)
 
 pub returns-clause-top : goal.returns-clause-top
 returns-clause-top c =
     let planned = c.book.ensures.planned in
-    let costs = costs_told _ _ _ _ c.requires.priced c.in_ok-costs.ensures.costs in
-    if_answered c.build.result _ _
-    (λ outlook has. top_told c.args.project.now c.args.durations.now c.in_ok-costs.costs.items outlook planned.place_each planned.terms.one_each costs
-    (rw (← c.deref.ensures.value, ← c.tree-tree.ensures.tree, ← c.places-places.ensures.places, ← c.accounts.ensures.accounts, ← c.book.ensures.entries, ← c.entries-entries.ensures.entries) has))
-    c.build.ensures.top
+    top_told c.args.project.now c.args.durations.now c.in_ok-costs.costs.items c.in_ok-build.field-0 planned.place_each planned.terms.one_each
+    (costs_told _ _ _ _ c.requires.priced c.in_ok-costs.ensures.costs)
+    (rw (← c.deref.ensures.value, ← c.tree-tree.ensures.tree, ← c.places-places.ensures.places, ← c.accounts.ensures.accounts, ← c.book.ensures.entries, ← c.entries-entries.ensures.entries) c.in_ok-build.ensures.top)
