@@ -2,7 +2,7 @@
 ghost use Rattle.std.specs.Prelude.{◌≡◌, ◌*◌, ◌<◌, ◌≤◌, slice_index, IfOk, IfErr};
 ghost use Rattle.pc_load.specs.inside.Entries.{AreTimes};
 ghost use Rattle.pc_load.specs.Items.{LevelsAddUp};
-ghost use Rattle.pc_load.specs.Loading.{AreItemParts, IsLoading, ItemsAddUp, periods_for};
+ghost use Rattle.pc_load.specs.Loading.{AreItemParts, IsLoading, ItemsAddUp};
 ghost use Rattle.pc_load.specs.inside.Loading.{HasNoLoad, IsReadyFor};
 ghost use Rattle.pc_load.specs.inside.PrintedLoad.{loading_of};
 
@@ -97,11 +97,13 @@ impl Loading {
         ensures none { IfErr result (HasNoLoad project.now days) }
     {
         let times = early(alloc, project.net(), project.expected())?;
-        let have = periods_for(days, times[project.net().end() as usize]);
+        // The last period is the one in which the project ends.
+        let width = 6 * days;
+        let have = times[project.net().end() as usize] / width + 1;
         if have > u64::from(MAX_PERIODS) {
             return Err(NoLoad::TooMany(have));
         }
-        let (periods, width) = (have as u32, 6 * days);
+        let periods = have as u32;
         let taken = loads(alloc, project, &times)?;
         Ok(Loading {
             days,
@@ -122,15 +124,6 @@ impl Loading {
             resources: &self.resources,
         }
     }
-}
-
-/// How many periods of so many days hold a project that ends at a time.
-fn periods_for(days: u64, end: u64) -> u64
-    requires least { 1 ≤ days }
-    requires most { days ≤ MAX_DAYS }
-    ensures { result ≡ periods_for days end }
-{
-    end / (6 * days) + 1
 }
 
 /// What is spent in each period by item.

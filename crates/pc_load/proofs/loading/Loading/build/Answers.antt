@@ -39,7 +39,7 @@ returns-then-have-from-clause-none c =
     let early : AreEarly project.network project.expected c.in_ok-times.times.items = rw (← c.net.ensures.network, ← c.expected.ensures.expected) c.in_ok-times.ensures.times in
     let read : c.index.result.now ≡ get_or c.in_ok-times.times.items project.network.end c.index.result.now = rw (← c.net-2.ensures.network, ← c.end.ensures.end) c.index.ensures in
     record {
-      are = periods_are project c.args.days c.periods_for-have.result c.index.result.now c.in_ok-times.times.items c.net.ensures.planned early read c.periods_for-have.ensures;
+      are = periods_are project c.args.days (c.index.result.now / (6 * c.args.days) + 1) c.index.result.now c.in_ok-times.times.items c.net.ensures.planned early read refl;
       more = omega arith;
     }
 
@@ -47,12 +47,12 @@ pub returns-clause-loading : goal.returns-clause-loading
 returns-clause-loading c =
     let project = c.args.project.now in
     let times = c.in_ok-times.times.items in
-    let have = c.periods_for-have.result in
+    let have = (c.index.result.now / (6 * c.args.days) + 1) in
     let early : AreEarly project.network project.expected times = rw (← c.net.ensures.network, ← c.expected.ensures.expected) c.in_ok-times.ensures.times in
     let read : c.index.result.now ≡ get_or times project.network.end c.index.result.now = rw (← c.net-2.ensures.network, ← c.end.ensures.end) c.index.ensures in
-    let are = periods_are project c.args.days have c.index.result.now times c.net.ensures.planned early read c.periods_for-have.ensures in
+    let are = periods_are project c.args.days have c.index.result.now times c.net.ensures.planned early read refl in
     let reached : AreTimes project times = record { early = early; small = λ e lt. c.in_ok-times.ensures.limit e 0 lt } in
-    let whole = ends_before project c.args.days have c.index.result.now times c.requires.least c.net.ensures.planned early read c.periods_for-have.ensures in
+    let whole = ends_before project c.args.days have c.index.result.now times c.requires.least c.net.ensures.planned early read refl in
     let taken = resources_have_parts project times c.in_ok-taken.taken.items (6 * c.args.days) have _
     (rw (← c.deref.ensures.value) c.in_ok-taken.ensures.loads)
     (rw (← c.resource_count.ensures.count, ← c.deref-3.ensures.value) c.in_ok-build.ensures.table) in
@@ -91,7 +91,7 @@ items_of-requires-clause-whole c =
     let times = c.in_ok-times.times.items in
     let early : AreEarly project.network project.expected times = rw (← c.net.ensures.network, ← c.expected.ensures.expected) c.in_ok-times.ensures.times in
     let read : c.index.result.now ≡ get_or times project.network.end c.index.result.now = rw (← c.net-2.ensures.network, ← c.end.ensures.end) c.index.ensures in
-    rw c.deref-2.ensures.value (ends_before project c.args.days c.periods_for-have.result c.index.result.now times c.requires.least c.net.ensures.planned early read c.periods_for-have.ensures)
+    rw c.deref-2.ensures.value (ends_before project c.args.days (c.index.result.now / (6 * c.args.days) + 1) c.index.result.now times c.requires.least c.net.ensures.planned early read refl)
 
 pub build-requires-clause-entries : goal.build-requires-clause-entries
 build-requires-clause-entries c = rw (c.deref-3.ensures.value, c.resource_count.ensures.count) c.in_ok-taken.ensures.entries
