@@ -3,6 +3,7 @@ ghost use Rattle.std.specs.Prelude.{◌≡◌, ◌<◌, All, length, IfOk, IfErr
 ghost use Rattle.pc_model.specs.Network.{IsSound};
 ghost use Rattle.pc_wbs.specs.Climb.{IsTree};
 ghost use Rattle.pc_net.specs.Refusals.{IsNetError};
+ghost use Rattle.pc_net.specs.declared.refusal.NetError.TheVariants as net;
 ghost use Rattle.pc_faults.specs.inside.First.{Refuses};
 ghost use Rattle.pc_project.specs.inside.Numbered.{AreNumbersOf};
 ghost use Rattle.pc_project.specs.Project.{network_of, rows_of};
@@ -53,11 +54,16 @@ fn fault_of(alloc: Global, cards: &Cards, error: NetError) -> Result<Fault, Allo
             let card = event_card(cards, event);
             Ok(Fault::dangling(card.row, card.code, entered))
         }
-        NetError::Cycle(cycle) => {
-            let acts = cycle.as_slice();
-            let names = codes_at(alloc, cards.act_codes(), acts)?;
-            Ok(Fault::cycle(act_card(cards, acts[0]).row, names))
-        }
+        NetError::Cycle(acts) => fault_of_cycle(alloc, cards, acts.as_slice()),
         NetError::OutOfMemory => Err(AllocError),
     }
+}
+
+fn fault_of_cycle(alloc: Global, cards: &Cards, acts: &[u32]) -> Result<Fault, AllocError>
+    requires some { 0 < length acts.now }
+    requires known { All (λ act. act < length cards.now.acts) acts.now }
+    ensures { IfOk result (λ fault. net_fault cards.now (net.Cycle acts.now) ≡ DeckError.Fault fault) }
+{
+    let names = codes_at(alloc, cards.act_codes(), acts)?;
+    Ok(Fault::cycle(act_card(cards, acts[0]).row, names))
 }
