@@ -1,5 +1,5 @@
 //! From the cards of a deck to its project, phase by phase.
-ghost use Rattle.std.specs.Prelude.{◌≡◌, All, length, map, IfOk, IfErr, OnOk};
+ghost use Rattle.std.specs.Prelude.{◌≡◌, length, IfOk, IfErr, OnOk};
 ghost use Rattle.pc_accounts.specs.Amounts.{AreEntriesOf};
 ghost use Rattle.pc_accounts.specs.Entries.{AreEntriesWithinLimits};
 ghost use Rattle.pc_faults.specs.declared.fault.Fault.{Fault};
@@ -7,8 +7,6 @@ ghost use Rattle.pc_faults.specs.inside.First.{Refuses};
 ghost use Rattle.pc_project.specs.DisorderFaults.{as_of_in};
 ghost use Rattle.pc_project.specs.Figures.{AreStatesOf, IsProjectOfDeck};
 ghost use Rattle.pc_project.specs.inside.Numbered.{AreNumbersOf, AreProjectLists};
-ghost use Rattle.pc_project.specs.inside.Project.{placement_of};
-ghost use Rattle.pc_project.specs.Misfit.{HasOrderedEstimates};
 ghost use Rattle.pc_project.specs.PackageFaults.{HasNoLeafFault};
 ghost use Rattle.pc_project.specs.PieceFaults.{HasNoPieceFault};
 ghost use Rattle.pc_project.specs.Makes.{MakesProject};

@@ -1,7 +1,6 @@
 //! Whether tasks wait for each other in a circle.
-ghost use Rattle.std.specs.Prelude.{◌≡◌, ◌++◌, ◌<◌, ◌≤◌, length, map, IfOk, MatchOption, OnOk};
-ghost use Rattle.std.specs.List.{range_with_len};
-ghost use Rattle.pc_tasks.specs.network.Arrows.{after_arc, first_arc, last_arc, task_arc, tasks_of, wide_arrows};
+ghost use Rattle.std.specs.Prelude.{◌≡◌, ◌<◌, ◌≤◌, length, IfOk, MatchOption};
+ghost use Rattle.pc_tasks.specs.network.Arrows.{tasks_of, wide_arrows};
 ghost use Rattle.pc_tasks.specs.network.Cycles.{HasNoTaskCycle, IsFirstTaskCycle};
 ghost use Rattle.pc_tasks.specs.network.Tasks.{AreAmong};
 ghost use Rattle.pc_deck.specs.declared.limits.TheConstants.{MAX_AFTERS, MAX_TASKS};

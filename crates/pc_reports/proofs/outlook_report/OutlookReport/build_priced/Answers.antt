@@ -23,11 +23,25 @@ pub returns-clause-outlook : goal.returns-clause-outlook
 returns-clause-outlook c =
     outlook_told c.args.project.now c.args.durations.now c.in_ok-costs.costs.items c.in_ok-build.field-0 c.book.ensures.planned.place_each
     (costs_told _ _ _ _ c.requires.priced c.in_ok-costs.ensures.costs)
-    (rw (← c.deref.ensures.value, ← c.tree-tree.ensures.tree, ← c.places-places.ensures.places, ← c.accounts.ensures.accounts, ← c.book.ensures.entries, ← c.entries-entries.ensures.entries) c.in_ok-build.ensures.outlook)
+    (rw (
+      ← c.deref.ensures.value,
+      ← c.tree-tree.ensures.tree,
+      ← c.places-places.ensures.places,
+      ← c.accounts.ensures.accounts,
+      ← c.book.ensures.entries,
+      ← c.entries-entries.ensures.entries,
+    ) c.in_ok-build.ensures.outlook)
 
 pub returns-clause-top : goal.returns-clause-top
 returns-clause-top c =
     let planned = c.book.ensures.planned in
     top_told c.args.project.now c.args.durations.now c.in_ok-costs.costs.items c.in_ok-build.field-0 planned.place_each planned.terms.one_each
     (costs_told _ _ _ _ c.requires.priced c.in_ok-costs.ensures.costs)
-    (rw (← c.deref.ensures.value, ← c.tree-tree.ensures.tree, ← c.places-places.ensures.places, ← c.accounts.ensures.accounts, ← c.book.ensures.entries, ← c.entries-entries.ensures.entries) c.in_ok-build.ensures.top)
+    (rw (
+      ← c.deref.ensures.value,
+      ← c.tree-tree.ensures.tree,
+      ← c.places-places.ensures.places,
+      ← c.accounts.ensures.accounts,
+      ← c.book.ensures.entries,
+      ← c.entries-entries.ensures.entries,
+    ) c.in_ok-build.ensures.top)
