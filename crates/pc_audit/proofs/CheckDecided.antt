@@ -10,7 +10,7 @@ use Rattle.pc_audit.specs.Certificate.{HasVerdict, Certifies, ProvesCurve}
 use Rattle.pc_audit.specs.CheckOutcome.{OfBoth, IsChecked, IsCheckCut, deck_unread, cert_unread, in_verdict, in_refusal, in_check_usage}
 use Rattle.pc_audit.specs.inside.CheckOutcome.{CheckOutcome, certified, not_certified, deck_refused, check_usage, no_memory, read_fault, write_fault}
 use Rattle.pc_shell.specs.OneWord.{IsOneWord}
-use Rattle.pc_shell.specs.Sides.{Side, HadNoFault, OfBytes, Took}
+use Rattle.pc_shell.specs.Sides.{Side, HadNoFault, OfBytes}
 use Rattle.pc_shell.specs.Verdict.{AcceptedBy, RefusedBy, IsFault}
 use Rattle.pc_audit.proofs.CheckLaws.{curve_of, one_verdict}
 use Rattle.pc_shell.proofs.ReadingLaws.{refusal_is_fault}
