@@ -16,7 +16,7 @@ ghost use Rattle.pc_edges.specs.inside.Writes.{Writes};
 ghost use Rattle.pc_edges.specs.inside.page.Page.{fresh};
 ghost use Rattle.pc_whatif.specs.edits.Reading.{ask_of};
 ghost use Rattle.pc_crash.specs.inside.Steps.{IsBlankOf};
-ghost use Rattle.pc_whatif.specs.Texts.{ok_text, refused_text, cost_text};
+ghost use Rattle.pc_whatif.specs.Texts.{ok_text, refused_text};
 ghost use Rattle.pc_whatif.specs.edits.Standing.{Stands, empty};
 ghost use Rattle.pc_project.specs.Planned.{IsPlanned};
 ghost use Rattle.pc_project.specs.Project.{Project};
@@ -103,8 +103,7 @@ impl<'p> Session<'p> {
         ensures cells { IfOk result (λ session. session.region.free ≡
             trial_cells project.now.network.events (length project.now.network.arcs) (length project.now.pieces)) }
     {
-        // Called for what a project always is: its numbers are those of a sound plan.
-        let _net = project.net();
+        project.facts();
         Ok(Session {
             project,
             page: Page::with_capacity(alloc, PAGE_ROOM)?,
@@ -130,8 +129,6 @@ pub(crate) fn renew(region: &mut SessionRegion, edits: &Edits<'_>, a: u32, proje
     ensures renewed { IsRenewed project.now edits.now.editing region.new }
     ensures free { region.new.free ≡ region.old.free }
 {
-    // Called for what a network always is: the estimates of an activity are in order and within their limit.
-    let _net = edits.net();
     region.set_estimates(a, &edits.estimates(a), project.unit_days());
     region.renew(project.net());
 }
@@ -248,7 +245,8 @@ impl Session<'_> {
         let Some(cost) = cost else {
             return refuse(Reason::OutsideRange, &mut self.page, out);
         };
-        tell_cost(cost, &mut self.page, out)
+        put_number(&mut self.page, out, b"COST ", cost);
+        self.page.finish(out)
     }
 }
 
@@ -290,17 +288,6 @@ fn refuse<O: Sink>(reason: Reason, page: &mut Page, out: &mut O) -> Result<(), F
     ensures fresh { page.new ≡ fresh }
 {
     put_number(page, out, b"NO ", reason.number());
-    page.finish(out)
-}
-
-/// Writes the least cost of a trial.
-fn tell_cost<O: Sink>(cost: u64, page: &mut Page, out: &mut O) -> Result<(), Failed>
-    requires { page.old ≡ fresh }
-    ensures text { Writes result (O.taken out.old) (O.taken out.new) (O.faults out.old) (O.faults out.new)
-        (cost_text cost) }
-    ensures fresh { page.new ≡ fresh }
-{
-    put_number(page, out, b"COST ", cost);
     page.finish(out)
 }
 

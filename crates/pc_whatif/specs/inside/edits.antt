@@ -2,5 +2,4 @@
 pub mod Lines
 pub mod Plans
 pub mod Editing
-pub mod Further
 pub mod Inside

@@ -1,16 +1,20 @@
 //! Why new numbers of an activity are refused.
 ghost use Rattle.std.specs.Prelude.{◌≡◌, ◌<◌, IfOk, IfErr, IfSome, OnOk, None, Some, length, ◌≤◌};
-ghost use Rattle.pc_model.specs.Schedule.{term_at, AreTerms};
-ghost use Rattle.pc_crash.specs.Priced.{ArePiecesWithinLimits};
-ghost use Rattle.pc_crash.specs.inside.Priced.{AreNames};
+ghost use Rattle.pc_model.specs.Schedule.{term_at};
 ghost use Rattle.pc_whatif.specs.edits.Editing.{activity_named};
 ghost use Rattle.pc_whatif.specs.inside.edits.Editing.{MayTry};
-ghost use Rattle.pc_whatif.specs.inside.edits.Further.{refusal_with, further_in, is_flawed};
 ghost use Rattle.pc_whatif.specs.edits.Plans.{plan_with, term_tried};
 ghost use Rattle.pc_whatif.specs.inside.edits.Plans.{IsFitPlan};
-ghost use Rattle.pc_whatif.specs.edits.Refusal.{are_disordered, edit_refusal, is_over, is_trial_over, trial_refusal};
-ghost use Rattle.pc_model.specs.Pieces.{ArePieces, pieces_of};
-ghost use Rattle.pc_crash.specs.Terms.{AreWithinLimits};
+ghost use Rattle.pc_whatif.specs.edits.Refusal.{
+  are_disordered,
+  edit_refusal,
+  has_flaw,
+  is_over,
+  is_trial_over,
+  refusal_of,
+  trial_refusal,
+};
+ghost use Rattle.pc_model.specs.Pieces.{pieces_of};
 
 use crate::edits::ask::{Change, Edit, Trial};
 use crate::edits::reason::Reason;
@@ -26,10 +30,7 @@ pub(in crate::edits) fn judge_edit(
     estimates: &[Estimates],
     edit: &Edit,
 ) -> Result<u32, Reason>
-    requires names { AreNames (length net.now.network.arcs) net.now.activities }
-    requires piece_limits { ArePiecesWithinLimits net.now.pieces }
-    requires fit { IsFitPlan net.now.network net.now.pieces
-        (record { terms = net.now.terms; estimates = estimates.now }) }
+    requires { IsFitPlan net.now.network net.now.pieces (record { terms = net.now.terms; estimates = estimates.now }) }
     ensures known { IfOk result (λ a. a < length net.now.network.arcs) }
     ensures named { IfOk result (λ a. activity_named net.now edit.now.act ≡ Some a) }
     ensures fits { IfOk result (λ a. IsFitPlan net.now.network net.now.pieces
@@ -42,7 +43,7 @@ pub(in crate::edits) fn judge_edit(
     };
     let term = term_with(&edit.change, net.term(a));
     let own = estimates_with(&edit.change, estimates[a as usize]);
-    match reason_of(is_over(&edit.change), &term, &own, further_of(net, a)) {
+    match first_reason(net, a, is_over(&edit.change), &term, &own) {
         None => Ok(a),
         Some(reason) => Err(reason),
     }
@@ -54,10 +55,7 @@ pub(in crate::edits) fn judge_trial(
     estimates: &[Estimates],
     trial: &Trial,
 ) -> Result<ActTerm, Reason>
-    requires names { AreNames (length net.now.network.arcs) net.now.activities }
-    requires piece_limits { ArePiecesWithinLimits net.now.pieces }
-    requires fit { IsFitPlan net.now.network net.now.pieces
-        (record { terms = net.now.terms; estimates = estimates.now }) }
+    requires { IsFitPlan net.now.network net.now.pieces (record { terms = net.now.terms; estimates = estimates.now }) }
     ensures named { IfOk result (λ tried. activity_named net.now trial.now.act ≡ Some tried.activity) }
     ensures term { IfOk result (λ tried. tried.term ≡ term_tried trial.now (term_at net.now.terms tried.activity)) }
     ensures fits { IfOk result (MayTry net.now) }
@@ -68,12 +66,7 @@ pub(in crate::edits) fn judge_trial(
         return Err(Reason::UnknownActivity);
     };
     let term = term_tried(trial, net.term(a));
-    match reason_of(
-        is_trial_over(trial),
-        &term,
-        &estimates[a as usize],
-        further_of(net, a),
-    ) {
+    match first_reason(net, a, is_trial_over(trial), &term, &estimates[a as usize]) {
         None => Ok(ActTerm { activity: a, term }),
         Some(reason) => Err(reason),
     }
@@ -81,21 +74,23 @@ pub(in crate::edits) fn judge_trial(
 
 /// Returns the activity with a code.
 fn named(net: &CrashNet<'_>, code: &Code) -> Option<u32>
-    requires { AreNames (length net.now.network.arcs) net.now.activities }
     ensures value { result ≡ activity_named net.now code.now }
     ensures known { IfSome result (λ a. a < length net.now.network.arcs) }
 {
+    net.facts();
     net.activity_named(code)
 }
 
-/// Returns the first reason against numbers of an activity with these further pieces, if there is one.
-fn reason_of(
+/// Returns the first reason against numbers of an activity, if there is one.
+fn first_reason(
+    net: &CrashNet<'_>,
+    a: u32,
     over: bool,
     term: &Term,
     estimates: &Estimates,
-    further: Option<Further>,
 ) -> Option<Reason>
-    ensures { result ≡ refusal_with over term.now estimates.now further }
+    requires { a < length net.now.network.arcs }
+    ensures { result ≡ refusal_of over term.now estimates.now (pieces_of net.now.pieces a) }
 {
     if over {
         Some(Reason::OverLimit)
@@ -103,7 +98,7 @@ fn reason_of(
         Some(Reason::CrashAboveNormal)
     } else if are_disordered(estimates) {
         Some(Reason::EstimatesOutOfOrder)
-    } else if is_flawed(term, further) {
+    } else if is_flawed(net, a, term) {
         Some(Reason::PieceFault)
     } else {
         None
@@ -151,42 +146,22 @@ fn term_tried(trial: &Trial, term: Term) -> Term
     }
 }
 
-/// The further pieces of an activity's cost: the slope of the first of them, and the units that they have together.
+/// Returns whether a further piece of an activity would have a fault with this term. Looks at its knees once.
 ///
-/// The activity's own slope must be below that slope, and it must have more units from normal to crash than these.
-#[derive(Clone, Copy)]
-pub(in crate::edits) struct Further {
-    pub(in crate::edits) slope: u64,
-    pub(in crate::edits) units: u64,
-}
-
-/// Returns what the further pieces of an activity demand, if it has some. Looks at its knees once.
-pub(in crate::edits) fn further_of(net: &CrashNet<'_>, a: u32) -> Option<Further>
+/// The slopes of the pieces rise, so the term's slope must only be below that of the first of them, and the term must
+/// have more units from normal to crash than they have together.
+fn is_flawed(net: &CrashNet<'_>, a: u32, term: &Term) -> bool
     requires activity { a < length net.now.network.arcs }
-    requires terms { AreTerms net.now.network net.now.terms }
-    requires limits { AreWithinLimits net.now.terms }
-    requires pieces { ArePieces net.now.terms net.now.pieces }
-    requires piece_limits { ArePiecesWithinLimits net.now.pieces }
-    ensures { result ≡ further_in (pieces_of net.now.pieces a) }
+    requires ordered { term.now.crash ≤ term.now.normal }
+    ensures { result ≡ has_flaw term.now term.now.slope 0 (pieces_of net.now.pieces a) }
 {
+    net.facts();
     let knees = net.knees(a);
     if knees.len() < 2 {
-        return None;
+        return false;
     }
-    let term = net.term(a);
-    Some(Further {
-        slope: term.slope + knees.rise(1),
-        units: knees.knee(1) - term.crash,
-    })
-}
-
-/// Returns whether a term breaks what the further pieces demand.
-pub(in crate::edits) fn is_flawed(term: &Term, further: Option<Further>) -> bool
-    requires { term.now.crash ≤ term.now.normal }
-    ensures { result ≡ is_flawed term.now further }
-{
-    match further {
-        None => false,
-        Some(f) => f.slope <= term.slope || term.normal - term.crash <= f.units,
-    }
+    let own = net.term(a);
+    let slope = own.slope + knees.rise(1);
+    let units = knees.knee(1) - own.crash;
+    slope <= term.slope || term.normal - term.crash <= units
 }

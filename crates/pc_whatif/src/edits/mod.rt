@@ -4,7 +4,7 @@
 //! What a line of a what-if session asks for, and which edits are refused and why, are in the modules below.
 
 ghost use Rattle.std.specs.Prelude.{◌≡◌, ◌<◌, length, IfOk, OnOk, slice_set, None, Some, IfErr, OnErr};
-ghost use Rattle.pc_whatif.specs.inside.edits.Editing.{IsEditing, net_in, at_rest, ChangesOnly, MayTry};
+ghost use Rattle.pc_whatif.specs.inside.edits.Editing.{net_in, at_rest, ChangesOnly, MayTry};
 ghost use Rattle.pc_whatif.specs.edits.Plans.{
   estimates_at,
   estimates_in,
@@ -13,12 +13,11 @@ ghost use Rattle.pc_whatif.specs.edits.Plans.{
   term_with,
   term_tried,
 };
-ghost use Rattle.pc_project.specs.Planned.{IsPlanned};
 ghost use Rattle.pc_whatif.specs.edits.Editing.{begun, edited, plan_of, undone, activity_named};
 ghost use Rattle.pc_whatif.specs.edits.Standing.{Stands, empty, Journal, noted, taken_back};
 ghost use Rattle.pc_model.specs.Schedule.{term_at};
 ghost use Rattle.pc_whatif.specs.inside.edits.Inside.{replaced};
-ghost use Rattle.pc_whatif.specs.inside.edits.Plans.{IsFitPlan};
+ghost use Rattle.pc_whatif.specs.inside.edits.Plans.{AreEstimates, IsFitPlan};
 ghost use Rattle.pc_project.specs.Project.{Project};
 ghost use Rattle.pc_whatif.specs.edits.Refusal.{edit_refusal, trial_refusal, undo_refusal};
 
@@ -82,8 +81,7 @@ impl<'p> Model for Edits<'p> {
 impl<'p> Edits<'p> {
     /// Returns the current priced network, with the term on trial if there is one.
     pub(crate) fn net(&self) -> &CrashNet<'p>
-        ensures net { result.now ≡ net_in self.now }
-        ensures whole { IsEditing self.now.editing }
+        ensures { result.now ≡ net_in self.now }
     {
         &self.net
     }
@@ -91,7 +89,8 @@ impl<'p> Edits<'p> {
     /// Returns the current estimates of an activity, in units.
     pub(crate) fn estimates(&self, a: u32) -> Estimates
         requires { a < length self.now.editing.net.network.arcs }
-        ensures { result ≡ estimates_at self.now.editing.estimates a }
+        ensures value { result ≡ estimates_at self.now.editing.estimates a }
+        ensures fit { AreEstimates result }
     {
         self.estimates[a as usize]
     }
@@ -103,6 +102,7 @@ impl<'p> Edits<'p> {
         ensures begun { IfOk result (λ edits. edits ≡ at_rest (begun project.now)) }
         ensures standing { IfOk result (λ edits. Stands project.now empty edits.editing) }
     {
+        project.facts();
         Ok(Edits {
             estimates: estimates_of(alloc, project)?,
             unit_days: project.unit_days(),
@@ -122,8 +122,7 @@ struct KeptEdit {
 
 /// Returns the estimates of the project's activities, in card order.
 fn estimates_of(alloc: Global, project: &Project) -> Result<Vec<Estimates>, AllocError>
-    ensures estimates { IfOk result (λ list. list.items ≡ estimates_in project.now.deck) }
-    ensures planned { OnOk result (IsPlanned project.now) }
+    ensures { IfOk result (λ list. list.items ≡ estimates_in project.now.deck) }
 {
     project
         .cards()

@@ -7,9 +7,6 @@ ghost use Rattle.pc_curve.specs.CurveText.{IsCurveText};
 ghost use Rattle.pc_curve.specs.Points.{curve_in};
 ghost use Rattle.pc_edges.specs.inside.Writes.{Writes};
 ghost use Rattle.pc_model.specs.declared.limits.TheConstants.{
-  MAX_ACTIVITIES,
-  MAX_DURATION,
-  MAX_EVENTS,
   MAX_PIECES,
   MAX_UNIT_DAYS,
   MAX_VARIANCE,
@@ -19,6 +16,7 @@ ghost use Rattle.pc_project.specs.Project.{Project as Plan};
 ghost use Rattle.pc_reports.specs.TimesText.{IsTimesText};
 ghost use Rattle.pc_times.specs.Times.{AreLengths};
 ghost use Rattle.pc_times.specs.declared.TheConstants.{MAX_ACTIVITY_LENGTH, MAX_TIME};
+ghost use Rattle.pc_whatif.specs.inside.edits.Plans.{AreEstimates};
 ghost use Rattle.pc_whatif.specs.inside.trials.Laid.{AreAtMost, AreSpansTaken, AreRenewed, IsLaidIn, list_of};
 ghost use Rattle.pc_whatif.specs.inside.trials.SessionRegion.{
   IsChangedTo,
@@ -39,6 +37,7 @@ use pc_cells::{Region, Span};
 use pc_crash::{CrashNet, Steps};
 use pc_edges::page::Page;
 use pc_edges::{Failed, Sink};
+use pc_flow::cells_needed;
 use pc_net::Net;
 use pc_project::{Estimates, Project};
 use pc_reports::{TimesView, end_to_meet, write_times_on};
@@ -75,17 +74,6 @@ impl Model for SessionRegion {
     ghost view = { session_region_of };
 
     ghost invariant = { IsLaid };
-}
-
-/// Returns how many cells a session needs for these numbers of events, activities and pieces: those of the standing
-/// times and those that a trial works in.
-fn cells_needed(events: usize, activities: usize, pieces: usize) -> usize
-    requires events { events ≤ MAX_EVENTS }
-    requires activities { activities ≤ MAX_ACTIVITIES }
-    requires pieces { pieces ≤ MAX_PIECES }
-    ensures { result ≡ (2 * activities + 3 * events) + trial_cells events activities pieces }
-{
-    2 * activities + 3 * events + pc_flow::cells_needed(events, activities, pieces)
 }
 
 impl SessionRegion {
@@ -126,9 +114,12 @@ impl SessionRegion {
         ensures variances { IfOk result (λ r. r.variances ≡ variances.now) }
         ensures free { IfOk result (λ r. r.free ≡ trial_cells net.now.events (length net.now.arcs) pieces) }
     {
+        net.facts();
         let events = net.events() as usize;
         let activities = net.activities() as usize;
-        let mut region = Region::with_cells(alloc, cells_needed(events, activities, pieces))?;
+        // The cells of the standing times, and those that a trial works in.
+        let cells = 2 * activities + 3 * events + cells_needed(events, activities, pieces);
+        let mut region = Region::with_cells(alloc, cells)?;
         let room = vec![in alloc; 0; events]?;
         let spans = take_spans(&mut region, events, activities);
         region.write(spans.expected, expected);
@@ -195,9 +186,7 @@ impl SessionRegion {
     /// The times of events stay: call `renew` before you read them.
     pub(crate) fn set_estimates(&mut self, a: u32, estimates: &Estimates, unit_days: u64)
         requires activity { a < length self.old.expected }
-        requires likely { estimates.now.optimistic ≤ estimates.now.likely }
-        requires pessimistic { estimates.now.likely ≤ estimates.now.pessimistic }
-        requires limit { estimates.now.pessimistic ≤ MAX_DURATION }
+        requires estimates { AreEstimates estimates.now }
         requires unit { unit_days ≤ MAX_UNIT_DAYS }
         ensures { self.new ≡ with_estimates self.old a estimates.now unit_days }
     {
@@ -243,8 +232,7 @@ impl SessionRegion {
         ensures fresh { page.new ≡ fresh }
     {
         let net = project.net();
-        // Called for the bound on activities, so that each has a small number.
-        let _activities = net.activities();
+        net.facts();
         let early = self.early();
         let by = end_to_meet(project.directed(), early[net.end() as usize]);
         let view = StandingTimes {

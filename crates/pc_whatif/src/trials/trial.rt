@@ -53,16 +53,14 @@ fn cost_within<L: Ledger>(solver: &mut Solver<'_>, limit: u64, steps: &mut Steps
     ensures same { IsSameCurve solver.old solver.new }
     ensures counted { steps.new ≤ steps.old + looks_over solver.old.net (solver.old.longest - solver.old.shortest) }
 {
-    // Called for its clause `level`: before the first segment no time has fallen.
-    let _given = solver.given();
+    solver.facts();
     let shortest = solver.shortest();
     let longest = solver.longest();
     if limit < shortest || longest < limit {
         return None;
     }
     let cost = cost_at(solver, limit, steps);
-    // Called for its clause `range`: the lower end of a solver is always in the range.
-    let _given = solver.given();
+    solver.facts();
     Some(cost)
 }
 
@@ -85,11 +83,9 @@ pub(in crate::trials) fn trial_curve<O: Sink, L: Ledger>(
         steps.new ≤ steps.old + looks_over net.now (longest - shortest) }
 {
     let mut solver = Solver::begin(home.take().unwrap(), net);
-    // Called for its clause `level`: before the first segment no time has fallen.
-    let _given = solver.given();
+    solver.facts();
     let written = write_curve(page, sink, &mut solver, steps);
-    // Called for its clause `range`: the lower end of a solver is always in the range.
-    let _given = solver.given();
+    solver.facts();
     put_back(home, solver);
     written
 }

@@ -4,8 +4,6 @@ use Rattle.std.proofs.lemmas.Bool.{cases_lt}
 use Rattle.std.proofs.lemmas.List.{length-map, get_or-map, get_or_default}
 use Rattle.std.specs.List.{All}
 use Rattle.circular_buffer.specs.Buffer.{Buffer, buffer}
-use Rattle.pc_crash.specs.Priced.{ArePiecesWithinLimits, PricedNetwork}
-use Rattle.pc_crash.specs.inside.Priced.{AreNames}
 use Rattle.pc_deck.specs.inside.Act.{IsActWithin}
 use Rattle.pc_deck.specs.Deck.{Deck}
 use Rattle.pc_deck.specs.declared.kinds.act.ActCard.{ActCard}
@@ -77,9 +75,6 @@ module _ (project : Project) (planned : IsPlanned project) where
     unit_days = planned.unit_days;
   }
 
-  pub AreNames-begun : AreNames (length project.network.arcs) project.activities
-  AreNames-begun = record { one_each = planned.activity_codes; once = planned.activities_differ }
-
   -- fields that are the deck's are whole
   module _ (s : Inside) (net_is : s.net ≡ priced_in project) (estimates_are : s.estimates.items ≡ estimates_in project.deck) (unit_is : s.unit_days ≡ project.heading.unit_days)
       (kept_is : s.kept ≡ buffer [] MAX_KEPT) (aside_is : s.aside ≡ None) where
@@ -91,8 +86,6 @@ module _ (project : Project) (planned : IsPlanned project) where
     pub begun_whole : IsWholeInside s
     begun_whole = record {
       editing = subst IsEditing (sym editing_is) IsEditing-begun;
-      names = subst (λ (n : PricedNetwork). AreNames (length n.network.arcs) n.activities) (sym net_is) AreNames-begun;
-      piece_limits = subst (λ (n : PricedNetwork). ArePiecesWithinLimits n.pieces) (sym net_is) planned.piece_limits;
       room = ap (λ (b : Buffer KeptEdit). b.capacity) kept_is;
       known = subst (All (λ (k : KeptEdit). k.activity < length s.net.network.arcs)) (sym (ap (λ (b : Buffer KeptEdit). b.items) kept_is)) (λ k d inside. absurd (omega arith));
       aside_known = λ t is. absurd (let none = aside_is in let some = is in cc);

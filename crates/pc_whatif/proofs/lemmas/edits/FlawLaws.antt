@@ -1,5 +1,5 @@
--- What the further pieces of an activity ask of its term is what the faults of the pieces one by one come to.
-use Rattle.std.proofs.Common.{◌≡◌, ℕ, zero, suc, ◌+◌, ◌-◌, ◌<◌, Bool, false, ◌||◌, leb, List, [], ◌∷◌, length, Some, refl, sym, ◌∙◌, ap, add-one, arith}
+-- Whether a further piece of an activity has a fault is told by the slope of the first of them and the units of all.
+use Rattle.std.proofs.Common.{◌≡◌, ℕ, zero, suc, ◌+◌, ◌-◌, ◌<◌, ◌≤◌, Bool, false, ◌||◌, leb, List, [], ◌∷◌, length, refl, sym, ◌∙◌, ap, add-one, arith}
 use Rattle.std.proofs.lemmas.Bool.Decides.{nat_tests}
 use Rattle.std.proofs.lemmas.List.Sums.{sum_by-cons}
 use Rattle.pc_model.specs.declared.PieceRow.{PieceRow}
@@ -7,10 +7,7 @@ use Rattle.pc_model.specs.declared.Term.{Term}
 use Rattle.pc_model.specs.Pieces.{knee_in, rise_in, slope_in, units_of}
 use Rattle.pc_crash.specs.inside.Laid.{IsRising}
 use Rattle.pc_crash.specs.Priced.{piece_at}
-use Rattle.pc_project.specs.declared.activity.Estimates.{Estimates}
-use Rattle.pc_whatif.specs.declared.edits.judging.Further.{Further}
-use Rattle.pc_whatif.specs.inside.edits.Further.{further_in, is_flawed, refusal_with}
-use Rattle.pc_whatif.specs.edits.Refusal.{has_flaw, refusal_of}
+use Rattle.pc_whatif.specs.edits.Refusal.{has_flaw}
 
 -- the units of a piece and of those behind it
 units_of-cons : (piece : PieceRow) (pieces : List PieceRow) → units_of (piece ∷ pieces) ≡ piece.units + units_of pieces
@@ -48,33 +45,40 @@ rising_behind slope (piece ∷ pieces) rising =
     later zero h = h
     later (suc k) h = h
 
--- a term breaks what the pieces of an activity ask exactly where one of them has a fault
-pub is_flawed-has_flaw : (old term : Term) (own : List PieceRow) → ((k : ℕ) → k < length own → slope_in old own k < slope_in old own (k + 1)) →
-    is_flawed term (further_in own) ≡ has_flaw term term.slope 0 own
-is_flawed-has_flaw old term [] rising = refl
-is_flawed-has_flaw old term (piece ∷ pieces) rising =
-    sym (flaw-is term term.slope 0 piece pieces (rising_behind piece.slope pieces (λ k inside. later k inside)) ∙ ap (λ n. leb piece.slope term.slope || leb term.normal (term.crash + n)) plain)
+-- of the pieces of an activity, whatever its term was when their slopes rose
+module _ (old term : Term) (piece : PieceRow) (pieces : List PieceRow)
+    (rising : (k : ℕ) → k < length (piece ∷ pieces) → slope_in old (piece ∷ pieces) k < slope_in old (piece ∷ pieces) (k + 1)) where
+  plain : 0 + units_of (piece ∷ pieces) ≡ units_of (piece ∷ pieces)
+  plain = omega arith
+
+  later : (k : ℕ) → k < length pieces → slope_in (record { normal = 0; crash = 0; cost = 0; slope = piece.slope }) pieces k < (piece_at pieces k).slope
+  later zero inside = rising 1 (omega arith)
+  later (suc k) inside = omega (arith, rising (suc (suc k)) (omega arith), ap (slope_in old (piece ∷ pieces)) (add-one (suc (suc k))))
+
+  pub has_flaw-is : has_flaw term term.slope 0 (piece ∷ pieces) ≡ (leb piece.slope term.slope || leb term.normal (term.crash + units_of (piece ∷ pieces)))
+  has_flaw-is =
+      flaw-is term term.slope 0 piece pieces (rising_behind piece.slope pieces later) ∙ ap (λ n. leb piece.slope term.slope || leb term.normal (term.crash + n)) plain
+
+-- without further pieces there is no fault
+pub no_flaw : (term : Term) (own : List PieceRow) → length own + 1 < 2 → false ≡ has_flaw term term.slope 0 own
+no_flaw term [] few = refl
+no_flaw term (piece ∷ pieces) few = absurd (omega arith)
+
+-- and with some the second knee of the activity tells
+pub flaw_by : (old term : Term) (own : List PieceRow) (at rise : ℕ) → 1 < length own + 1 → at ≡ knee_in old own 1 → rise ≡ rise_in old own 1
+    → ((k : ℕ) → k < length own → slope_in old own k < slope_in old own (k + 1)) → term.crash ≤ term.normal
+    → (leb (old.slope + rise) term.slope || leb (term.normal - term.crash) (at - old.crash)) ≡ has_flaw term term.slope 0 own
+flaw_by old term [] at rise some at_is rise_is rising ordered = absurd (omega arith)
+flaw_by old term (piece ∷ pieces) at rise some at_is rise_is rising ordered =
+    (λ i. leb (slope i) term.slope || leb (term.normal - term.crash) (units i))
+    ∙ ap (λ b. leb piece.slope term.slope || b) (both term.normal term.crash (units_of (piece ∷ pieces)) ordered)
+    ∙ sym (has_flaw-is old term piece pieces rising)
   where
-    plain : 0 + units_of (piece ∷ pieces) ≡ units_of (piece ∷ pieces)
-    plain = omega arith
+    slope : old.slope + rise ≡ piece.slope
+    slope = omega (arith, rise_is, rising 0 (omega arith))
 
-    later : (k : ℕ) → k < length pieces → slope_in (record { normal = 0; crash = 0; cost = 0; slope = piece.slope }) pieces k < (piece_at pieces k).slope
-    later zero inside = rising 1 (omega arith)
-    later (suc k) inside = omega (arith, rising (suc (suc k)) (omega arith), ap (slope_in old (piece ∷ pieces)) (add-one (suc (suc k))))
-
--- so the reasons are the same
-pub refusal_with-is : (over : Bool) (old term : Term) (estimates : Estimates) (own : List PieceRow) → ((k : ℕ) → k < length own → slope_in old own k < slope_in old own (k + 1)) →
-    refusal_with over term estimates (further_in own) ≡ refusal_of over term estimates own
-refusal_with-is over old term estimates own rising = rw (is_flawed-has_flaw old term own rising) refl
-
--- what the second knee of an activity tells
-pub further-some : (term : Term) (own : List PieceRow) (at rise : ℕ) → 1 < length own + 1 → at ≡ knee_in term own 1 → rise ≡ rise_in term own 1 → (0 < length own → term.slope < slope_in term own 1) →
-    Some (record { slope = term.slope + rise; units = at - term.crash }) ≡ further_in own
-further-some term [] at rise some at_is rise_is rises = absurd (omega arith)
-further-some term (piece ∷ pieces) at rise some at_is rise_is rises = ap (λ (f : Further). Some f) (λ i. record { slope = slope i; units = units i })
-  where
-    slope : term.slope + rise ≡ piece.slope
-    slope = omega (arith, rise_is, rises (omega arith))
-
-    units : at - term.crash ≡ units_of (piece ∷ pieces)
+    units : at - old.crash ≡ units_of (piece ∷ pieces)
     units = omega (arith, at_is)
+
+    both : (normal crash taken : ℕ) → crash ≤ normal → leb (normal - crash) taken ≡ leb normal (crash + taken)
+    both normal crash taken fits = grind (arith, nat_tests)

@@ -1,17 +1,16 @@
 -- What calls read of the fields of edits, and what they make of them.
-use Rattle.std.proofs.Common.{◌≡◌, ℕ, ◌-◌, ◌<◌, zero, suc, List, [], ◌∷◌, ◌++◌, length, take, set, Option, Some, None, refl, sym, ◌∙◌, ap, subst, arith}
+use Rattle.std.proofs.Common.{◌≡◌, ℕ, ◌-◌, ◌<◌, List, [], ◌∷◌, ◌++◌, length, take, set, Option, Some, None, refl, sym, ◌∙◌, ap, subst, arith}
 use Rattle.std.specs.List.{All}
 use Rattle.std.specs.Option.{ForSome, option_map_or}
 use Rattle.std.specs.Vec.{with_items}
 use Rattle.std.proofs.lemmas.List.{get_or-set_same, length-drop, length-set, length-take, with_items_is}
 use Rattle.std.proofs.lemmas.Bool.{ne_eqb}
-use Rattle.std.proofs.lemmas.List.Elements.{All-append, All-drop, All-take}
+use Rattle.std.proofs.lemmas.List.Elements.{All-drop, All-push, All-take}
 use Rattle.std.proofs.lemmas.Option.{get_or_from_slice_get}
 use Rattle.circular_buffer.specs.Buffer.{Buffer, buffer, keep_last, last_item}
 use Rattle.pc_model.specs.declared.Term.{Term}
 use Rattle.pc_model.specs.Schedule.{term_at}
-use Rattle.pc_crash.specs.Priced.{ArePiecesWithinLimits, PricedNetwork}
-use Rattle.pc_crash.specs.inside.Priced.{AreNames}
+use Rattle.pc_crash.specs.Priced.{PricedNetwork}
 use Rattle.pc_project.specs.declared.activity.Estimates.{Estimates}
 use Rattle.pc_whatif.specs.declared.edits.ask.Change.{Change}
 use Rattle.pc_whatif.specs.declared.edits.ask.Edit.{Edit}
@@ -52,10 +51,6 @@ All-last : {X : Type 0} (P : X → Type 0) (xs : List X) (x : X) → All P xs �
 All-last P [] x all e = absurd cc
 All-last P (y ∷ ys) x all e =
     subst P (get_or_from_slice_get (y ∷ ys) (length (y ∷ ys) - 1) x y e) (all (length (y ∷ ys) - 1) y (omega arith))
-
-All-one : {X : Type 0} (P : X → Type 0) (x : X) → P x → All P (x ∷ [])
-All-one P x is zero d inside = is
-All-one P x is (suc k) d inside = absurd (omega arith)
 
 module _ (net : PricedNetwork) (estimates : List Estimates) (unit_days : ℕ) (kept : List KeptEdit) (whole : IsEditing (editing_at net estimates unit_days kept)) where
   abbrev before : Editing
@@ -110,7 +105,7 @@ module _ (net : PricedNetwork) (estimates : List Estimates) (unit_days : ℕ) (k
       fit = fits;
       kept_fit = subst (All (IsFitPlan net.network net.pieces)) (sym kept_after)
           (All-drop (IsFitPlan net.network net.pieces) (length (plans_back kept plan ++ plan ∷ []) - MAX_KEPT) (plans_back kept plan ++ plan ∷ [])
-          (All-append (IsFitPlan net.network net.pieces) (plans_back kept plan) (plan ∷ []) whole.kept_fit (All-one (IsFitPlan net.network net.pieces) plan whole.fit)));
+          (All-push (IsFitPlan net.network net.pieces) (plans_back kept plan) plan whole.kept_fit whole.fit));
       few = omega (arith, ap (λ (ps : List Plan). length ps) kept_after, length-drop (length (plans_back kept plan ++ plan ∷ []) - MAX_KEPT) (plans_back kept plan ++ plan ∷ []));
       unit_days = whole.unit_days;
     }
@@ -121,7 +116,7 @@ module _ (net : PricedNetwork) (estimates : List Estimates) (unit_days : ℕ) (k
     pub known_after : All (λ (k : KeptEdit). k.activity < length net.network.arcs) kept → All (λ (k : KeptEdit). k.activity < length net.network.arcs) (keep_last MAX_KEPT (kept ++ kept_now ∷ []))
     known_after all =
         All-drop (λ (k : KeptEdit). k.activity < length net.network.arcs) (length (kept ++ kept_now ∷ []) - MAX_KEPT) (kept ++ kept_now ∷ [])
-        (All-append (λ (k : KeptEdit). k.activity < length net.network.arcs) kept (kept_now ∷ []) all (All-one (λ (k : KeptEdit). k.activity < length net.network.arcs) kept_now known))
+        (All-push (λ (k : KeptEdit). k.activity < length net.network.arcs) kept kept_now all known)
 
   -- an edit that is taken back
   module _ (k : KeptEdit) (last : last_item kept ≡ Some k) (known : k.activity < length net.network.arcs) where
@@ -187,13 +182,10 @@ module _ (s : Inside) (v : Edits) (view : edits_from s ≡ v) (inv : IsWholeInsi
 -- other fields with nothing on trial
 module _ (s : Inside) (aside : s.aside ≡ None) (net : PricedNetwork) (estimates : List Estimates) (kept : List KeptEdit)
     (net_is : s.net ≡ net) (estimates_are : s.estimates.items ≡ estimates) (kept_are : s.kept.items ≡ kept) where
-  pub edits_from-at : edits_from s ≡ at_rest (editing_at net estimates s.unit_days kept)
+  edits_from-at : edits_from s ≡ at_rest (editing_at net estimates s.unit_days kept)
   edits_from-at =
       ap (λ aside. edits_from (record s { aside = aside })) aside
       ∙ (λ i. at_rest (editing_at (net_is i) (estimates_are i) s.unit_days (kept_are i)))
-
-  pub IsEditing-at : IsEditing (editing_at net estimates s.unit_days kept) → IsEditing (editing_in s)
-  IsEditing-at whole = subst (λ (e : Edits). IsEditing e.editing) (sym edits_from-at) whole
 
 -- the network that the fields have
 pub net_in-is : (s : Inside) → s.net ≡ net_in (edits_from s)
@@ -203,14 +195,8 @@ net_in-is s = case s.aside
     case None = refl
     case (Some aside) = ap (λ ts. record s.net { terms = ts }) (sym (set-back s.net.terms aside.activity aside.term no_term))
 
--- what holds of a network's names, pieces and kept edits, where it is the same but for its terms
+-- what holds of kept edits and of the term that was put aside, where the network is the same but for its terms
 module _ (s : Inside) (inv : IsWholeInside s) (terms : List Term) (net : PricedNetwork) (net_is : net ≡ record s.net { terms = terms }) where
-  names_kept : AreNames (length net.network.arcs) net.activities
-  names_kept = subst (λ (n : PricedNetwork). AreNames (length n.network.arcs) n.activities) (sym net_is) inv.names
-
-  pieces_kept : ArePiecesWithinLimits net.pieces
-  pieces_kept = subst (λ (n : PricedNetwork). ArePiecesWithinLimits n.pieces) (sym net_is) inv.piece_limits
-
   known_kept : (kept : List KeptEdit) → All (λ (k : KeptEdit). k.activity < length s.net.network.arcs) kept → All (λ (k : KeptEdit). k.activity < length net.network.arcs) kept
   known_kept kept = subst (λ (n : PricedNetwork). All (λ (k : KeptEdit). k.activity < length s.net.network.arcs) kept →
       All (λ (k : KeptEdit). k.activity < length n.network.arcs) kept) (sym net_is) (λ all. all)
@@ -218,7 +204,13 @@ module _ (s : Inside) (inv : IsWholeInside s) (terms : List Term) (net : PricedN
   aside_kept : ForSome s.aside (λ (t : ActTerm). t.activity < length net.network.arcs)
   aside_kept = subst (λ (n : PricedNetwork). ForSome s.aside (λ (t : ActTerm). t.activity < length n.network.arcs)) (sym net_is) inv.aside_known
 
--- fields after an accepted edit
+-- what an accepted edit of activity a makes of the fields
+pub record IsEdited (v : Edits) (edit : Edit) (a : ℕ) (new : Inside) : Type 0 where
+  pub whole : IsWholeInside new
+  pub view : edits_from new ≡ at_rest (edited v.editing edit)
+  pub touched : ChangesOnly v.editing (editing_in new) a
+  pub back : plan_of (undone (edited v.editing edit)) ≡ plan_of v.editing
+
 module _ (s : Inside) (v : Edits) (view : edits_from s ≡ v) (inv : IsWholeInside s) (rest : v.trial ≡ None)
     (edit : Edit) (a : ℕ) (named : activity_named s.net edit.act ≡ Some a) (known : a < length s.net.network.arcs)
     (list : List Estimates) (list_is : list ≡ s.estimates.items)
@@ -233,7 +225,7 @@ module _ (s : Inside) (v : Edits) (view : edits_from s ≡ v) (inv : IsWholeInsi
   fits_now : IsFitPlan s.net.network s.net.pieces (plan_with edit.change a (record { terms = s.net.terms; estimates = s.estimates.items }))
   fits_now = subst (λ es. IsFitPlan s.net.network s.net.pieces (plan_with edit.change a (record { terms = s.net.terms; estimates = es }))) list_is fits
 
-  abbrev pub after_edit : Inside
+  abbrev after_edit : Inside
   after_edit = record s { net = net; estimates = with_items s.estimates new; kept = kept }
 
   now_is : new ≡ list_with edit.change a s.estimates.items
@@ -245,60 +237,46 @@ module _ (s : Inside) (v : Edits) (view : edits_from s ≡ v) (inv : IsWholeInsi
       ∙ length-set s.estimates.items a (estimates_with edit.change (estimates_at s.estimates.items a)) ∙ sym s.estimates.ok.0)
       ∙ now_is
 
-  pushed_are : kept.items ≡ keep_last MAX_KEPT (s.kept.items ++ record { activity = a; was = replaced edit.change (term_at s.net.terms a) (estimates_at s.estimates.items a) } ∷ [])
+  abbrev kept_then : List KeptEdit
+  kept_then = keep_last MAX_KEPT (s.kept.items ++ record { activity = a; was = replaced edit.change (term_at s.net.terms a) (estimates_at s.estimates.items a) } ∷ [])
+
+  pushed_are : kept.items ≡ kept_then
   pushed_are =
       ap (λ (b : Buffer KeptEdit). b.items) kept_is
       ∙ ap (λ n. keep_last n (s.kept.items ++ record { activity = a; was = was } ∷ [])) inv.room
       ∙ ap (λ (w : Change). keep_last MAX_KEPT (s.kept.items ++ record { activity = a; was = w } ∷ [])) was_is
 
-  none_aside : s.aside ≡ None
-  none_aside = no_aside s v view inv rest
-
   at_now : at_rest (editing_at s.net s.estimates.items s.unit_days s.kept.items) ≡ v
   at_now = view_at s v view inv rest
 
-  pub edit_view : edits_from after_edit ≡ at_rest (edited v.editing edit)
-  edit_view =
-      edits_from-at after_edit none_aside (net_with edit.change a s.net) (list_with edit.change a s.estimates.items)
-      (keep_last MAX_KEPT (s.kept.items ++ record {
-        activity = a;
-        was = replaced edit.change (term_at s.net.terms a) (estimates_at s.estimates.items a);
-      } ∷ [])) net_is items_are pushed_are
-      ∙ ap at_rest (edited_at s.net s.estimates.items s.unit_days s.kept.items whole_now edit a named known fits_now)
-      ∙ ap (λ (e : Edits). at_rest (edited e.editing edit)) at_now
+  edit_is : edits_from after_edit ≡ at_rest (editing_at (net_with edit.change a s.net) (list_with edit.change a s.estimates.items) s.unit_days kept_then)
+  edit_is = edits_from-at after_edit (no_aside s v view inv rest) (net_with edit.change a s.net) (list_with edit.change a s.estimates.items) kept_then net_is items_are pushed_are
 
-  pub edit_touched : ChangesOnly v.editing (editing_in after_edit) a
-  edit_touched =
-      subst (λ (e : Edits). ChangesOnly e.editing (editing_in after_edit) a) at_now
-      (subst (λ (e : Edits). ChangesOnly (editing_at s.net s.estimates.items s.unit_days s.kept.items) e.editing a)
-      (sym (edits_from-at after_edit none_aside (net_with edit.change a s.net) (list_with edit.change a s.estimates.items)
-      (keep_last MAX_KEPT (s.kept.items ++ record {
-        activity = a;
-        was = replaced edit.change (term_at s.net.terms a) (estimates_at s.estimates.items a);
-      } ∷ [])) net_is items_are pushed_are))
-      (changes_edited s.net s.estimates.items s.unit_days s.kept.items whole_now edit a named known fits_now))
-
-  pub edit_undone : plan_of (undone (edited v.editing edit)) ≡ plan_of v.editing
-  edit_undone =
-      subst (λ (e : Edits). plan_of (undone (edited e.editing edit)) ≡ plan_of e.editing) at_now
-      (undone_edited s.net s.estimates.items s.unit_days s.kept.items whole_now edit a named known fits_now)
-
-  pub edit_whole : IsWholeInside after_edit
-  edit_whole = record {
-    editing = IsEditing-at after_edit none_aside (net_with edit.change a s.net) (list_with edit.change a s.estimates.items)
-        (keep_last MAX_KEPT (s.kept.items ++ record {
-          activity = a;
-          was = replaced edit.change (term_at s.net.terms a) (estimates_at s.estimates.items a);
-        } ∷ [])) net_is items_are pushed_are
-        (whole_edited s.net s.estimates.items s.unit_days s.kept.items whole_now edit a named known fits_now);
-    names = names_kept s inv (net_with edit.change a s.net).terms net net_is;
-    piece_limits = pieces_kept s inv (net_with edit.change a s.net).terms net net_is;
-    room = ap (λ (b : Buffer KeptEdit). b.capacity) kept_is ∙ inv.room;
-    known = known_kept s inv (net_with edit.change a s.net).terms net net_is kept.items
-        (subst (All (λ (k : KeptEdit). k.activity < length s.net.network.arcs)) (sym pushed_are)
-        (known_after s.net s.estimates.items s.unit_days s.kept.items whole_now edit a named known fits_now inv.known));
-    aside_known = aside_kept s inv (net_with edit.change a s.net).terms net net_is;
+  pub edited_fields : IsEdited v edit a after_edit
+  edited_fields = record {
+    whole = record {
+      editing = subst (λ (e : Edits). IsEditing e.editing) (sym edit_is) (whole_edited s.net s.estimates.items s.unit_days s.kept.items whole_now edit a named known fits_now);
+      room = ap (λ (b : Buffer KeptEdit). b.capacity) kept_is ∙ inv.room;
+      known = known_kept s inv (net_with edit.change a s.net).terms net net_is kept.items
+          (subst (All (λ (k : KeptEdit). k.activity < length s.net.network.arcs)) (sym pushed_are)
+          (known_after s.net s.estimates.items s.unit_days s.kept.items whole_now edit a named known fits_now inv.known));
+      aside_known = aside_kept s inv (net_with edit.change a s.net).terms net net_is;
+    };
+    view = edit_is
+        ∙ ap at_rest (edited_at s.net s.estimates.items s.unit_days s.kept.items whole_now edit a named known fits_now)
+        ∙ ap (λ (e : Edits). at_rest (edited e.editing edit)) at_now;
+    touched = subst (λ (e : Edits). ChangesOnly e.editing (editing_in after_edit) a) at_now
+        (subst (λ (e : Edits). ChangesOnly (editing_at s.net s.estimates.items s.unit_days s.kept.items) e.editing a) (sym edit_is)
+        (changes_edited s.net s.estimates.items s.unit_days s.kept.items whole_now edit a named known fits_now));
+    back = subst (λ (e : Edits). plan_of (undone (edited e.editing edit)) ≡ plan_of e.editing) at_now
+        (undone_edited s.net s.estimates.items s.unit_days s.kept.items whole_now edit a named known fits_now);
   }
+
+-- what taking back an edit of activity a makes of the fields
+pub record IsUndone (v : Edits) (a : ℕ) (new : Inside) : Type 0 where
+  pub whole : IsWholeInside new
+  pub view : edits_from new ≡ at_rest (undone v.editing)
+  pub touched : ChangesOnly v.editing (editing_in new) a
 
 -- the fields when an edit is to be taken back
 module _ (s : Inside) (v : Edits) (view : edits_from s ≡ v) (inv : IsWholeInside s) (rest : v.trial ≡ None)
@@ -327,7 +305,7 @@ module _ (s : Inside) (v : Edits) (view : edits_from s ≡ v) (inv : IsWholeInsi
   module _ (net : PricedNetwork) (net_is : net ≡ net_with k.was k.activity s.net) (lent : List Estimates)
       (lent_is : lent ≡ s.estimates.items) (new : List Estimates) (new_is : new ≡ list_with k.was k.activity lent)
       (kept : Buffer KeptEdit) (kept_is : kept ≡ buffer (take (length s.kept.items - 1) s.kept.items) s.kept.capacity) where
-    abbrev pub after_undo : Inside
+    abbrev after_undo : Inside
     after_undo = record s { net = net; estimates = with_items s.estimates new; kept = kept }
 
     back_is : new ≡ list_with k.was k.activity s.estimates.items
@@ -340,37 +318,35 @@ module _ (s : Inside) (v : Edits) (view : edits_from s ≡ v) (inv : IsWholeInsi
         ∙ sym s.estimates.ok.0)
         ∙ back_is
 
-    popped_are : kept.items ≡ take (length s.kept.items - 1) s.kept.items
+    abbrev kept_front : List KeptEdit
+    kept_front = take (length s.kept.items - 1) s.kept.items
+
+    popped_are : kept.items ≡ kept_front
     popped_are = ap (λ (b : Buffer KeptEdit). b.items) kept_is
 
-    pub undo_view : edits_from after_undo ≡ at_rest (undone v.editing)
-    undo_view =
-        edits_from-at after_undo (no_aside s v view inv rest) (net_with k.was k.activity s.net)
-        (list_with k.was k.activity s.estimates.items) (take (length s.kept.items - 1) s.kept.items) net_is items_back popped_are
-        ∙ ap at_rest (undone_at s.net s.estimates.items s.unit_days s.kept.items (whole_at s v view inv rest) k last undo_known)
-        ∙ ap (λ (e : Edits). at_rest (undone e.editing)) (view_at s v view inv rest)
+    undo_is : edits_from after_undo ≡ at_rest (editing_at (net_with k.was k.activity s.net) (list_with k.was k.activity s.estimates.items) s.unit_days kept_front)
+    undo_is =
+        edits_from-at after_undo (no_aside s v view inv rest) (net_with k.was k.activity s.net) (list_with k.was k.activity s.estimates.items) kept_front
+        net_is items_back popped_are
 
-    pub undo_whole : IsWholeInside after_undo
-    undo_whole = record {
-      editing = IsEditing-at after_undo (no_aside s v view inv rest) (net_with k.was k.activity s.net)
-          (list_with k.was k.activity s.estimates.items) (take (length s.kept.items - 1) s.kept.items) net_is items_back popped_are
-          (whole_undone s.net s.estimates.items s.unit_days s.kept.items (whole_at s v view inv rest) k last undo_known);
-      names = names_kept s inv (net_with k.was k.activity s.net).terms net net_is;
-      piece_limits = pieces_kept s inv (net_with k.was k.activity s.net).terms net net_is;
-      room = ap (λ (b : Buffer KeptEdit). b.capacity) kept_is ∙ inv.room;
-      known = known_kept s inv (net_with k.was k.activity s.net).terms net net_is kept.items
-          (subst (All (λ (j : KeptEdit). j.activity < length s.net.network.arcs)) (sym popped_are)
-          (All-take (λ (j : KeptEdit). j.activity < length s.net.network.arcs) (length s.kept.items - 1) s.kept.items inv.known));
-      aside_known = aside_kept s inv (net_with k.was k.activity s.net).terms net net_is;
+    pub undone_fields : IsUndone v k.activity after_undo
+    undone_fields = record {
+      whole = record {
+        editing = subst (λ (e : Edits). IsEditing e.editing) (sym undo_is)
+            (whole_undone s.net s.estimates.items s.unit_days s.kept.items (whole_at s v view inv rest) k last undo_known);
+        room = ap (λ (b : Buffer KeptEdit). b.capacity) kept_is ∙ inv.room;
+        known = known_kept s inv (net_with k.was k.activity s.net).terms net net_is kept.items
+            (subst (All (λ (j : KeptEdit). j.activity < length s.net.network.arcs)) (sym popped_are)
+            (All-take (λ (j : KeptEdit). j.activity < length s.net.network.arcs) (length s.kept.items - 1) s.kept.items inv.known));
+        aside_known = aside_kept s inv (net_with k.was k.activity s.net).terms net net_is;
+      };
+      view = undo_is
+          ∙ ap at_rest (undone_at s.net s.estimates.items s.unit_days s.kept.items (whole_at s v view inv rest) k last undo_known)
+          ∙ ap (λ (e : Edits). at_rest (undone e.editing)) (view_at s v view inv rest);
+      touched = subst (λ (e : Edits). ChangesOnly e.editing (editing_in after_undo) k.activity) (view_at s v view inv rest)
+          (subst (λ (e : Edits). ChangesOnly (editing_at s.net s.estimates.items s.unit_days s.kept.items) e.editing k.activity) (sym undo_is)
+          (changes_undone s.net s.estimates.items s.unit_days s.kept.items (whole_at s v view inv rest) k last undo_known));
     }
-
-    pub undo_touched : ChangesOnly v.editing (editing_in after_undo) k.activity
-    undo_touched =
-        subst (λ (e : Edits). ChangesOnly e.editing (editing_in after_undo) k.activity) (view_at s v view inv rest)
-        (subst (λ (e : Edits). ChangesOnly (editing_at s.net s.estimates.items s.unit_days s.kept.items) e.editing k.activity)
-        (sym (edits_from-at after_undo (no_aside s v view inv rest) (net_with k.was k.activity s.net)
-        (list_with k.was k.activity s.estimates.items) (take (length s.kept.items - 1) s.kept.items) net_is items_back popped_are))
-        (changes_undone s.net s.estimates.items s.unit_days s.kept.items (whole_at s v view inv rest) k last undo_known))
 
 -- fields with a term on trial
 module _ (s : Inside) (v : Edits) (view : edits_from s ≡ v) (inv : IsWholeInside s) (rest : v.trial ≡ None)
@@ -401,8 +377,6 @@ module _ (s : Inside) (v : Edits) (view : edits_from s ≡ v) (inv : IsWholeInsi
   pub trial_whole : IsWholeInside in_trial
   trial_whole = record {
     editing = subst IsEditing (sym editing_same) (whole_at s v view inv rest);
-    names = names_kept s inv (net_trying s.net tried).terms net net_is;
-    piece_limits = pieces_kept s inv (net_trying s.net tried).terms net net_is;
     room = inv.room;
     known = known_kept s inv (net_trying s.net tried).terms net net_is s.kept.items inv.known;
     aside_known = λ t is. subst (λ (n : PricedNetwork). t.activity < length n.network.arcs) (sym net_is)

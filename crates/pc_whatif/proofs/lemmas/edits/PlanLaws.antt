@@ -19,9 +19,9 @@ use Rattle.pc_whatif.specs.declared.edits.reason.Reason.{Reason}
 use Rattle.pc_whatif.specs.declared.edits.reason.Reason.TheVariants.{OverLimit, CrashAboveNormal, EstimatesOutOfOrder, PieceFault}
 use Rattle.pc_whatif.specs.edits.Plans.{Plan, plan_with, term_with, estimates_with, estimates_at, term_tried}
 use Rattle.pc_whatif.specs.inside.edits.Plans.{AreEstimates, IsFitPlan}
-use Rattle.pc_whatif.specs.edits.Refusal.{is_over, is_trial_over, is_crash_above, are_disordered}
-use Rattle.pc_whatif.specs.inside.edits.Further.{further_in, is_flawed, refusal_with}
+use Rattle.pc_whatif.specs.edits.Refusal.{is_over, is_trial_over, is_crash_above, are_disordered, has_flaw, refusal_of}
 use Rattle.pc_whatif.specs.inside.edits.Inside.{replaced}
+use Rattle.pc_whatif.proofs.lemmas.edits.FlawLaws.{has_flaw-is}
 
 -- what is past the ends of the lists
 abbrev pub no_term : Term
@@ -116,20 +116,20 @@ pub record HasNone (over : Bool) (term : Term) (estimates : Estimates) (own : Li
   pub within : over ≡ false
   pub ordered : is_crash_above term ≡ false
   pub in_order : are_disordered estimates ≡ false
-  pub flawless : is_flawed term (further_in own) ≡ false
+  pub flawless : has_flaw term term.slope 0 own ≡ false
 
-pub HasNone-of : (over : Bool) (term : Term) (estimates : Estimates) (own : List PieceRow) → refusal_with over term estimates (further_in own) ≡ None → HasNone over term estimates own
+pub HasNone-of : (over : Bool) (term : Term) (estimates : Estimates) (own : List PieceRow) → refusal_of over term estimates own ≡ None → HasNone over term estimates own
 HasNone-of over term estimates own e =
     let not_over = unless_given over OverLimit _ e in
     let not_above = unless_given (is_crash_above term) CrashAboveNormal _ (not_over.1) in
     let not_disordered = unless_given (are_disordered estimates) EstimatesOutOfOrder _ (not_above.1) in
-    let not_flawed = unless_given (is_flawed term (further_in own)) PieceFault _ (not_disordered.1) in
+    let not_flawed = unless_given (has_flaw term term.slope 0 own) PieceFault _ (not_disordered.1) in
     record { within = not_over.0; ordered = not_above.0; in_order = not_disordered.0; flawless = not_flawed.0 }
 
--- then the term fits, where its numbers are within their limits
-pub own_fit : (term : Term) (own : List PieceRow) → is_crash_above term ≡ false → is_flawed term (further_in own) ≡ false →
-    term.normal ≤ MAX_DURATION → term.cost ≤ MAX_COST → term.slope ≤ MAX_SLOPE → IsOwnFit term own
-own_fit term [] ordered flawless short cheap gentle = record {
+-- then the term fits, where its numbers are within their limits, and the slopes of the pieces rose
+pub own_fit : (old term : Term) (own : List PieceRow) → ((k : ℕ) → k < length own → slope_in old own k < slope_in old own (k + 1)) →
+    is_crash_above term ≡ false → has_flaw term term.slope 0 own ≡ false → term.normal ≤ MAX_DURATION → term.cost ≤ MAX_COST → term.slope ≤ MAX_SLOPE → IsOwnFit term own
+own_fit old term [] rises ordered flawless short cheap gentle = record {
   ordered = ltb-false _ _ ordered;
   short = short;
   cheap = cheap;
@@ -137,7 +137,7 @@ own_fit term [] ordered flawless short cheap gentle = record {
   rising = λ some. absurd (omega arith);
   leaving = λ some. absurd (omega arith);
 }
-own_fit term (piece ∷ pieces) ordered flawless short cheap gentle = record {
+own_fit old term (piece ∷ pieces) rises ordered flawless short cheap gentle = record {
   ordered = ltb-false _ _ ordered;
   short = short;
   cheap = cheap;
@@ -150,7 +150,7 @@ own_fit term (piece ∷ pieces) ordered flawless short cheap gentle = record {
     parts slope first normal most h = (grind (arith, nat_tests), grind (arith, nat_tests))
 
     below : (term.slope < piece.slope) × (term.crash + units_of (piece ∷ pieces) < term.normal)
-    below = parts term.slope piece.slope term.normal (term.crash + units_of (piece ∷ pieces)) flawless
+    below = parts term.slope piece.slope term.normal (term.crash + units_of (piece ∷ pieces)) (sym (has_flaw-is old term piece pieces rises) ∙ flawless)
 
 -- a change that is within its limits leaves a term within them
 with_short : (change : Change) (term : Term) → is_over change ≡ false → term.normal ≤ MAX_DURATION → (term_with change term).normal ≤ MAX_DURATION
@@ -226,7 +226,7 @@ module _ (net : Network) (pieces : List PieceRow) (plan : Plan) (change : Change
   -- the plan with a change against which nothing stands fits
   module _ (none : HasNone (is_over change) new after (pieces_of pieces a)) where
     own : IsOwnFit new (pieces_of pieces a)
-    own = own_fit new (pieces_of pieces a) none.ordered none.flawless
+    own = own_fit old new (pieces_of pieces a) (λ k. fit.pieces.rising a k inside) none.ordered none.flawless
         (with_short change old none.within (fit.limits.short a inside))
         (omega (arith, with_cost change old, fit.limits.cheap a inside))
         (with_gentle change old none.within (fit.limits.gentle a inside))
@@ -272,7 +272,7 @@ module _ (net : Network) (pieces : List PieceRow) (plan : Plan) (a : ℕ) (fit :
   in_terms = omega (arith, known, fit.terms.one_each)
 
   tried_own : IsOwnFit (term_tried trial (term_at plan.terms a)) (pieces_of pieces a)
-  tried_own = own_fit (term_tried trial (term_at plan.terms a)) (pieces_of pieces a) none.ordered none.flawless
+  tried_own = own_fit (term_at plan.terms a) (term_tried trial (term_at plan.terms a)) (pieces_of pieces a) (λ k. fit.pieces.rising a k in_terms) none.ordered none.flawless
       (tried_short trial none.within) (fit.limits.cheap a in_terms) (tried_gentle trial none.within)
 
   pub tried_terms : AreTerms net (set plan.terms a (term_tried trial (term_at plan.terms a)))

@@ -3,8 +3,6 @@ use Rattle.std.specs.Prelude.{◌≡◌, ◌<◌, List, [], ◌∷◌, All, leng
 use Rattle.std.specs.Option.{ForSome}
 use Rattle.pc_model.specs.declared.Term.{Term}
 use Rattle.pc_model.specs.Schedule.{term_at}
-use Rattle.pc_crash.specs.Priced.{ArePiecesWithinLimits}
-use Rattle.pc_crash.specs.inside.Priced.{AreNames}
 use Rattle.pc_project.specs.declared.activity.Estimates.{Estimates}
 use Rattle.pc_whatif.specs.declared.edits.ask.Change.{Change}
 use Rattle.pc_whatif.specs.declared.edits.ask.Change.TheVariants.{Estimate, Normal, Crash, Slope}
@@ -60,12 +58,10 @@ editing_in edits = record {
 abbrev pub edits_from : Inside → Edits
 edits_from edits = record { editing = editing_in edits; trial = trial_in edits.aside edits.net.terms }
 
--- the numbers fit, now and in each plan that is kept; pieces are within their limits; all activities have names of their own; there is room for as many
--- edits as may be kept, and those that are and the term that was put aside are of activities
+-- the numbers fit, now and in each plan that is kept; there is room for as many edits as may be kept, and those that are and the term that was
+-- put aside are of activities
 pub record IsWholeInside (edits : Inside) : Type 0 where
   pub editing : IsEditing (editing_in edits)
-  pub names : AreNames (length edits.net.network.arcs) edits.net.activities
-  pub piece_limits : ArePiecesWithinLimits edits.net.pieces
   pub room : edits.kept.capacity ≡ MAX_KEPT
   pub known : All (λ kept. kept.activity < length edits.net.network.arcs) edits.kept.items
   pub aside_known : ForSome edits.aside (λ aside. aside.activity < length edits.net.network.arcs)

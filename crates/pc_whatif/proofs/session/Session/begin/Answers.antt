@@ -14,7 +14,7 @@ invariant_of-result c =
       at_rest = ap (λ (e : Edits). e.trial) edits;
       edition = subst (λ (e : Editing). IsEditionOf project e) (sym editing) (begun_edition project);
       renewed = subst (λ (e : Editing). IsRenewed project e c.in_ok-build.field-0) (sym editing)
-          (begun_renewed project c.net-net.ensures.planned c.in_ok-build.field-0 c.in_ok-build.ensures.fits c.in_ok-build.ensures.standing);
+          (begun_renewed project c.facts.ensures.planned c.in_ok-build.field-0 c.in_ok-build.ensures.fits c.in_ok-build.ensures.standing);
       room = omega (arith, c.in_ok-build.ensures.free);
       page = c.in_ok-with_capacity.ensures;
     }
@@ -24,4 +24,4 @@ returns-clause-standing c =
     let project = c.args.project.now in
     let editing : c.in_ok-build-2.field-0.editing ≡ begun project = ap (λ (e : Edits). e.editing) c.in_ok-build-2.ensures.begun in
     subst (λ (e : Editing). IsRenewed project e c.in_ok-build.field-0) (sym editing)
-    (begun_renewed project c.net-net.ensures.planned c.in_ok-build.field-0 c.in_ok-build.ensures.fits c.in_ok-build.ensures.standing)
+    (begun_renewed project c.facts.ensures.planned c.in_ok-build.field-0 c.in_ok-build.ensures.fits c.in_ok-build.ensures.standing)

@@ -2,6 +2,7 @@ use Rattle.std.proofs.Common.{◌≡◌, Some, refl, sym, ap, ◌∙◌, subst}
 use Rattle.std.proofs.lemmas.Bool.{false≢true}
 use Rattle.pc_crash.specs.Priced.{PricedNetwork}
 use Rattle.pc_curve.specs.Points.{curve_in}
+use Rattle.pc_edges.specs.inside.page.Puts.{desk}
 use Rattle.pc_whatif.specs.declared.edits.ask.Ask.TheVariants as asks
 use Rattle.pc_whatif.specs.declared.edits.reason.Reason.TheVariants.{OutsideRange}
 use Rattle.pc_whatif.specs.edits.Editing.{net_trying}
@@ -27,7 +28,7 @@ returns-in_default-clause-answered g c =
     let trial = c.args.trial.now in
     let text = refused_text OutsideRange in
     let editing : c.end_trial.new.self.editing ≡ a.edits.editing = ap (λ (e : Edits). e.editing) c.end_trial.ensures ∙ ap (λ (e : Edits). e.editing) c.begin_trial.ensures in
-    let net : c.net.result.now ≡ net_trying a.edits.editing.net c.in-Ok.tried = c.net.ensures.net ∙ ap net_in c.begin_trial.ensures in
+    let net : c.net.result.now ≡ net_trying a.edits.editing.net c.in-Ok.tried = c.net.ensures ∙ ap net_in c.begin_trial.ensures in
     let is : IsTrialText a.edits.editing trial text =
     trial_outside a.edits.editing trial c.in-Ok.tried c.in-Ok.ensures.accepted c.in-Ok.ensures.activity c.in-Ok.ensures.term
     (λ within. false≢true (c.in_default.ensures.within.1 (subst (λ (n : PricedNetwork). IsLengthInRange n trial.length) (sym net) within))) in (
@@ -43,7 +44,7 @@ returns-clause-answered g c =
     let trial = c.args.trial.now in
     let text = cost_text c.in-Some.cost in
     let editing : c.end_trial.new.self.editing ≡ a.edits.editing = ap (λ (e : Edits). e.editing) c.end_trial.ensures ∙ ap (λ (e : Edits). e.editing) c.begin_trial.ensures in
-    let net : c.net.result.now ≡ net_trying a.edits.editing.net c.in-Ok.tried = c.net.ensures.net ∙ ap net_in c.begin_trial.ensures in
+    let net : c.net.result.now ≡ net_trying a.edits.editing.net c.in-Ok.tried = c.net.ensures ∙ ap net_in c.begin_trial.ensures in
     let is : IsTrialText a.edits.editing trial text =
     trial_costs a.edits.editing trial c.in-Ok.tried c.in-Some.cost c.in-Ok.ensures.accepted c.in-Ok.ensures.activity c.in-Ok.ensures.term
     (subst (λ (n : PricedNetwork). IsLengthInRange n trial.length) net (c.in-Some.ensures.within.0 refl))
@@ -51,5 +52,5 @@ returns-clause-answered g c =
       text,
       tried_out c.args.self.now a.project.now a.edits.editing c.end_trial.new.self.editing _ _ trial text editing
           c.least_cost-cost.ensures.kept c.self.invariant.renewed c.self.view_is is,
-      c.tell_cost.ensures.text,
+      c.finish.ensures.text (desk g.O.Sink.taken g.O.Sink.faults a.page c.args.out.now) text c.self.invariant.page c.put_number.ensures,
     )

@@ -28,7 +28,7 @@ take_spans-spans-requires-clause-activities c =
     omega (
       arith,
       c.activities-activities.ensures.activities,
-      some-activities c.args.net.now c.activities-activities.ensures.in_range c.activities-activities.ensures.sound,
+      some-activities c.args.net.now c.facts.ensures.in_range c.facts.ensures.sound,
     )
 
 pub write-requires-2-clause-live : goal.write-requires-2-clause-live
@@ -98,7 +98,7 @@ pub cells_needed-requires-clause-pieces : goal.cells_needed-requires-clause-piec
 cells_needed-requires-clause-pieces c = c.requires.pieces
 
 pub take_spans-spans-requires-clause-events : goal.take_spans-spans-requires-clause-events
-take_spans-spans-requires-clause-events c = omega (arith, c.events-events.ensures.events, c.activities-activities.ensures.in_range.start_in)
+take_spans-spans-requires-clause-events c = omega (arith, c.events-events.ensures.events, c.facts.ensures.in_range.start_in)
 
 pub take_spans-spans-requires-clause-none : goal.take_spans-spans-requires-clause-none
 take_spans-spans-requires-clause-none c = ap (λ (r : Cells). r.spans) c.in_ok-region.ensures

@@ -33,7 +33,7 @@ invariant_of-self c =
       whole = whole-both c.self.inside.spans r0 c.set.new.self r2 c.args.a x v (are_set c) c.self.inside.path_len whole
           (omega (arith, c.requires.activity, ap (λ r. length r.expected) c.self.view_is, ap (λ region. length (list_of region 0)) same))
           c.expected_sixths-expected.ensures.limit
-          (omega (arith, c.variance_36-variance.ensures, variance_small c.args.estimates.now.optimistic c.args.estimates.now.pessimistic c.args.unit_days c.requires.limit c.requires.unit));
+          (omega (arith, c.variance_36-variance.ensures, variance_small c.args.estimates.now.optimistic c.args.estimates.now.pessimistic c.args.unit_days c.requires.estimates.short c.requires.unit));
       room = c.self.invariant.room ∙ ap (λ region. length (list_of region 2)) same
           ∙ sym (early-both c.self.inside.spans r0 c.set.new.self r2 c.args.a x v (are_set c));
     }

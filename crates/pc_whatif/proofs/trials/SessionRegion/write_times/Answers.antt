@@ -25,8 +25,7 @@ invariant_of-view g c =
             ap (λ ys. slice_index ys k) c.path.ensures.path,
             path-known net r k c.requires.standing here,
             ap (λ n. length n.arcs) c.net-net.ensures.network,
-            c.activities-activities.ensures.activities,
-            c.activities-activities.ensures.limit,
+            c.facts.ensures.activities,
           );
     }
 

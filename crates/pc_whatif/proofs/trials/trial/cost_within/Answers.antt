@@ -1,4 +1,4 @@
-use Rattle.std.proofs.Common.{true≢false, sym, inl, inr, ◌∙◌, arith}
+use Rattle.std.proofs.Common.{true≢false, sym, inl, inr, arith}
 use Rattle.pc_flow.proofs.LookLaws.{looks-most}
 use Rattle.pc_curve.specs.Range.{IsRange}
 use Rattle.pc_curve.proofs.RangeLaws.{outside_range}
@@ -23,6 +23,6 @@ returns-clause-counted g c =
     omega (
       arith,
       c.cost_at-cost.ensures.counted,
-      looks-most from to (c.given-given.ensures.level (c.given-given.ensures.given ∙ c.requires)) c.cost_at-cost.ensures.same
-          c.given-given-2.ensures.gentle c.given-given-2.ensures.range,
+      looks-most from to (c.facts.ensures.level c.requires) c.cost_at-cost.ensures.same
+          c.facts-2.ensures.gentle c.facts-2.ensures.range,
     )
