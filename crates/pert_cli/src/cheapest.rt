@@ -1,5 +1,5 @@
 //! A schedule of least cost for a length of the project's range.
-ghost use Rattle.std.specs.Prelude.{◌≡◌, ◌≤◌, false, IfOk, IfErr, IfSome, IfNone};
+ghost use Rattle.std.specs.Prelude.{◌≡◌, ◌≤◌, IfOk, IfErr, IfSome, IfNone};
 ghost use Rattle.pc_curve.specs.Range.{IsLengthInRange};
 ghost use Rattle.pc_curve.specs.inside.Points.{HasPlaces, IsToCome};
 ghost use Rattle.pc_faults.specs.inside.FaultText.{IsTold};
@@ -9,7 +9,7 @@ ghost use Rattle.pert_cli.specs.inside.Handing.{IsNoReport};
 
 use crate::deliver::NoAnswer;
 use crate::printed::PrintedSchedule;
-use crate::solving::{SolverTask, priced_net, solve_priced};
+use crate::solving::{SolverTask, solve};
 use pc_crash::{CrashNet, Steps};
 use pc_curve::point_at;
 use pc_faults::Fault;
@@ -18,29 +18,12 @@ use pc_project::Project;
 use std::alloc::{AllocError, Global};
 use std::sync::ledger::Ledger;
 
-/// Returns a schedule of least cost for a length, in units.
+/// Returns a schedule of least cost for a length, in units. `net` is the project's priced network.
 ///
 /// # Errors
 ///
 /// `Refused` if the length is outside the project's range.
 pub(crate) fn cheapest_schedule(
-    alloc: Global,
-    project: &Project,
-    limit: u64,
-) -> Result<PrintedSchedule, NoAnswer>
-    ensures cheapest { IfOk result (IsCheapestFor (priced_in project.now) limit) }
-    ensures none { IfErr result (IsNoReport (IsOutside (priced_in project.now) limit)) }
-{
-    let net = priced_net(alloc, project)?;
-    cheapest_priced(alloc, project, &net, limit)
-}
-
-/// Returns what `cheapest_schedule` does, for a caller that has the project's priced network.
-///
-/// # Errors
-///
-/// `Refused` if the length is outside the project's range.
-pub(crate) fn cheapest_priced(
     alloc: Global,
     project: &Project,
     net: &CrashNet<'_>,
@@ -50,7 +33,7 @@ pub(crate) fn cheapest_priced(
     ensures cheapest { IfOk result (IsCheapestFor (priced_in project.now) limit) }
     ensures none { IfErr result (IsNoReport (IsOutside (priced_in project.now) limit)) }
 {
-    solve_priced(alloc, project, net, &Cheapest { limit })?
+    solve(alloc, project, net, &Cheapest { limit })?
 }
 
 /// The task of finding a schedule of least cost.
@@ -73,25 +56,11 @@ impl SolverTask for Cheapest {
         solver: &mut Solver<'_>,
         steps: &mut Steps<L>,
     ) -> Result<PrintedSchedule, NoAnswer> {
-        cheapest_for(alloc, solver, self.limit, steps)
+        if let Some(fault) = outside(solver, self.limit) {
+            return Err(NoAnswer::Refused(fault));
+        }
+        Ok(cheapest_at(alloc, solver, self.limit, steps)?)
     }
-}
-
-/// Returns a schedule of least cost for a length, by a solver before its first segment.
-pub(crate) fn cheapest_for<L: Ledger>(
-    alloc: Global,
-    solver: &mut Solver<'_>,
-    limit: u64,
-    steps: &mut Steps<L>,
-) -> Result<PrintedSchedule, NoAnswer>
-    requires { solver.old.given ≡ false }
-    ensures cheapest { IfOk result (IsCheapestFor solver.old.net limit) }
-    ensures none { IfErr result (IsNoReport (IsOutside solver.old.net limit)) }
-{
-    if let Some(fault) = outside(solver, limit) {
-        return Err(NoAnswer::Refused(fault));
-    }
-    Ok(cheapest_at(alloc, solver, limit, steps)?)
 }
 
 /// Returns a schedule of least cost for a length, to which the solver comes down.

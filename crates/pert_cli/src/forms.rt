@@ -20,6 +20,7 @@ use crate::migrate::DeckText;
 use crate::normal::normal_schedule;
 use crate::optimum::optimum_of;
 use crate::outlook::outlook_for;
+use crate::solving::priced_net;
 use pc_cards::sort::Sort;
 use pc_curve::bench::MOST_ACTIVITIES;
 use pc_edges::Sink;
@@ -245,7 +246,8 @@ impl Form {
                 deliver(alloc, report, project, out)
             }
             Form::Point(limit) => {
-                let schedule = cheapest_schedule(alloc, project, limit)?;
+                let net = priced_net(alloc, project)?;
+                let schedule = cheapest_schedule(alloc, project, &net, limit)?;
                 deliver(alloc, schedule, project, out)
             }
             Form::Outlook(limit) => {

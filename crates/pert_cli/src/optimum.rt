@@ -6,7 +6,7 @@ ghost use Rattle.pert_cli.specs.Optimum.{IsOptimumWith, optimum_text};
 
 use crate::cheapest::cheapest_at;
 use crate::printed::PrintedSchedule;
-use crate::solving::{SolverTask, solve};
+use crate::solving::{SolverTask, priced_net, solve};
 use pc_crash::Steps;
 use pc_edges::Sink;
 use pc_edges::page::Page;
@@ -41,7 +41,8 @@ pub(crate) fn optimum_of(alloc: Global, project: &Project) -> Result<OptimumAnsw
     ensures { IfOk result (λ answer. IsOptimumWith (priced_in project.now) project.now.time_terms answer.best
         answer.schedule) }
 {
-    solve(alloc, project, &FindOptimum)?
+    let net = priced_net(alloc, project)?;
+    solve(alloc, project, &net, &FindOptimum)?
 }
 
 /// The task of finding the optimum. The solver goes down as far as it pays, and the schedule is read where it stops.

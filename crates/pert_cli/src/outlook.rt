@@ -7,7 +7,7 @@ ghost use Rattle.pert_cli.specs.Normal.{printed_text};
 ghost use Rattle.pert_cli.specs.Point.{IsCheapest, IsCheapestFor, IsOutside};
 ghost use Rattle.pert_cli.specs.inside.Handing.{IsNoReport};
 
-use crate::cheapest::cheapest_priced;
+use crate::cheapest::cheapest_schedule;
 use crate::deliver::NoAnswer;
 use crate::printed::PrintedSchedule;
 use crate::solving::priced_net;
@@ -54,7 +54,7 @@ pub(crate) fn outlook_for(
     ensures none { IfErr result (IsNoReport (IsOutside (priced_in project.now) limit)) }
 {
     let net = priced_net(alloc, project)?;
-    let schedule = cheapest_priced(alloc, project, &net, limit)?;
-    let report = OutlookReport::build_priced(alloc, project, &net, schedule.durations())?;
+    let schedule = cheapest_schedule(alloc, project, &net, limit)?;
+    let report = OutlookReport::build_priced(alloc, project, &net, &schedule.durations)?;
     Ok(OutlookAnswer { schedule, report })
 }

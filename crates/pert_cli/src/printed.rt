@@ -53,13 +53,6 @@ impl PrintedSchedule {
             durations: &self.durations,
         }
     }
-
-    /// Returns the durations of the activities, in card order.
-    pub(crate) fn durations(&self) -> &[u64]
-        ensures { result.now ≡ self.now.durations }
-    {
-        &self.durations
-    }
 }
 
 impl Report for PrintedSchedule {

@@ -34,20 +34,9 @@ pub(crate) trait SolverTask {
         ensures { HasFound self.now project.now result };
 }
 
-/// Does a task with a solver of the project's curve, in memory that does not depend on the curve.
+/// Does a task with a solver of the project's curve, in memory that does not depend on the curve. `net` is the
+/// project's priced network.
 pub(crate) fn solve<J: SolverTask>(
-    alloc: Global,
-    project: &Project,
-    task: &J,
-) -> Result<J::Found, AllocError>
-    ensures { IfOk result (J.HasFound task.now project.now) }
-{
-    let net = priced_net(alloc, project)?;
-    solve_priced(alloc, project, &net, task)
-}
-
-/// Does a task as `solve` does, for a caller that has the project's priced network.
-pub(crate) fn solve_priced<J: SolverTask>(
     alloc: Global,
     project: &Project,
     net: &CrashNet<'_>,

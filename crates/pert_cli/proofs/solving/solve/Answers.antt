@@ -1,7 +1,7 @@
-use Rattle.std.proofs.Common.{ap, ◌∙◌, subst, sym}
+use Rattle.std.proofs.Common.{◌∙◌, subst, sym}
 use Rattle.pc_crash.specs.Priced.{PricedNetwork}
 use Rattle.pc_curve.specs.Range.{IsRange}
-use Rattle.pert_cli.proofs.solving.solve_priced.Goals as goal
+use Rattle.pert_cli.proofs.solving.solve.Goals as goal
 
 pub begin-solver-requires : goal.begin-solver-requires
 begin-solver-requires g c = rw c.requires c.in_ok-solver_region.ensures

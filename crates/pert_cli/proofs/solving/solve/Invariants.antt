@@ -1,4 +1,4 @@
-use Rattle.pert_cli.proofs.solving.solve_priced.Given as goal
+use Rattle.pert_cli.proofs.solving.solve.Given as goal
 
 abbrev pub ghosts-run_counted : goal.ghosts-run_counted
 ghosts-run_counted g a = record { name = a.blank.name; parts = a.blank.parts }
