@@ -1,6 +1,5 @@
 //! Which way labels may cross an activity. The calls that ask for a whole state of a search are made by a solver in the
-//! tests of
-//! `curves`.
+//! tests of `curves`.
 ghost use Rattle.std.specs.Prelude.{◌≡◌, length};
 ghost use Rattle.pc_crash.specs.inside.Steps.{IsBlankOf};
 
@@ -25,7 +24,7 @@ fn ways<L: Ledger>(
 {
     let mut steps = Steps::<L>::new(blank);
     // For the fact that each activity goes between two events of the network.
-    let _shape = net.net();
+    net.facts();
     let mut board = Board::new(Region::with_cells(alloc, 42)?, 3, 3);
     board.start_at(0);
     let (first, second) = (net.look(0, &mut steps), net.look(1, &mut steps));
