@@ -130,6 +130,7 @@ module _ {D C O E : Type 0} (words : List (String Global)) (deck : Side D) (cert
     accepted = accepted_of (deck.bytes deck.old) project has.is;
     has = both_have (deck.bytes deck.old) (cert.bytes cert.old) project verdict has.is finds.finds;
     settled = settled_for (deck.bytes deck.old) cert project verdict has.is finds.settled;
+    no_fault = finds.no_fault;
     took = took;
   }
 
@@ -149,6 +150,7 @@ module _ {D C O E : Type 0} (words : List (String Global)) (deck : Side D) (cert
     verdict = verdict;
     has = both_have (deck.bytes deck.old) (cert.bytes cert.old) project verdict has.is finds.finds;
     settled = settled_for (deck.bytes deck.old) cert project verdict has.is finds.settled;
+    no_fault = finds.no_fault;
     took = took;
   }) same)
 

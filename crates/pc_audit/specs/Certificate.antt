@@ -62,11 +62,11 @@ pub record ProvesCurve (bytes text : List ℕ) : Type 0 where
 
 -- ---- what a check leaves
 
--- the bytes that were taken of the certificate are found to be this of the network, and one pull came behind those of which no line fails:
--- so nothing is pulled behind the pull in which the first failing line ends
+-- the bytes that were taken of the certificate are found to be this of the network, and nothing was pulled behind the first failing line or
+-- after the end
 abbrev pub IsSettledIn : {X : Type 0} → PricedNetwork → Verdict → Side X → Type 0
 IsSettledIn net verdict cert =
-    IsSettled net verdict STREAM_ROOM cert.bytes cert.pulls cert.old cert.new
+    IsSettled net verdict STREAM_ROOM cert.bytes cert.faults cert.pulls cert.old cert.new
 
 -- the deck is accepted, and this is so for the network of its project
 pub record IsSettledFor {X : Type 0} (deck : List ℕ) (cert : Side X) (verdict : Verdict) : Type 0 where
@@ -74,9 +74,9 @@ pub record IsSettledFor {X : Type 0} (deck : List ℕ) (cert : Side X) (verdict 
   pub accepted : IsProjectOf deck project
   pub settled : IsSettledIn (priced_in project) verdict cert
 
--- no line fails in the bytes that were taken of the certificate
+-- no line fails in the bytes that were taken of the certificate, and nothing was pulled after the pull that failed
 abbrev pub IsUnsettledIn : {X : Type 0} → PricedNetwork → Side X → Type 0
-IsUnsettledIn net cert = IsUnsettled net (cert.bytes cert.old) (cert.bytes cert.new) (cert.pulls cert.old) (cert.pulls cert.new)
+IsUnsettledIn net cert = IsUnsettled net cert.bytes cert.faults cert.pulls cert.old cert.new
 
 -- the deck is accepted, and this is so for the network of its project
 pub record IsUnsettledFor {X : Type 0} (deck : List ℕ) (cert : Side X) : Type 0 where

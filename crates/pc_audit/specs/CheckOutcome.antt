@@ -1,5 +1,5 @@
 -- What a check of a certificate means and leaves behind, by its status.
-use Rattle.std.specs.Prelude.{ℕ, List, String}
+use Rattle.std.specs.Prelude.{◌≡◌, ℕ, List, String}
 use Rattle.std.specs.declared.alloc.Global.{Global}
 use Rattle.pc_check.specs.declared.checker.Verdict.{Verdict}
 use Rattle.pc_deck.specs.Limits.{longest_deck}
@@ -12,14 +12,15 @@ use Rattle.pc_shell.specs.Verdict.{AcceptedBy}
 abbrev pub OfBoth : {D C : Type 0} → Side D → Side C → (List ℕ → List ℕ → Type 0) → Type 0
 OfBoth deck cert P = OfBytes deck (λ bytes. OfBytes cert (P bytes))
 
--- there is one word, the deck was read to its end and is accepted, the certificate is found to be this with nothing pulled behind its
--- first failing line, and the output took the line that says so
+-- there is one word, the deck was read to its end and is accepted, the certificate is found to be this without a fault of it and with
+-- nothing pulled behind its first failing line, and the output took the line that says so
 pub record IsChecked {D C O : Type 0} (words : List (String Global)) (deck : Side D) (cert : Side C) (out : Side O) (verdict : Verdict) : Type 0 where
   pub asked : IsOneWord words
   pub read : IsReadToEnd deck
   pub accepted : OfBytes deck AcceptedBy
   pub has : OfBoth deck cert (λ bytes text. HasVerdict bytes text verdict)
   pub settled : OfBytes deck (λ bytes. IsSettledFor bytes cert verdict)
+  pub no_fault : cert.faults cert.new ≡ cert.faults cert.old
   pub took : Took out (verdict_text verdict)
 
 -- the same, but that a fault of the output came when it had taken a front of the line
@@ -30,6 +31,7 @@ pub record IsVerdictCut {D C O : Type 0} (words : List (String Global)) (deck : 
   pub verdict : Verdict
   pub has : OfBoth deck cert (λ bytes text. HasVerdict bytes text verdict)
   pub settled : OfBytes deck (λ bytes. IsSettledFor bytes cert verdict)
+  pub no_fault : cert.faults cert.new ≡ cert.faults cert.old
   pub took : TookFront out (verdict_text verdict)
 
 -- where a write fault came: in the verdict, in the line of a fault, or in the usage line. The other output is as it was, and

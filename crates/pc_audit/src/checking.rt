@@ -52,7 +52,8 @@ pub fn check_run<D: Source, C: Source, O: Sink, E: Sink>(
     ensures statuses { result ≤ 6 }
 
     // 0: the deck is accepted, the certificate is a certified one of its project, and `out` took the line that says so
-    // with the number of its segments. Both were read to their ends.
+    // with the number of its segments. Both were read to their ends. No pull of the certificate failed, each but the
+    // last gave at least one byte, and the last found the end (`settled`).
     ensures certified { result ≡ 0 → (segments : ℕ) × IsChecked words.now (side D.left D.faults deck.old deck.new)
         (pulled_side C.left C.faults C.pulls cert.old cert.new) (side O.taken O.faults out.old out.new) (Yes segments) }
     ensures certified_read { result ≡ 0 → IsReadToEnd (pulled_side C.left C.faults C.pulls cert.old cert.new) }
@@ -64,8 +65,8 @@ pub fn check_run<D: Source, C: Source, O: Sink, E: Sink>(
         (pulled_side C.left C.faults C.pulls cert.old cert.new) ProvesCurve }
 
     // 6: the deck is accepted, the certificate has a first failing point, and `out` took the line that names it.
-    // Nothing of the certificate is pulled after the pull in which that point's line ends (`settled`). `write_fault`
-    // promises the same of a truncated verdict.
+    // No pull of the certificate failed, each but the last gave at least one byte, and nothing is pulled after the pull
+    // in which that point's line ends (`settled`). `write_fault` promises the same of a truncated verdict.
     ensures not_certified { result ≡ 6 → (line reason : ℕ) × IsChecked words.now
         (side D.left D.faults deck.old deck.new)
         (pulled_side C.left C.faults C.pulls cert.old cert.new)
@@ -90,7 +91,7 @@ pub fn check_run<D: Source, C: Source, O: Sink, E: Sink>(
     ensures no_memory { result ≡ 3 → (cert.new ≡ cert.old) × (out.new ≡ out.old) × (err.new ≡ err.old) }
 
     // 4: the deck could not be read, of which no more was taken than a deck may have; or the certificate, of which no
-    // line had failed.
+    // line had failed, and nothing is pulled after the pull that failed.
     ensures read_fault { result ≡ 4 → IsUnread (side D.left D.faults deck.old deck.new)
         (pulled_side C.left C.faults C.pulls cert.old cert.new) }
     ensures read_fault_only { result ≡ 4 → (out.new ≡ out.old) × (err.new ≡ err.old) }

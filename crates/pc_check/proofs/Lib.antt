@@ -24,6 +24,7 @@ pub mod AuditFinishLaws
 pub mod FeedLaws
 pub mod TextLaws
 pub mod BeginLaws
+pub mod PieceLaws
 pub mod SourceLaws
 pub mod OnceLaws
 pub mod HeadlineLaws

@@ -3,7 +3,7 @@ use Rattle.std.proofs.Common.{ℕ, ◌+◌, ◌*◌, ◌≤◌, List, [], ◌∷
 use Rattle.std.specs.Prelude.{IfSome, IfOk, OnErr}
 use Rattle.std.specs.Io.KnownBytes.{Consumes}
 use Rattle.pc_edges.specs.Pulls.{TakesPulls}
-use Rattle.pc_edges.proofs.PullLaws.{TakesPulls-then, TakesPulls-none, TakesPulls-more}
+use Rattle.pc_edges.proofs.PullLaws.{TakesPulls-none, TakesPulls-more, CameIn-consumes}
 use Rattle.pc_cert.specs.declared.line.CertLine.{CertLine}
 use Rattle.pc_cert.specs.declared.place.Place.TheVariants.{Start}
 use Rattle.pc_cert.specs.Lines.{spelling}
@@ -15,6 +15,7 @@ use Rattle.pc_check.specs.declared.audit.AuditError.{AuditError}
 use Rattle.pc_check.specs.Stops.{HasNoFailure, IsSettled, IsUnsettled}
 use Rattle.pc_check.specs.OwnLines.{first_upper_in_lines, bytes_below, KeepsToOwnLines}
 use Rattle.pc_check.proofs.OwnLineLaws.{are_few}
+use Rattle.pc_check.proofs.PieceLaws.{CameIn-pulls_and_one}
 
 -- no line is longer than the longest
 length-text_of : (lines : List CertLine) → AreWritable lines → length (text_of lines) ≤ length lines * 192
@@ -45,13 +46,15 @@ keeps net (Some text) (Some behind) pulls pulls_after bytes taken h turns = reco
 }
 
 -- a source that was audited
-pub keeps_to_lines : {X : Type 0} (net : PricedNetwork) (room : ℕ) (left : X → Option (List ℕ)) (pulls : X → Option ℕ) (old new : X) (result : Result Verdict AuditError)
-    → IfOk result (λ verdict. IsSettled net verdict room left pulls old new) → OnErr result (IsUnsettled net (left old) (left new) (pulls old) (pulls new))
+pub keeps_to_lines : {X : Type 0} (net : PricedNetwork) (room : ℕ) (left : X → Option (List ℕ)) (faults : X → ℕ) (pulls : X → Option ℕ) (old new : X) (result : Result Verdict AuditError)
+    → IfOk result (λ verdict. IsSettled net verdict room left faults pulls old new) → OnErr result (IsUnsettled net left faults pulls old new)
     → IfSome (left old) (λ text. KeepsToOwnLines net text (pulls old) (pulls new))
-keeps_to_lines net room left pulls old new (Ok verdict) h none =
-    keeps net (left old) (left h.before) (pulls old) (pulls new) h.front h.came h.none (TakesPulls-then (length h.front) 1 (pulls old) (pulls h.before) (pulls new) h.turns h.once)
-keeps_to_lines net room left pulls old new (Err error) none h =
-    keeps net (left old) (left new) (pulls old) (pulls new) h.bytes h.taken h.none h.turns
+keeps_to_lines net room left faults pulls old new (Ok verdict) h none =
+    keeps net (left old) (left h.before) (pulls old) (pulls new) h.front (CameIn-consumes left faults pulls h.pieces h.front old h.before h.came) h.none
+    (CameIn-pulls_and_one left faults pulls h.pieces h.front old h.before (pulls new) h.came h.once)
+keeps_to_lines net room left faults pulls old new (Err error) none h =
+    keeps net (left old) (left h.before) (pulls old) (pulls new) h.bytes (CameIn-consumes left faults pulls h.pieces h.bytes old h.before h.came) h.none
+    (CameIn-pulls_and_one left faults pulls h.pieces h.bytes old h.before (pulls new) h.came h.once)
 
 -- a source from which nothing was pulled
 pub unpulled_keeps : (net : PricedNetwork) (left : Option (List ℕ)) (pulls : Option ℕ) → IfSome left (λ text. KeepsToOwnLines net text pulls pulls)

@@ -1,7 +1,8 @@
 -- Where the reading of a source stops.
-use Rattle.std.specs.Prelude.{◌≡◌, ℕ, ◌+◌, ◌<◌, ◌≤◌, List, ◌++◌, length, Option, None}
-use Rattle.std.specs.Io.KnownBytes.{Consumes}
-use Rattle.pc_edges.specs.Pulls.{TakesPulls}
+use Rattle.std.specs.Prelude.{◌≡◌, ℕ, ◌<◌, ◌≤◌, List, ◌++◌, length, Option, None}
+use Rattle.std.specs.Io.KnownBytes.{Consumes, Keeps}
+use Rattle.pc_edges.specs.Faults.{Rose}
+use Rattle.pc_edges.specs.Pulls.{CameIn, TakesPulls}
 use Rattle.pc_cert.specs.declared.line.CertLine.{CertLine}
 use Rattle.pc_cert.specs.declared.line.TheConstants.{MAX_LINE}
 use Rattle.pc_cert.specs.declared.place.Place.{Place}
@@ -23,23 +24,29 @@ pub record HasNoFailure (net : PricedNetwork) (bytes : List ℕ) : Type 0 where
   pub no_end : Lacks 10 rest
   pub short : length rest < MAX_LINE
 
--- the bytes that were taken are found to be this, and one pull came behind the bytes of which no line fails: there is a state of the source in
--- which it had given these alone, each by a pull at least, and from which it came to where it stands by one pull of at most so many bytes
-pub record IsSettled {X : Type 0} (net : PricedNetwork) (verdict : Verdict) (room : ℕ) (left : X → Option (List ℕ)) (pulls : X → Option ℕ) (old new : X) : Type 0 where
+-- The bytes that were taken are found to be this, and reading stopped where it was found. There is a state of the source in which it had
+-- given bytes of which no line fails, by pulls that each gave at least one and had no fault; and from there at most one more pull, of at most
+-- `room` bytes, led to the new state. So nothing is pulled behind the first failing line, or after a pull that found the source at its end.
+pub record IsSettled {X : Type 0} (net : PricedNetwork) (verdict : Verdict) (room : ℕ) (left : X → Option (List ℕ)) (faults : X → ℕ) (pulls : X → Option ℕ) (old new : X) : Type 0 where
+  pub before : X
+  pub pieces : List (List ℕ)
   pub front : List ℕ
   pub last : List ℕ
-  pub found : Finds net (front ++ last) verdict
-  pub before : X
-  pub came : Consumes (left old) (left before) front
+  pub came : CameIn left faults pulls pieces front old before
   pub none : HasNoFailure net front
-  pub turns : TakesPulls (length front) (pulls old) (pulls before)
-  pub once : TakesPulls 1 (pulls before) (pulls new)
   pub pulled : Consumes (left before) (left new) last
   pub short : length last ≤ room
+  pub once : TakesPulls 1 (pulls before) (pulls new)
+  pub found : Finds net (front ++ last) verdict
 
--- no line fails in the bytes that were taken, and each pull but the last gave at least one of them
-pub record IsUnsettled (net : PricedNetwork) (left left_after : Option (List ℕ)) (pulls pulls_after : Option ℕ) : Type 0 where
+-- No line fails in the bytes that were taken, and reading stopped at the pull that failed: the bytes came by pulls that each gave at least
+-- one and had no fault, and from there one pull, which failed and gave none, led to the new state.
+pub record IsUnsettled {X : Type 0} (net : PricedNetwork) (left : X → Option (List ℕ)) (faults : X → ℕ) (pulls : X → Option ℕ) (old new : X) : Type 0 where
+  pub before : X
+  pub pieces : List (List ℕ)
   pub bytes : List ℕ
-  pub taken : Consumes left left_after bytes
+  pub came : CameIn left faults pulls pieces bytes old before
   pub none : HasNoFailure net bytes
-  pub turns : TakesPulls (length bytes + 1) pulls pulls_after
+  pub failed : Rose (faults before) (faults new)
+  pub kept : Keeps (left before) (left new)
+  pub once : TakesPulls 1 (pulls before) (pulls new)

@@ -161,8 +161,9 @@ pub enum AuditError {
 /// Returns the verdict on the text of a source: it is a certificate of the network, or it fails first at this point.
 ///
 /// All memory is allocated before the first pull, and its amount does not depend on the text. Each piece is used before
-/// the next pull, and nothing is pulled after the piece in which the first failing line ends. A text has no limit of
-/// its own: the network bounds the lines of a text that does not fail, so a source that never ends is refused.
+/// the next pull. Nothing is pulled after the piece in which the first failing line ends, after a pull that gave no
+/// byte, or after one that failed. A text has no limit of its own: the network bounds the lines of a text that does not
+/// fail, so a source that never ends is refused.
 ///
 /// # Errors
 ///
@@ -188,16 +189,15 @@ pub fn audit_source<C: Source>(
     source: &mut C,
 ) -> Result<Verdict, AuditError>
     ensures finds { IfOk result (λ verdict. IfSome (C.left source.old) (λ text. Finds net.now text verdict)) }
-    // nothing is pulled after the failing line
-    ensures stops { IfOk result (λ verdict. IsSettled net.now verdict STREAM_ROOM C.left C.pulls source.old
+    // nothing is pulled after the failing line, or after the end, and each pull before the last gave at least one byte
+    ensures stops { IfOk result (λ verdict. IsSettled net.now verdict STREAM_ROOM C.left C.faults C.pulls source.old
         source.new) }
     ensures end { IfOk result (λ verdict. OnYes verdict (IsAtEnd (C.left source.new))) }
     ensures no_fault { OnOk result (C.faults source.new ≡ C.faults source.old) }
     ensures fault { IsErrOf result AuditError.ReadFault → Rose (C.faults source.old) (C.faults source.new) }
-    // a fault counts only where no line has failed before it
-    ensures unsettled { IsErrOf result AuditError.ReadFault →
-        IsUnsettled net.now (C.left source.old) (C.left source.new)
-        (C.pulls source.old) (C.pulls source.new) }
+    // a fault counts only where no line has failed before it, and nothing is pulled after it
+    ensures unsettled { IsErrOf result AuditError.ReadFault → IsUnsettled net.now C.left C.faults C.pulls source.old
+        source.new }
     ensures no_room { IsErrOf result AuditError.OutOfMemory → source.new ≡ source.old }
     ensures count { C.faults source.old ≤ C.faults source.new }
     // the pulls are bounded by the network, and by the first upper end of the text's own segments
@@ -225,13 +225,13 @@ fn audit_by<C: Source>(
     requires going { IsGoing audit }
     ensures finds { IfOk result (λ verdict. IfSome (C.left source.old)
         (λ text. Finds audit.entry.checker.net text verdict)) }
-    ensures stops { IfOk result (λ verdict. IsSettled audit.entry.checker.net verdict STREAM_ROOM C.left C.pulls
-        source.old source.new) }
+    ensures stops { IfOk result (λ verdict. IsSettled audit.entry.checker.net verdict STREAM_ROOM C.left C.faults
+        C.pulls source.old source.new) }
     ensures end { IfOk result (λ verdict. OnYes verdict (IsAtEnd (C.left source.new))) }
     ensures no_fault { OnOk result (C.faults source.new ≡ C.faults source.old) }
     ensures fault { IsErrOf result AuditError.ReadFault → Rose (C.faults source.old) (C.faults source.new) }
-    ensures unsettled { OnErr result (IsUnsettled audit.entry.checker.net (C.left source.old) (C.left source.new)
-        (C.pulls source.old) (C.pulls source.new)) }
+    ensures unsettled { OnErr result (IsUnsettled audit.entry.checker.net C.left C.faults C.pulls source.old
+        source.new) }
     ensures room { IsErrOf result AuditError.OutOfMemory → ⊥ }
     ensures count { C.faults source.old ≤ C.faults source.new }
     ensures turns { TakesPulls (bytes_left audit.entry + 1) (C.pulls source.old) (C.pulls source.new) }

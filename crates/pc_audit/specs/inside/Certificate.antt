@@ -15,12 +15,13 @@ use Rattle.pc_audit.specs.Certificate.{verdict_text, IsSettledIn, IsUnsettledIn}
 
 -- ---- what a check leaves
 
--- what the source had left is found to be this, a certified text was read to its end, and nothing was pulled behind the first
--- failing line
+-- what the source had left is found to be this without a fault of it, a certified text was read to its end, and nothing was pulled behind
+-- the first failing line
 pub record IsFound {X : Type 0} (net : PricedNetwork) (cert : Side X) (verdict : Verdict) : Type 0 where
   pub finds : OfBytes cert (λ text. Finds net text verdict)
   pub end : OnYes verdict (IsReadToEnd cert)
   pub settled : IsSettledIn net verdict cert
+  pub no_fault : cert.faults cert.new ≡ cert.faults cert.old
 
 -- the status of a verdict that was told
 abbrev pub status_for : Verdict → Status

@@ -23,6 +23,7 @@ returns-in-Ok-audit_source-clause-answered g c =
       finds = subst (λ n. IfSome (s.left c.args.cert.now) (λ text. Finds n text c.in-Ok-audit_source.verdict)) same c.in-Ok-audit_source.ensures.finds;
       end = c.in-Ok-audit_source.ensures.end;
       settled = subst (λ n. IsSettledIn n c.in-Ok-audit_source.verdict (pulled_side s.left s.faults s.pulls c.args.cert.now c.audit_source.new.source)) same c.in-Ok-audit_source.ensures.stops;
+      no_fault = c.in-Ok-audit_source.ensures.no_fault;
     })
     c.tell.ensures
 

@@ -5,7 +5,7 @@ use Rattle.pc_check.proofs.audit.audit_by.Given as goal
 abbrev pub invariant-loop-n : goal.invariant-loop-n
 invariant-loop-n g l =
     let s = g.C.Source in
-    IsPulling l.fn.audit l.audit (s.left l.fn.source) (s.left l.source) (s.faults l.fn.source) (s.faults l.source) (s.pulls l.fn.source) (s.pulls l.source)
+    IsPulling s.left s.faults s.pulls l.fn.source l.source l.fn.audit l.audit
 
 abbrev pub decreases-loop-n : goal.decreases-loop-n
 decreases-loop-n g l = bytes_left l.audit

@@ -21,14 +21,14 @@ returns-clause-turns g c =
 pub returns-clause-stops : goal.returns-clause-stops
 returns-clause-stops g c =
     subst (λ n. IfOk c.audit_by.result
-    (λ verdict. IsSettled n verdict STREAM_ROOM g.C.Source.left g.C.Source.pulls c.args.source.now c.audit_by.new.source))
+    (λ verdict. IsSettled n verdict STREAM_ROOM g.C.Source.left g.C.Source.faults g.C.Source.pulls c.args.source.now c.audit_by.new.source))
     c.in-Ok.ensures.net c.audit_by.ensures.stops
 
 pub returns-clause-own_turns : goal.returns-clause-own_turns
 returns-clause-own_turns g c =
     let s = g.C.Source in
     subst (λ n. IfSome (s.left c.args.source.now) (λ text. KeepsToOwnLines n text (s.pulls c.args.source.now) (s.pulls c.audit_by.new.source))) c.in-Ok.ensures.net
-    (keeps_to_lines _ STREAM_ROOM s.left s.pulls c.args.source.now c.audit_by.new.source c.audit_by.result c.audit_by.ensures.stops c.audit_by.ensures.unsettled)
+    (keeps_to_lines _ STREAM_ROOM s.left s.faults s.pulls c.args.source.now c.audit_by.new.source c.audit_by.result c.audit_by.ensures.stops c.audit_by.ensures.unsettled)
 
 pub returns-in_default-clause-own_turns : goal.returns-in_default-clause-own_turns
 returns-in_default-clause-own_turns g c = unpulled_keeps c.args.net.now (g.C.Source.left c.args.source.now) (g.C.Source.pulls c.args.source.now)
