@@ -9,8 +9,16 @@ from collections.abc import Iterator, Mapping
 from dataclasses import dataclass
 from datetime import date, datetime
 
-from pert_companion.calendar import Calendar
-from pert_companion.plan import Constraint, ConstraintKind, Group, Link, LinkKind, Plan, Task
+from pert_companion.model.calendar import Calendar
+from pert_companion.model.plan import (
+    Constraint,
+    ConstraintKind,
+    Group,
+    Link,
+    LinkKind,
+    Plan,
+    Task,
+)
 
 START_CONSTRAINTS = (ConstraintKind.START_NO_EARLIER, ConstraintKind.MUST_START)
 FINISH_CONSTRAINTS = (ConstraintKind.FINISH_NO_EARLIER, ConstraintKind.MUST_FINISH)
@@ -146,7 +154,10 @@ def source_moment(link: PlainLink, early: Mapping[str, int], minutes: Mapping[st
 
 
 def bound(
-    calendar: Calendar, link: PlainLink, early: Mapping[str, int], minutes: Mapping[str, int]
+    calendar: Calendar,
+    link: PlainLink,
+    early: Mapping[str, int],
+    minutes: Mapping[str, int],
 ) -> int:
     """Returns the position from which the successor's end may be."""
     position = source_moment(link, early, minutes)
@@ -158,7 +169,10 @@ def bound(
 
 
 def push_forward(
-    calendar: Calendar, link: PlainLink, early: dict[str, int], minutes: Mapping[str, int]
+    calendar: Calendar,
+    link: PlainLink,
+    early: dict[str, int],
+    minutes: Mapping[str, int],
 ) -> bool:
     """Moves the successor as late as the link demands; says whether it moved."""
     needed = bound(calendar, link, early, minutes)
@@ -171,7 +185,10 @@ def push_forward(
 
 
 def fixed_lag(
-    calendar: Calendar, link: PlainLink, early: Mapping[str, int], minutes: Mapping[str, int]
+    calendar: Calendar,
+    link: PlainLink,
+    early: Mapping[str, int],
+    minutes: Mapping[str, int],
 ) -> PlainLink:
     """Returns a link whose elapsed lag is the working minutes that it is after the early date."""
     lag = bound(calendar, link, early, minutes) - source_moment(link, early, minutes)

@@ -14,8 +14,8 @@ from decimal import Decimal
 from openpyxl import Workbook
 from openpyxl.styles import Alignment, Font
 
-from pert_companion.calendar import Calendar
-from pert_companion.plan import Group, Lag, Link, Plan, ResourceKind, Task
+from pert_companion.model.calendar import Calendar
+from pert_companion.model.plan import Group, Lag, Link, Plan, ResourceKind, Task
 from pert_companion.readers.cells import CONSTRAINTS
 
 DAY = 480

@@ -10,8 +10,8 @@ from decimal import Decimal
 from itertools import chain
 from xml.sax.saxutils import escape, quoteattr
 
-from pert_companion.calendar import Calendar, Shift
-from pert_companion.plan import (
+from pert_companion.model.calendar import Calendar, Shift
+from pert_companion.model.plan import (
     ConstraintKind,
     Group,
     Lag,
@@ -48,7 +48,15 @@ P6_LINKS = {
     "FF": "Finish to Finish",
     "SF": "Start to Finish",
 }
-WEEKDAYS = ("Monday", "Tuesday", "Wednesday", "Thursday", "Friday", "Saturday", "Sunday")
+WEEKDAYS = (
+    "Monday",
+    "Tuesday",
+    "Wednesday",
+    "Thursday",
+    "Friday",
+    "Saturday",
+    "Sunday",
+)
 FINISH_KINDS = (
     ConstraintKind.MUST_FINISH,
     ConstraintKind.FINISH_NO_EARLIER,
@@ -371,7 +379,11 @@ def _p6_assignments(plan: Plan) -> list[dict[str, object]]:
         quantity = each.quantity
         if kinds[each.resource] is ResourceKind.WORK:
             quantity = each.quantity / 60
-        row = {"task_id": each.task, "rsrc_id": numbers[each.resource], "target_qty": quantity}
+        row = {
+            "task_id": each.task,
+            "rsrc_id": numbers[each.resource],
+            "target_qty": quantity,
+        }
         found.append({"taskrsrc_id": len(found), **row})
     return found
 
@@ -388,7 +400,11 @@ def _p6_user_values(task: Task) -> Iterator[tuple[int, object]]:
         yield 3, f"{crash.cost:f}"
 
 
-USER_FIELDS = ((1, "Crash", "FT_TEXT"), (2, "Slope", "FT_MONEY"), (3, "Crash cost", "FT_MONEY"))
+USER_FIELDS = (
+    (1, "Crash", "FT_TEXT"),
+    (2, "Slope", "FT_MONEY"),
+    (3, "Crash cost", "FT_MONEY"),
+)
 
 
 def xer_bytes(plan: Plan, codes: bool = False, encoding: str = "utf-8") -> bytes:
@@ -396,7 +412,13 @@ def xer_bytes(plan: Plan, codes: bool = False, encoding: str = "utf-8") -> bytes
     status = plan.data_date or plan.start
     moment = evening(status) if plan.data_date else morning(status)
     groups: list[dict[str, object]] = [
-        {"wbs_id": "top", "proj_id": 1, "parent_wbs_id": "eps", "wbs_name": plan.name, "seq_num": 1}
+        {
+            "wbs_id": "top",
+            "proj_id": 1,
+            "parent_wbs_id": "eps",
+            "wbs_name": plan.name,
+            "seq_num": 1,
+        }
     ]
     for number, group in enumerate(plan.groups()):
         above = group.parent or "top"
@@ -416,7 +438,11 @@ def xer_bytes(plan: Plan, codes: bool = False, encoding: str = "utf-8") -> bytes
             name = "udf_text" if kind == 1 else "udf_number"
             values.append({"udf_type_id": kind, "fk_id": task.uid, name: value})
     costs: list[dict[str, object]] = [
-        {"task_id": task.uid, "target_cost": task.cost, "act_cost": task.progress.actual_cost}
+        {
+            "task_id": task.uid,
+            "target_cost": task.cost,
+            "act_cost": task.progress.actual_cost,
+        }
         for task in tasks
         if task.cost is not None
     ]
@@ -436,6 +462,9 @@ def xer_bytes(plan: Plan, codes: bool = False, encoding: str = "utf-8") -> bytes
                     "proj_id": 1,
                     "proj_short_name": "P1",
                     "plan_start_date": _p6_moment(morning(plan.start)),
+                    "plan_end_date": (
+                        _p6_moment(evening(plan.must_finish)) if plan.must_finish else ""
+                    ),
                     "last_recalc_date": _p6_moment(moment),
                 }
             ],
@@ -610,6 +639,7 @@ def pmxml_bytes(plan: Plan, codes: bool = False) -> bytes:
         f"{types}{_pmxml_calendar(plan.calendar)}{_pmxml_resources(plan)}"
         f"<Project><ObjectId>1</ObjectId><Id>P1</Id>{tag('Name', plan.name)}"
         f"{tag('PlannedStartDate', morning(plan.start))}{tag('DataDate', status)}"
+        f"{tag('MustFinishByDate', evening(plan.must_finish)) if plan.must_finish else ''}"
         f"{groups}{tasks}{links}{parts}</Project></APIBusinessObjects>"
     ).encode()
 

@@ -14,8 +14,13 @@ from fractions import Fraction
 
 from hypothesis import strategies as st
 
-from pert_companion.calendar import STANDARD_DAY, STANDARD_WEEK, Calendar, CalendarException
-from pert_companion.plan import (
+from pert_companion.model.calendar import (
+    STANDARD_DAY,
+    STANDARD_WEEK,
+    Calendar,
+    CalendarException,
+)
+from pert_companion.model.plan import (
     Assignment,
     Baseline,
     Constraint,
@@ -35,7 +40,18 @@ from pert_companion.plan import (
 
 DAY = 480
 FIRST_DAY = date(2026, 3, 2)
-WORDS = ("Dig", "Pour", "Walls", "Roof", "Wires", "Pipes", "Paint", "Tiles", "Doors", "Übergabe")
+WORDS = (
+    "Dig",
+    "Pour",
+    "Walls",
+    "Roof",
+    "Wires",
+    "Pipes",
+    "Paint",
+    "Tiles",
+    "Doors",
+    "Übergabe",
+)
 CREWS = ("Masons", "Carpenters", "Électriciens", "Crew, north")
 MATERIALS = (("Concrete", "m3"), ("Gravel", "t"))
 
@@ -311,3 +327,30 @@ def plans(
         assignments=assignments,
         data_date=FIRST_DAY + timedelta(days=39) if has_progress else None,
     )
+
+
+@st.composite
+def linked_groups(draw: st.DrawFn) -> Plan:
+    """Draws two groups with leads and lags inside, a task before the first, and one after each.
+
+    The groups are linked as whole ones, so that their first and last tasks count.
+    """
+    draft = _Draft(draw, frozenset((Feature.LINK_KINDS, Feature.LEADS, Feature.LAGS)))
+    outline: list[Task | Group] = [Task("1", "row 1", "Before", draft.minutes(0, 20))]
+    links: list[Link] = []
+    for name in ("g", "h"):
+        outline.append(Group(name, f"row {name}", f"Group {name}"))
+        inside: list[Task] = []
+        for number in range(draw(st.integers(1, 4))):
+            uid = f"{name}{number}"
+            inside.append(Task(uid, f"row {uid}", f"Task {uid}", draft.minutes(1, 12), name))
+            for earlier in inside[:-1]:
+                if draw(st.booleans()):
+                    kind = draw(st.sampled_from(tuple(LinkKind)))
+                    links.append(Link(earlier.uid, uid, kind, _lag(draft)))
+        outline.extend(inside)
+    outline.append(Task("9", "row 9", "After", draft.minutes(0, 5)))
+    for before, after in (("1", "g"), ("g", "h"), ("g", "9"), ("h", "9")):
+        if draw(st.booleans()):
+            links.append(Link(before, after, lag=_lag(draft)))
+    return Plan("Groups", FIRST_DAY, Calendar(), tuple(outline), tuple(links))

@@ -8,10 +8,9 @@ import pytest
 
 from pert_companion.cli import importing
 from pert_companion.cli.common import CommandParser, run_command
-from pert_companion.deck import parse_deck
-from pert_companion.opening import OpenPlan, open_plan
-from pert_companion.programs import Programs
-from pert_companion.scheduling import implied_side_file
+from pert_companion.model.deck import Deck, parse_deck
+from pert_companion.programs.client import Programs
+from pert_companion.state.project import ProjectState, open_state, state_of
 
 HERE = Path(__file__).resolve().parent
 CASES = HERE / "cases"
@@ -46,16 +45,24 @@ def run_words(
     return Outcome(status, captured.out.decode(), captured.err.decode())
 
 
-def imported(folder: Path, case: str, *words: str) -> OpenPlan:
-    """Returns the plan of a list of the cases, imported into a folder."""
+def opened(path: Path) -> ProjectState:
+    """Returns the state of a deck's file."""
+    return open_state(path, PROGRAMS)
+
+
+def imported(folder: Path, case: str, *words: str) -> ProjectState:
+    """Returns the state of a list of the cases, imported into a folder."""
     deck = folder / case
     given = [str(CASES / case), "-o", str(deck), *words]
     assert run_command(importing.NAME, importing.parser(), importing.run, given) == 0
-    return open_plan(deck)
+    return opened(deck)
 
 
-def plan_of(text: str, name: str = "deck.csv") -> OpenPlan:
-    """Returns the plan of a deck that is given as a text."""
-    data = text.encode()
-    deck = parse_deck(data, name)
-    return OpenPlan(Path(name), data, deck, implied_side_file(deck), False)
+def plan_of(text: str) -> ProjectState:
+    """Returns the state of a deck that is given as a text."""
+    return state_of(parse_deck(text.encode(), "deck.csv"), PROGRAMS)
+
+
+def deck_of(text: str) -> Deck:
+    """Returns the deck that is given as a text."""
+    return parse_deck(text.encode(), "deck.csv")

@@ -3,8 +3,8 @@
 from datetime import date
 from decimal import Decimal
 
-from pert_companion.calendar import Calendar, free_days
-from pert_companion.plan import Crash, Group, Lag, Link, LinkKind, Plan, Task
+from pert_companion.model.calendar import Calendar, free_days
+from pert_companion.model.plan import Crash, Group, Lag, Link, LinkKind, Plan, Task
 
 FIRST_DAY = date(2026, 3, 2)
 WORDS = ("Dig", "Pour", "Walls", "Roof", "Wires", "Übergabe")

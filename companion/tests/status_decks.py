@@ -12,8 +12,8 @@ from datetime import date, timedelta
 from decimal import Decimal
 from random import Random
 
-from pert_companion.calendar import Calendar
-from pert_companion.cards import (
+from pert_companion.model.calendar import Calendar
+from pert_companion.model.cards import (
     AccountCard,
     ActivityCard,
     AfterCard,
@@ -29,8 +29,8 @@ from pert_companion.cards import (
     TermsCard,
     ToGoCard,
 )
-from pert_companion.deck import Deck
-from pert_companion.sidefile import SideFile, SideTask
+from pert_companion.model.deck import Deck
+from pert_companion.model.sidefile import SideFile, SideTask
 
 FIRST_DAY = date(2026, 3, 2)
 """A Monday."""
@@ -50,10 +50,22 @@ def random_network(random: Random, most: int = 8, longest: int = 9) -> Deck:
     activities = []
     for at, (begin, end) in enumerate(pairs):
         task = _task(random, f"A{at}", longest)
-        numbers = (task.optimistic, task.likely, task.pessimistic, task.normal, task.crash)
+        numbers = (
+            task.optimistic,
+            task.likely,
+            task.pessimistic,
+            task.normal,
+            task.crash,
+        )
         activities.append(
             ActivityCard(
-                task.code, f"E{begin}", f"E{end}", task.item, *numbers, task.cost, task.slope
+                task.code,
+                f"E{begin}",
+                f"E{end}",
+                task.item,
+                *numbers,
+                task.cost,
+                task.slope,
             )
         )
     project = ProjectCard("P", "E0", f"E{count - 1}", FIRST_DAY, random.choice((1, 1, 2, 5, 7)))
@@ -128,7 +140,9 @@ def _completed(random: Random, deck: Deck) -> Deck:
 
 def _charge(random: Random, account: str) -> ChargeCard:
     return ChargeCard(
-        account, FIRST_DAY + timedelta(days=random.randint(0, 40)), random.randint(0, 300)
+        account,
+        FIRST_DAY + timedelta(days=random.randint(0, 40)),
+        random.randint(0, 300),
     )
 
 

@@ -1,6 +1,5 @@
 """Working time: counting and adding are inverse, and equal a count minute by minute."""
 
-import time
 from collections.abc import Callable
 from datetime import date, datetime, timedelta
 
@@ -8,7 +7,7 @@ import pytest
 from hypothesis import given, settings
 from hypothesis import strategies as st
 
-from pert_companion.calendar import (
+from pert_companion.model.calendar import (
     EVERY_DAY,
     STANDARD_DAY,
     STANDARD_WEEK,
@@ -18,7 +17,8 @@ from pert_companion.calendar import (
     free_days,
     merged_shifts,
 )
-from pert_companion.errors import InputError
+from pert_companion.model.errors import InputError
+from timing import within
 
 FIRST = date(2024, 1, 1)
 
@@ -75,7 +75,8 @@ def test_days_are_counted_one_by_one(calendar: Calendar, begin: int, length: int
     assert calendar.count_days(first, last) == sum(1 for count in minutes if count > 0)
     assert calendar.count_days(last, first) == -calendar.count_days(first, last)
     between = calendar.between(
-        datetime(first.year, first.month, first.day), datetime(last.year, last.month, last.day)
+        datetime(first.year, first.month, first.day),
+        datetime(last.year, last.month, last.day),
     )
     assert between == sum(minutes)
     assert list(calendar.working_days(first, last - timedelta(days=1))) == [
@@ -211,7 +212,10 @@ def test_helpers_give_tidy_parts() -> None:
     """Shifts are merged and free days listed once."""
     assert merged_shifts([(600, 700), (480, 600), (900, 900), (1000, 990)]) == ((480, 700),)
     days = free_days([date(2024, 5, 1), date(2024, 3, 1), date(2024, 5, 1)], "rest")
-    assert [exception.first for exception in days] == [date(2024, 3, 1), date(2024, 5, 1)]
+    assert [exception.first for exception in days] == [
+        date(2024, 3, 1),
+        date(2024, 5, 1),
+    ]
     assert Calendar(week=EVERY_DAY).is_working(date(2024, 3, 10))
 
 
@@ -220,8 +224,7 @@ def test_decades_and_many_calls_are_quick() -> None:
     days = [FIRST + timedelta(days=3 * number) for number in range(5000)]
     calendar = Calendar(exceptions=free_days(days))
     moment = datetime(1950, 1, 1)
-    began = time.process_time()
-    for number in range(50_000):
-        reached = calendar.add(moment, number * 997)
-        assert calendar.between(moment, reached) == number * 997
-    assert time.process_time() - began < 20
+    with within(20):
+        for number in range(50_000):
+            reached = calendar.add(moment, number * 997)
+            assert calendar.between(moment, reached) == number * 997

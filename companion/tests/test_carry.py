@@ -10,13 +10,16 @@ from hypothesis import HealthCheck, assume, given, settings
 from hypothesis import strategies as st
 from plans import ALL_FEATURES, FIRST_DAY, Feature, plans
 
-from pert_companion.calendar import Calendar
+
 from pert_companion.carry import Carried, carry
-from pert_companion.days import counted
-from pert_companion.plan import Link, LinkKind, Plan, Progress, Task
-from pert_companion.programs import Programs
-from pert_companion.scheduling import normal_tasks, with_durations
-from pert_companion.sidefile import SideTask, card_codes, from_json, to_json
+from pert_companion.model.calendar import Calendar
+from pert_companion.model.days import counted
+from pert_companion.model.plan import Link, LinkKind, Plan, Progress, Task
+from pert_companion.model.sidefile import SideTask, card_codes, from_json, to_json
+from pert_companion.programs.client import Programs
+from pert_companion.state.project import ProjectState
+from pert_companion.analysis.scheduling import normal_schedule
+from pert_companion.state.work import with_durations
 
 EXAMPLES = example_count(40)
 PROGRAMS = Programs()
@@ -106,7 +109,7 @@ def test_late_dates_are_those_of_the_calendar(plan: Plan) -> None:
     carried = carry(plan)
     assume(has_exact_links(carried))
     dates = early_dates(plan)
-    for task in normal_tasks(PROGRAMS, carried.deck, carried.side):
+    for task in normal_schedule(ProjectState(PROGRAMS, carried.deck, carried.side).plan).tasks:
         assert task.total_float_minutes == dates[task.uid].total_float, task.uid
         assert task.is_critical == (dates[task.uid].total_float <= 0), task.uid
 
@@ -115,9 +118,12 @@ def test_a_finish_that_waits_is_no_later_than_its_start_allows() -> None:
     """B ends after A and C begins with B: A has 3 days of float, though the deck's end has 8."""
     days = {"A": 2, "B": 5, "C": 10}
     tasks = tuple(Task(name, name, name, count * 480) for name, count in days.items())
-    links = (Link("A", "B", LinkKind.FINISH_FINISH), Link("B", "C", LinkKind.START_START))
+    links = (
+        Link("A", "B", LinkKind.FINISH_FINISH),
+        Link("B", "C", LinkKind.START_START),
+    )
     carried = carry(Plan("P", FIRST_DAY, Calendar(), tasks, links))
-    found = normal_tasks(PROGRAMS, carried.deck, carried.side)
+    found = normal_schedule(ProjectState(PROGRAMS, carried.deck, carried.side).plan).tasks
     assert [task.total_float_minutes // 480 for task in found] == [3, 0, 0]
     assert [task.is_critical for task in found] == [False, True, True]
 

@@ -1,6 +1,5 @@
 """What a deck cannot say is a loss or a note that names the place in the source, or one line."""
 
-import time
 from dataclasses import replace
 from datetime import date
 from decimal import Decimal
@@ -9,12 +8,13 @@ from typing import Any
 
 import pytest
 
-from pert_companion.calendar import Calendar, free_days
-from pert_companion.cards import ChargeCard, LoadCard, ToGoCard
 from pert_companion.carry import Carried, CarryOptions, carry
-from pert_companion.errors import InputError, UsageError
-from pert_companion.losses import Loss, LossKind
-from pert_companion.plan import (
+from pert_companion.carry.codes import shortened
+from pert_companion.model.calendar import Calendar, free_days
+from pert_companion.model.cards import ChargeCard, LoadCard, ToGoCard
+from pert_companion.model.errors import InputError, UsageError
+from pert_companion.model.losses import Loss, LossKind
+from pert_companion.model.plan import (
     Assignment,
     Baseline,
     Constraint,
@@ -31,6 +31,7 @@ from pert_companion.plan import (
     ResourceKind,
     Task,
 )
+from timing import within
 
 DAY = 480
 START = date(2026, 9, 1)
@@ -185,10 +186,9 @@ def test_leads_reach_back_over_few_tasks() -> None:
     carried = carry(plan(*tasks, links=tuple(chain)))
     assert not carried.losses and not carried.deck.afters
     late = Constraint(ConstraintKind.START_NO_EARLIER, date(2036, 9, 1))
-    began = time.process_time()
     tasks[0] = replace(tasks[0], constraint=late)
-    carried = carry(plan(*tasks, links=tuple(chain)))
-    assert time.process_time() - began < 60
+    with within(60):
+        carried = carry(plan(*tasks, links=tuple(chain)))
     assert {loss.why for loss in carried.losses} == {
         "its leads reach back over more than 300 tasks"
     }
@@ -252,7 +252,11 @@ def test_shortening_needs_a_duration_and_a_price() -> None:
     ]
     assert [loss.where for loss in losses_of(carried, LossKind.COST)] == ["row 8"]
     (fraction,) = losses_of(carried, LossKind.FRACTION)
-    assert (fraction.field, fraction.text, fraction.why) == ("slope", "2.5", "rounded up to 3")
+    assert (fraction.field, fraction.text, fraction.why) == (
+        "slope",
+        "2.5",
+        "rounded up to 3",
+    )
     cents = carry(plan(*tasks[:2]), CarryOptions(cents=True))
     assert numbers(cents) == {"T1": (4, 2, 250), "T2": (4, 1, 1000)} and not cents.losses
     assert cents.side.money_scale == 100 and cents.deck.accounts[0].budget == 10_000
@@ -260,8 +264,23 @@ def test_shortening_needs_a_duration_and_a_price() -> None:
     assert numbers(halves)["T2"] == (8, 2, 5)
 
 
+def test_a_task_to_be_done_as_late_as_possible_is_noted() -> None:
+    """It is kept in the side file; once it has begun there is nothing to note."""
+    late = Constraint(ConstraintKind.AS_LATE_AS_POSSIBLE, None)
+    carried = carry(plan(task("1", 3), task("2", constraint=late)))
+    assert [note for note in carried.notes if "late as possible" in note] == [
+        "row 2, task 'Task 2': it is to be done as late as possible, and a deck begins each task as"
+        " early as it can"
+    ]
+    assert carried.side.tasks[1].constraint == late and not carried.losses
+    begun = Progress(percent=Decimal(50), actual_start=date(2026, 9, 1))
+    tasks = (task("1", 3), task("2", constraint=late, progress=begun))
+    carried = carry(plan(*tasks, data_date=date(2026, 9, 1)))
+    assert not [note for note in carried.notes if "late as possible" in note]
+
+
 def test_constraints_are_waits_or_named() -> None:
-    """Earliest dates become waits; latest dates are kept, and named where links break them."""
+    """Earliest dates become waits; latest dates are kept, and noted where links break them."""
 
     def constrained(kind: ConstraintKind, day: int, **parts: Any) -> Carried:
         constraint = Constraint(kind, date(2026, 9, day))
@@ -283,20 +302,40 @@ def test_constraints_are_waits_or_named() -> None:
         ConstraintKind.MUST_FINISH: "by its links it finishes on 2026-09-07",
     }
     for kind, why in broken.items():
-        (loss,) = constrained(kind, 3).losses
-        assert (loss.kind, loss.why) == (LossKind.CONSTRAINT, why)
-        assert loss.text == f"{kind.value} 2026-09-03"
+        carried = constrained(kind, 3)
+        note = f"row 2, task 'Task 2': {kind.value} 2026-09-03 is broken: {why}"
+        assert not carried.losses and carried.notes == (note,)
+        assert carried.side.tasks[1].constraint == Constraint(kind, date(2026, 9, 3))
         held = constrained(kind, 30)
         assert not held.losses and held.side_losses[0].kind is LossKind.CONSTRAINT
+        assert not held.notes
     moved = constrained(ConstraintKind.FINISH_NO_LATER, 3, minutes=0)
-    assert "finishes on 2026-09-04" in moved.losses[0].why
+    assert "finishes on 2026-09-04" in moved.notes[0]
     late = task("1", constraint=Constraint(ConstraintKind.AS_LATE_AS_POSSIBLE, None))
-    (loss,) = carry(plan(late)).losses
-    assert loss.why == "it is scheduled as early as possible"
+    carried = carry(plan(late))
+    assert not carried.losses and len(carried.notes) == 1
+    assert carried.side.tasks[0].constraint == late.constraint
+    assert [loss.kind for loss in carried.side_losses] == [LossKind.CONSTRAINT]
     manual = task("1", manual=True, listed_start=date(2026, 11, 2))
     assert carry(plan(manual)).side.waits == ("D2026-11-02",)
-    two = (replace(late, uid="2", constraint=manual.constraint), manual, replace(manual, uid="3"))
+    two = (
+        replace(late, uid="2", constraint=manual.constraint),
+        manual,
+        replace(manual, uid="3"),
+    )
     assert carry(plan(*two)).side.waits == ("D2026-11-02",)
+
+
+def test_a_contract_that_the_links_break_is_noted() -> None:
+    """The plan is carried over, and the day is the directed end of the deck."""
+    tasks = (task("1", 3), task("2"))
+    link = (Link("1", "2"),)
+    carried = carry(plan(*tasks, links=link, must_finish=date(2026, 9, 4)))
+    assert carried.deck.project.directed == 4 and not carried.losses
+    assert carried.notes == (
+        "the plan must finish by 2026-09-04: by its links it ends on 2026-09-07",
+    )
+    assert carry(plan(*tasks, links=link, must_finish=date(2026, 9, 7))).notes == ()
 
 
 def test_elapsed_lags_and_shares_are_working_time() -> None:
@@ -343,7 +382,13 @@ def test_loads_are_whole() -> None:
     )
     links = (Link("1", "2", lag=Lag(-2 * DAY)),)
     carried = carry(
-        plan(task("1", 6), task("2"), links=links, resources=resources, assignments=assignments)
+        plan(
+            task("1", 6),
+            task("2"),
+            links=links,
+            resources=resources,
+            assignments=assignments,
+        )
     )
     assert [(card.code, card.title) for card in carried.deck.resources] == [
         ("Crew", "Crew (minutes)"),
@@ -359,7 +404,10 @@ def test_loads_are_whole() -> None:
         LoadCard("T2", "Concrete", 125),
         LoadCard("T2", "Sand", 1),
     )
-    assert [loss.kind for loss in carried.losses] == [LossKind.RESOURCE, LossKind.FRACTION]
+    assert [loss.kind for loss in carried.losses] == [
+        LossKind.RESOURCE,
+        LossKind.FRACTION,
+    ]
     hours = carry(plan(task("1"), resources=resources[:1], assignments=assignments[:1]))
     assert hours.deck.resources[0].title == "Crew (hours)"
     assert hours.deck.loads == (LoadCard("T1", "Crew", 16),)
@@ -425,7 +473,10 @@ def test_progress_of_moments_and_waits() -> None:
 
 def test_progress_of_parts() -> None:
     """Done days use up part 1, 2, ..; a finished task has all its parts finished."""
-    links = (Link("1", "2", lag=Lag(-2 * DAY)), Link("1", "2", LinkKind.FINISH_FINISH, Lag(-DAY)))
+    links = (
+        Link("1", "2", lag=Lag(-2 * DAY)),
+        Link("1", "2", LinkKind.FINISH_FINISH, Lag(-DAY)),
+    )
 
     def at(day: int, **parts: Any) -> dict[str, str]:
         split = task("1", 6, progress=done(1, **parts))
@@ -452,7 +503,12 @@ def test_progress_that_makes_no_sense_is_named() -> None:
         task("4", progress=replace(done(1), actual_start=date(2026, 8, 20))),
         task("5", progress=done(3, 2)),
         task("6", listed_start=START, progress=Progress(percent=Decimal(50))),
-        task("7", listed_start=START, listed_finish=START, progress=Progress(Decimal(100))),
+        task(
+            "7",
+            listed_start=START,
+            listed_finish=START,
+            progress=Progress(Decimal(100)),
+        ),
     )
     carried = carry(plan(*tasks, data_date=date(2026, 9, 8)))
     reasons = {loss.where: loss.why for loss in losses_of(carried, LossKind.PROGRESS)}
@@ -522,22 +578,55 @@ def test_what_only_the_side_file_says() -> None:
     assert len(carried.deck.tasks[0].title.encode()) <= 80
 
 
+def test_a_data_date_before_the_first_day_is_a_plan_that_has_not_begun() -> None:
+    """One note says so; the deck is as of the first day."""
+    carried = carry(plan(task("1"), data_date=date(2026, 8, 1)))
+    assert carried.deck.as_of is None and carried.side.data_date is None
+    assert carried.losses == () and carried.notes == (
+        "the data date 2026-08-01 is before the first day 2026-09-01: the plan has not begun, and"
+        " is as of its first day",
+    )
+    begun = task("1", progress=Progress(actual_start=START))
+    left_out = carry(plan(begun, data_date=date(2026, 8, 1)), CarryOptions(progress=False))
+    assert left_out.deck.statuses == () and left_out.deck.as_of is None
+
+
 def test_plans_that_no_deck_can_be_are_one_line() -> None:
     """The line says what is too much or missing."""
     with pytest.raises(InputError, match="there is no task"):
         carry(plan())
     with pytest.raises(InputError, match="first day 1850-01-01 is not in the years 1900 to 2198"):
         carry(plan(task("1"), start=date(1850, 1, 1)))
-    with pytest.raises(InputError, match="data date 2026-08-01 is before the first day 2026-09-01"):
-        carry(plan(task("1"), data_date=date(2026, 8, 1)))
+    begun = task("1", progress=Progress(actual_start=START))
+    with pytest.raises(InputError, match="2026-08-01 is before the first day 2026-09-01, and row"):
+        carry(plan(begun, data_date=date(2026, 8, 1)))
     with pytest.raises(InputError, match="row 1: a second task has the id '1'"):
         carry(plan(task("1"), task("1")))
-    many = [task(str(number)) for number in range(2500)]
-    lags = [Link(str(number), str(number + 1), lag=Lag(DAY)) for number in range(2000)]
-    with pytest.raises(
-        InputError, match="needs 4500 TASK cards, and a deck has at most 4000 .2500"
-    ):
-        carry(plan(*many, links=tuple(lags)))
     rich = [task(str(number), cost=Decimal(10**12)) for number in range(2)]
     with pytest.raises(InputError, match="item House.own add up to 2000000000000"):
         carry(plan(*rich))
+
+
+def test_a_part_whose_work_is_just_done_is_finished() -> None:
+    """Eight of ten days are done: so is the part of eight days, and the next one has begun."""
+    first = task("1", 10, progress=Progress(actual_start=START, remaining=2 * DAY))
+    lead = Link("1", "2", lag=Lag(-2 * DAY))
+    running = plan(first, task("2"), links=(lead,), data_date=date(2026, 9, 10), source="mspdi")
+    carried = carry(running)
+    assert carried.side.tasks[0].parts == ("T1", "T1.2")
+    letters = [(card.activity, card.letter) for card in carried.deck.statuses]
+    assert letters == [("T1", "S"), ("T1", "F"), ("T1.2", "S")]
+    more = replace(first, progress=Progress(actual_start=START, remaining=2 * DAY + 60))
+    not_yet = carry(replace(running, outline=(more, *running.outline[1:])), CarryOptions("days"))
+    assert [card.letter for card in not_yet.deck.statuses] == ["S"]
+
+
+def test_words_with_digits_keep_them() -> None:
+    """In a code too long for a card, other words go first, however far back the digit is."""
+    names = {
+        "Rohbauabschnittsplanung1 Nord": "Rohbauabschnitts",
+        "Foundation of turbine T12": "Founda-turbi-T12",
+        "x" * 990 + " 7": "x" * 14 + "-7",
+    }
+    for name, code in names.items():
+        assert shortened(name) == code

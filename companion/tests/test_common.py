@@ -8,11 +8,11 @@ from typing import cast
 
 import pytest
 
-from pert_companion import VERSION
-from pert_companion import __main__ as start
-from pert_companion.cli.common import CommandParser, one_line, run_command
-from pert_companion.errors import InputError, ProgramError, UsageError
-from pert_companion.output import write_whole
+from pert_companion import VERSION, __main__ as start
+from pert_companion.cli.common import CommandParser, run_command
+from pert_companion.model.errors import InputError, ProgramError, UsageError
+from pert_companion.model.lines import one_line
+from pert_companion.model.output import write_whole
 
 SOURCES = Path(__file__).resolve().parent.parent / "src"
 
@@ -30,10 +30,18 @@ def parser() -> CommandParser:
         (InputError("a.csv: bad\nline"), 1, "pert-x: a.csv: bad\\nline"),
         (UsageError("no"), 2, "pert-x: no"),
         (ProgramError("F3 record 1"), 1, "pert-x: F3 record 1"),
-        (FileNotFoundError(2, "No such file", "a.csv"), 1, "pert-x: a.csv: No such file"),
+        (
+            FileNotFoundError(2, "No such file", "a.csv"),
+            1,
+            "pert-x: a.csv: No such file",
+        ),
         (OSError(28, "No space left"), 1, "pert-x: No space left"),
         (OSError("odd"), 1, "pert-x: odd"),
-        (BrokenPipeError(), 1, "pert-x: standard output was closed before all was written"),
+        (
+            BrokenPipeError(),
+            1,
+            "pert-x: standard output was closed before all was written",
+        ),
         (KeyboardInterrupt(), 1, "pert-x: interrupted"),
         (MemoryError(), 1, "pert-x: out of memory"),
         (RecursionError(), 1, "pert-x: the input is nested too deeply"),
@@ -42,7 +50,11 @@ def parser() -> CommandParser:
             2,
             "pert-x: the library openpyxl is missing: apt install python3-openpyxl",
         ),
-        (ModuleNotFoundError(name="other"), 2, "pert-x: the Python module other is missing"),
+        (
+            ModuleNotFoundError(name="other"),
+            2,
+            "pert-x: the Python module other is missing",
+        ),
         (ImportError("half a library"), 1, "pert-x: half a library"),
     ],
 )
@@ -96,7 +108,10 @@ sys.exit(run_command("pert-x", CommandParser("pert-x", "Writes.", ""), write, []
 @pytest.mark.parametrize(
     "target, line",
     [
-        ("| head -n 1 > /dev/null", "pert-x: standard output was closed before all was written\n"),
+        (
+            "| head -n 1 > /dev/null",
+            "pert-x: standard output was closed before all was written\n",
+        ),
         ("> /dev/full", "pert-x: No space left on device\n"),
     ],
 )
@@ -104,7 +119,13 @@ def test_a_closed_pipe_or_full_disk_is_one_line(target: str, line: str) -> None:
     """Output that cannot be written is status 1 and one line, without Python's own message."""
     program = PROGRAM.format(sources=str(SOURCES))
     result = subprocess.run(
-        ["bash", "-c", f'set -o pipefail; "$0" -c "$1" {target}', sys.executable, program],
+        [
+            "bash",
+            "-c",
+            f'set -o pipefail; "$0" -c "$1" {target}',
+            sys.executable,
+            program,
+        ],
         capture_output=True,
         text=True,
         check=False,
@@ -115,8 +136,8 @@ def test_a_closed_pipe_or_full_disk_is_one_line(target: str, line: str) -> None:
 def test_a_command_is_run_by_the_name_of_its_module(
     monkeypatch: pytest.MonkeyPatch, capsys: pytest.CaptureFixture[str]
 ) -> None:
-    """The first word is the module; the others are the command's."""
-    monkeypatch.setattr(sys, "argv", ["pert", "importing", "--version"])
+    """The first word is the command's name if the program has another; the rest is its words."""
+    monkeypatch.setattr(sys, "argv", ["pert", "pert-import", "--version"])
     with pytest.raises(SystemExit) as stop:
         start.main()
     assert stop.value.code == 0
@@ -130,7 +151,7 @@ def test_a_library_that_is_missing_is_one_line(
     for module in ("pert_companion.cli.exporting", "pert_companion.writers.ics"):
         monkeypatch.delitem(sys.modules, module, raising=False)
     monkeypatch.setitem(cast(dict[str, object], sys.modules), "icalendar", None)
-    monkeypatch.setattr(sys, "argv", ["pert", "exporting", "deck.csv"])
+    monkeypatch.setattr(sys, "argv", ["pert", "pert-export", "deck.csv"])
     with pytest.raises(SystemExit) as stop:
         start.main()
     assert stop.value.code == 2

@@ -1,26 +1,33 @@
 """States of a project compared, against what was worked out by hand from their lists."""
 
+import re
 from collections.abc import Callable
 from dataclasses import replace
 from datetime import date
-from functools import cache
 from decimal import Decimal
+from functools import cache
 from pathlib import Path
 
 import pytest
-from running import CASES, HOUSE, MONTHS, PROGRAMS, imported, plan_of, run_words
 
-from pert_companion.cards import ChargeCard, ToGoCard
-from pert_companion.changes import ChangeKind, has_only_totals
+from pert_companion.analysis.changes import ChangeKind, has_only_totals
+from pert_companion.analysis.compare import (
+    Comparison,
+    CurveSide,
+    History,
+    compare,
+    curve_side,
+)
 from pert_companion.cli import compare as command
-from pert_companion.compare import Comparison, CurveSide, History, compare, curve_side
-from pert_companion.deck import Deck
-from pert_companion.errors import InputError, UsageError
-from pert_companion.matching import match_tasks
-from pert_companion.opening import OpenPlan, open_plan
-from pert_companion.remaining import Said
-from pert_companion.states import open_states
+from pert_companion.model.cards import ChargeCard, ToGoCard
+from pert_companion.model.deck import Deck
+from pert_companion.model.errors import InputError, UsageError
+from pert_companion.state.folder import open_states
+from pert_companion.state.matching import match_tasks
+from pert_companion.state.project import ProjectState
+from pert_companion.state.remaining import Said
 from pert_companion.writers import compare_csv, compare_text
+from running import CASES, HOUSE, MONTHS, PROGRAMS, imported, opened, plan_of, run_words
 
 PLAN = """PROJECT,P,s,e,2026-03-02,1,,Plan,2
 ASOF,2026-03-12
@@ -45,9 +52,9 @@ END
 """
 
 
-def compared(old: OpenPlan, new: OpenPlan) -> Comparison:
+def compared(old: ProjectState, new: ProjectState) -> Comparison:
     """Returns what changed from one state to the next."""
-    return compare(PROGRAMS, [old, new]).comparisons[0]
+    return compare([old, new]).comparisons[0]
 
 
 def edited(*edits: tuple[str, str]) -> Comparison:
@@ -56,7 +63,7 @@ def edited(*edits: tuple[str, str]) -> Comparison:
     for old, new in edits:
         assert old in text, old
         text = text.replace(old, new)
-    return compared(plan_of(PLAN, "old.csv"), plan_of(text, "new.csv"))
+    return compared(plan_of(PLAN), plan_of(text))
 
 
 def lines(comparison: Comparison) -> list[tuple[str, str, str, str]]:
@@ -83,7 +90,10 @@ CHANGES = {
         ("TASK,DIG,A,10,10,10,10,6", "TASK,DIG,A,12,12,12,12,6"),
         [("normal duration", "DIG", "10", "12")],
     ),
-    "crash": (("10,10,6,1000", "10,10,7,1000"), [("shortest duration", "DIG", "6", "7")]),
+    "crash": (
+        ("10,10,6,1000", "10,10,7,1000"),
+        [("shortest duration", "DIG", "6", "7")],
+    ),
     "estimates": (
         ("TASK,DIG,A,10,10,10,10", "TASK,DIG,A,8,10,12,10"),
         [("estimates", "DIG", "", "8 10 12")],
@@ -93,7 +103,10 @@ CHANGES = {
         ("ACCT,A", "PIECE,DIG,2,80\nACCT,A"),
         [("cost of a day less", "DIG", "50", "50, then 80 for 2")],
     ),
-    "links": (("AFTER,POUR,DIG", "AFTER,POUR,WALL"), [("links", "POUR", "DIG", "WALL")]),
+    "links": (
+        ("AFTER,POUR,DIG", "AFTER,POUR,WALL"),
+        [("links", "POUR", "DIG", "WALL")],
+    ),
     "name": ((",Pour\n", ",Cast\n"), [("name", "POUR", "Pour", "Cast")]),
     "resources": (("CREW,15", "CREW,16"), [("resources", "DIG", "Crew 15", "Crew 16")]),
     "budget": (("ACCT,S,S,300", "ACCT,S,S,350"), [("budget", "S", "300", "350")]),
@@ -132,7 +145,11 @@ def test_new_and_gone_tasks() -> None:
 def test_matching_by_source_id_then_code() -> None:
     """A task whose code became that of another one is still itself."""
     tasks = plan_of(PLAN).side.tasks
-    new = (replace(tasks[0], uid="x1"), replace(tasks[1], code="DIG2"), replace(tasks[2], uid="x2"))
+    new = (
+        replace(tasks[0], uid="x1"),
+        replace(tasks[1], code="DIG2"),
+        replace(tasks[2], uid="x2"),
+    )
     found = match_tasks(tasks, new)
     assert [(old.code, new.code) for old, new in found.pairs] == [
         ("DIG", "DIG"),
@@ -176,7 +193,10 @@ STATUSES: dict[str, tuple[tuple[str, str], list[tuple[str, str, str, str]]]] = {
         ("TOGO", "CHARGE,S,2026-03-07,5\nTOGO"),
         [("charges", "S", "none", "5")],
     ),
-    "charge gone": (("CHARGE,A,2026-03-10,200\n", ""), [("charges", "A", "200", "none")]),
+    "charge gone": (
+        ("CHARGE,A,2026-03-10,200\n", ""),
+        [("charges", "A", "200", "none")],
+    ),
     "to go changed": (
         ("TOGO,A,2026-03-10,900", "TOGO,A,2026-03-10,950"),
         [("amount to go", "A", "900", "950")],
@@ -241,7 +261,10 @@ def test_the_critical_path_and_slack() -> None:
     assert used.is_used_up
     assert found.end_moved_minutes == 3 * 480
     gone = edited(
-        ("TASK,POUR,A,4,4,4,4,3,400,20,Pour\nTASK", "TASK,CAST,A,9,9,9,9,3,400,20,Cast\nTASK"),
+        (
+            "TASK,POUR,A,4,4,4,4,3,400,20,Pour\nTASK",
+            "TASK,CAST,A,9,9,9,9,3,400,20,Cast\nTASK",
+        ),
         ("AFTER,POUR,DIG", "AFTER,CAST,DIG"),
     )
     assert [(each.code, each.why) for each in gone.left] == [("POUR", "gone")]
@@ -269,20 +292,20 @@ def test_curves_side_by_side() -> None:
 def test_the_day_that_is_asked_for() -> None:
     """The directed end of the deck, or another day."""
     plan = plan_of(PLAN.replace("2026-03-02,1,,", "2026-03-02,1,17,"))
-    (state,) = compare(PROGRAMS, [plan]).states
+    (state,) = compare([plan]).states
     assert state.directed == date(2026, 3, 18)
     assert state.recovery_cost == 20
     assert state.earliest_end == date(2026, 3, 17)
-    (other,) = compare(PROGRAMS, [plan], by=date(2026, 3, 16)).states
+    (other,) = compare([plan], by=date(2026, 3, 16)).states
     assert other.recovery_cost is None
-    (none,) = compare(PROGRAMS, [plan_of(PLAN)]).states
+    (none,) = compare([plan_of(PLAN)]).states
     assert none.directed is None and none.recovery_cost is None
 
 
 @cache
 def months() -> History:
     """Returns the history of examples/months, with what ending by 10 June costs."""
-    return compare(PROGRAMS, open_states([MONTHS]), by=date(2026, 6, 10))
+    return compare(open_states([MONTHS], PROGRAMS), by=date(2026, 6, 10))
 
 
 def test_three_months_by_hand() -> None:
@@ -317,23 +340,24 @@ def test_what_may_restates() -> None:
 
 
 def test_states_in_cents() -> None:
-    """All amounts are in the smallest unit of any state."""
+    """All amounts are in the smallest unit of any state, and texts have them in the currency."""
     old, new = plan_of(PLAN), plan_of(PLAN)
     new = replace(new, side=replace(new.side, money_scale=100, currency="EUR"))
-    history = compare(PROGRAMS, [old, new])
+    history = compare([old, new])
     assert history.money_scale == 100
     assert history.states[0].budget == 230_000 and history.states[1].budget == 2300
     assert history.states[0].curve[0].cost == 200_000
     costs = [c for c in history.comparisons[0].changes if c.kind is ChangeKind.COST]
-    assert (costs[0].old, costs[0].new) == ("100000", "1000")
-    assert "amounts in 1/100 EUR" in compare_text.to_text(history)
+    assert (costs[0].old, costs[0].new) == ("1000.00", "10.00")
+    text = compare_text.to_text(history)
+    assert "amounts in EUR" in text and " 2300.00 " in text and "230000" not in text
 
 
 def test_a_baseline_and_a_list_of_what_is_left() -> None:
     """The baseline is another deck; the list is about the last state."""
-    house = open_plan(HOUSE)
-    early = open_plan(CASES / "early.csv")
-    history = compare(PROGRAMS, [house], early, {"FOUND": Said(5)})
+    house = opened(HOUSE)
+    early = opened(CASES / "early.csv")
+    history = compare([house.with_said({"FOUND": Said(5)})], early)
     assert history.baseline.name == "early.csv"
     assert history.states[0].end == date(2024, 4, 15)
     assert history.states[0].earned is not None and history.baseline.earned is None
@@ -342,7 +366,7 @@ def test_a_baseline_and_a_list_of_what_is_left() -> None:
 def test_states_out_of_order() -> None:
     """The earlier one is named first."""
     with pytest.raises(UsageError, match="name the earlier state first"):
-        compare(PROGRAMS, [open_plan(HOUSE), open_plan(CASES / "early.csv")])
+        compare([opened(HOUSE), opened(CASES / "early.csv")])
 
 
 def test_folders(tmp_path: Path) -> None:
@@ -351,11 +375,14 @@ def test_folders(tmp_path: Path) -> None:
         source = HOUSE if name == "house" else CASES / "early.csv"
         (tmp_path / f"a-{name}.csv").write_bytes(source.read_bytes())
     (tmp_path / "left.csv").write_text("activity,left\n")
-    assert [plan.path.name for plan in open_states([tmp_path])] == ["a-early.csv", "a-house.csv"]
+    assert [plan.path.name for plan in open_states([tmp_path], PROGRAMS)] == [
+        "a-early.csv",
+        "a-house.csv",
+    ]
     empty = tmp_path / "empty"
     empty.mkdir()
     with pytest.raises(InputError, match="no deck in this folder"):
-        open_states([empty])
+        open_states([empty], PROGRAMS)
 
 
 def test_text_and_csv_say_the_same() -> None:
@@ -422,7 +449,7 @@ def test_command_refusals(run: Run, tmp_path: Path) -> None:
         "pert-compare: one state alone: name two, a folder, or --baseline\n",
     )
     status, _, errors = run(HOUSE, HOUSE, "--by", "10.6.2026")
-    assert status == 2 and "is no day such as" in errors
+    assert status == 2 and "is no date such as" in errors
     status, _, errors = run(tmp_path)
     assert status == 1 and "no deck in this folder" in errors
     status, _, errors = run(HOUSE, tmp_path / "none.csv")
@@ -430,13 +457,13 @@ def test_command_refusals(run: Run, tmp_path: Path) -> None:
 
 
 def test_command_names_side_files_that_do_not_fit(run: Run, tmp_path: Path) -> None:
-    """They are not used, and that is said."""
+    """The first one that does not fit is named."""
     imported(tmp_path, "late.csv", "--as-of", "2026-10-01")
     deck = tmp_path / "late.csv"
-    deck.write_bytes(deck.read_bytes().replace(b",Install\n", b",Fit\n"))
+    deck.write_bytes(re.sub(rb"\nAFTER,([^,]*),.*\n", rb"\n", deck.read_bytes(), count=1))
     status, _, errors = run(deck, deck)
-    assert status == 0
-    assert errors.count("it is not used") == 2
+    assert status == 1
+    assert errors.count("it does not fit late.csv: the links of TASK ") == 1
 
 
 def test_a_deck_that_only_looks_changed() -> None:

@@ -7,8 +7,17 @@ from fractions import Fraction
 import pytest
 from cpm import CircleError, dates_of
 
-from pert_companion.calendar import Calendar, free_days
-from pert_companion.plan import Constraint, ConstraintKind, Group, Lag, Link, LinkKind, Plan, Task
+from pert_companion.model.calendar import Calendar, free_days
+from pert_companion.model.plan import (
+    Constraint,
+    ConstraintKind,
+    Group,
+    Lag,
+    Link,
+    LinkKind,
+    Plan,
+    Task,
+)
 
 DAY = 480
 START = date(2026, 9, 1)
@@ -63,7 +72,8 @@ def test_dates_are_of_the_calendar() -> None:
     first, second = plan_of({"A": 4, "B": 2}).tasks()
     snet = replace(first, constraint=Constraint(ConstraintKind.START_NO_EARLIER, date(2026, 9, 5)))
     fnet = replace(
-        second, constraint=Constraint(ConstraintKind.FINISH_NO_EARLIER, date(2026, 9, 7))
+        second,
+        constraint=Constraint(ConstraintKind.FINISH_NO_EARLIER, date(2026, 9, 7)),
     )
     both = replace(plan_of({}), outline=(snet, fnet))
     assert counts(both) == {"A": (4, 8, 4, 8), "B": (3, 5, 6, 8)}

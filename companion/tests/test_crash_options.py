@@ -5,8 +5,8 @@ from pathlib import Path
 import pytest
 from openpyxl import load_workbook
 
-from pert_companion import deck as decks
-from pert_companion.crash_sheet import HEADINGS
+from pert_companion.importing.crash_sheet import HEADINGS
+from pert_companion.model import deck as decks
 from test_importing import pert_import
 
 LIST = """\
@@ -31,6 +31,21 @@ def crashes(deck: Path) -> dict[str, tuple[int, int, int]]:
     return {card.title: (card.normal, card.crash, card.slope) for card in cards}
 
 
+def test_a_sheet_asks_for_nothing_to_be_accepted(
+    tmp_path: Path, capfdbinary: pytest.CaptureFixture[bytes]
+) -> None:
+    """What a deck cannot say is no matter as long as no deck is written."""
+    plan = written_list(tmp_path)
+    plan.write_text(LIST.replace("4 days", "4.5 days"), encoding="utf-8")
+    words = [plan, "--unit", "days", "--crash-sheet", tmp_path / "ask.xlsx"]
+    assert pert_import(capfdbinary, *words).status == 0
+    deck = tmp_path / "wing.csv"
+    assert pert_import(capfdbinary, *words, "-o", deck, "--overwrite").status == 1
+    done = pert_import(capfdbinary, *words, "-o", deck, "--overwrite", "--accept", "all")
+    assert done.status == 0 and deck.exists()
+    assert done.has("rounded up to 5 days [fraction]")
+
+
 def test_sheet_there_and_back(tmp_path: Path, capfdbinary: pytest.CaptureFixture[bytes]) -> None:
     """The sheet lists the two critical tasks; what is filled in is in the deck."""
     plan = written_list(tmp_path)
@@ -41,7 +56,10 @@ def test_sheet_there_and_back(tmp_path: Path, capfdbinary: pytest.CaptureFixture
     book = load_workbook(sheet)
     rows = list(book["Tasks"].iter_rows(min_row=2))
     bring = HEADINGS.index("Brings at most (days)")
-    assert [(row[3].value, row[bring].value) for row in rows] == [("Dig", 4), ("Walls", 4)]
+    assert [(row[3].value, row[bring].value) for row in rows] == [
+        ("Dig", 4),
+        ("Walls", 4),
+    ]
     rows[0][HEADINGS.index("Shortest duration (days)")].value = 3
     rows[0][HEADINGS.index("Cost per day")].value = 40
     rows[1][HEADINGS.index("Shortest duration (days)")].value = 8

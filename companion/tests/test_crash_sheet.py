@@ -11,18 +11,17 @@ import pytest
 from hypothesis import given, settings
 from openpyxl import Workbook, load_workbook
 
-from pert_companion.calendar import Calendar
-from pert_companion.crash_sheet import (
+from pert_companion.analysis.schedule import Schedule, ScheduledTask
+from pert_companion.importing.crash_sheet import (
     HEADINGS,
     candidates,
     crash_sheet,
-    read_crash_sheet,
     with_crash,
-    write_crash_sheet,
 )
-from pert_companion.errors import InputError
-from pert_companion.losses import LossKind
-from pert_companion.plan import (
+from pert_companion.model.calendar import Calendar
+from pert_companion.model.errors import InputError
+from pert_companion.model.losses import LossKind
+from pert_companion.model.plan import (
     Crash,
     Group,
     Lag,
@@ -32,8 +31,7 @@ from pert_companion.plan import (
     Progress,
     Task,
 )
-from pert_companion.readers.base import Source
-from pert_companion.schedule import Schedule, ScheduledTask
+from pert_companion.model.source import Source
 from plans import Feature, plans
 
 DAY = 480
@@ -80,7 +78,7 @@ def schedule_of(plan: Plan, floats: dict[str, int], length: int) -> Schedule:
         start=START,
         end=START,
         cost=0,
-        next_unit_cost=None,
+        next_step=None,
         tasks=tasks,
     )
 
@@ -139,7 +137,11 @@ def test_finished_tasks_and_milestones_are_left_out() -> None:
 
 def test_start_to_start_links_do_not_lead_through_a_task() -> None:
     """A task that starts with another one keeps its dates when that one is shortened."""
-    links = [Link("1", "2", LinkKind.START_START, Lag(0)), Link("1", "3"), Link("2", "3")]
+    links = [
+        Link("1", "2", LinkKind.START_START, Lag(0)),
+        Link("1", "3"),
+        Link("2", "3"),
+    ]
     plan = plan_of([task("1", 6), task("2", 5), task("3", 2)], links)
     schedule = schedule_of(plan, {"1": 0, "2": 1, "3": 0}, 8)
     assert candidates(plan, schedule, 0)[0].gain_minutes == DAY
@@ -267,12 +269,13 @@ def test_csv_of_the_sheet() -> None:
     assert [loss.where for loss in losses] == ["row 3", "row 4"]
 
 
-def test_files(tmp_path: Path) -> None:
-    """The file is written, and read from its path."""
+def test_a_sheet_with_nothing_filled_in() -> None:
+    """Its empty cells shorten nothing."""
     plan, schedule = two_walks()
-    path = tmp_path / "crash.xlsx"
-    assert write_crash_sheet(plan, schedule, path) == 3
-    assert read_crash_sheet(path, plan) == (plan, ())
+    found = candidates(plan, schedule)
+    assert len(found) == 3
+    source = Source(Path("crash.xlsx"), crash_sheet(plan, found))
+    assert with_crash(source, plan) == (plan, ())
 
 
 def test_other_files_are_refused() -> None:

@@ -7,12 +7,12 @@ import pytest
 from hypothesis import given, settings
 from hypothesis import strategies as st
 
-from pert_companion.calendar import Calendar, free_days
-from pert_companion.cards import ChargeCard, ProjectCard, StatusCard, ToGoCard
-from pert_companion.days import Counts, counted
-from pert_companion.deck import Deck
-from pert_companion.errors import InputError
-from pert_companion.sidefile import SideFile
+from pert_companion.model.calendar import Calendar, free_days
+from pert_companion.model.cards import ChargeCard, ProjectCard, StatusCard, ToGoCard
+from pert_companion.model.days import Counts, counted
+from pert_companion.model.deck import Deck
+from pert_companion.model.errors import InputError
+from pert_companion.model.sidefile import SideFile
 
 START = date(2026, 9, 1)
 """A Tuesday."""
@@ -53,7 +53,10 @@ def test_a_friday_evening_is_done_on_the_saturday() -> None:
     given_deck = deck(
         as_of=saturday,
         statuses=(StatusCard("A", "S", START), StatusCard("A", "F", saturday)),
-        charges=(ChargeCard("X", date(2026, 9, 6), 5), ChargeCard("X", date(2026, 8, 30), 5)),
+        charges=(
+            ChargeCard("X", date(2026, 9, 6), 5),
+            ChargeCard("X", date(2026, 8, 30), 5),
+        ),
         to_go=(
             ToGoCard("X", saturday, 1),
             ToGoCard("X", date(2026, 9, 7), 2),

@@ -4,16 +4,16 @@ from datetime import date
 from pathlib import Path
 
 import pytest
+from openpyxl import Workbook
 
-from pert_companion import deck as decks
-from pert_companion import sidefile
-from pert_companion.calendar import CalendarException
-from pert_companion.calendar_files import calendar_of, holidays_of
+from running import opened
 from pert_companion.cli import days, importing
 from pert_companion.cli.common import run_command
-from pert_companion.errors import InputError, UsageError
-from pert_companion.opening import open_plan
-from pert_companion.programs import Programs
+from pert_companion.model import deck as decks, fitting
+from pert_companion.model.calendar import CalendarException
+from pert_companion.model.errors import InputError, UsageError
+from pert_companion.programs.client import Programs
+from pert_companion.readers.calendar_files import calendar_of, holidays_of
 from test_importing import CASES, Outcome
 
 PROGRAMS = Programs()
@@ -72,7 +72,7 @@ def test_a_deck_on_standard_input(
     monkeypatch.setattr("sys.stdin", house.open())
     assert pert_days(capfdbinary, "-").output == expected
     assert pert_days(capfdbinary, "-", "--back").status == 2
-    monkeypatch.setattr("pert_companion.cli.days.MOST_BYTES", 100)
+    monkeypatch.setattr("pert_companion.model.deck.MOST_BYTES", 100)
     monkeypatch.setattr("sys.stdin", house.open())
     done = pert_days(capfdbinary, "-")
     assert done.status == 1 and done.has("standard input: more than 100 bytes")
@@ -157,12 +157,12 @@ def test_another_as_of_day(house: Path, capfdbinary: pytest.CaptureFixture[bytes
     later = house.with_name("later.csv")
     done = pert_days(capfdbinary, deck, "--as-of", "2026-09-08", "-o", later)
     assert done.status == 0
-    plan = open_plan(later)
+    plan = opened(later)
     assert plan.has_side_file and plan.side.data_date == date(2026, 9, 7)
     assert plan.side.deck_name == "later.csv" and plan.deck.as_of == date(2026, 9, 8)
     assert plan.side.tasks[0].actual_finish == date(2026, 9, 4)
     done = pert_days(capfdbinary, deck, "--as-of", "2026-09-03", "-o", later)
-    survey = open_plan(later).side.tasks[0]
+    survey = opened(later).side.tasks[0]
     assert (survey.actual_start, survey.actual_finish) == (date(2026, 9, 1), None)
     assert (survey.percent, survey.remaining) == (None, None)
     done = pert_days(capfdbinary, deck, "--weekdays", "mon-sat")
@@ -179,8 +179,8 @@ def test_a_side_file_for_a_deck_written_by_hand(
     holidays.write_text("\ufeff# closed\n2026-09-03..2026-09-04 Fair\r\n2026-09-07; Day off\n\n")
     done = pert_days(capfdbinary, house, "--calendar", "--holidays", holidays)
     assert done.status == 0 and done.has("house.json: Standard, 2 exceptions, 2 tasks")
-    side, why = sidefile.find(house, house.read_bytes())
-    assert side is not None, why
+    side = fitting.find(house, decks.read_deck(house), house.read_bytes())
+    assert side is not None
     assert side.calendar.exceptions == (
         CalendarException(date(2026, 9, 3), date(2026, 9, 4), "Fair"),
         CalendarException(date(2026, 9, 7), date(2026, 9, 7), "Day off"),
@@ -191,9 +191,12 @@ def test_a_side_file_for_a_deck_written_by_hand(
     assert done.status == 0 and done.has("sun-thu, 0 exceptions")
     assert pert_days(capfdbinary, house, "--count", "2026-09-02").output == b"8\n"
     assert pert_days(capfdbinary, house, "--count", "2026-08-02").status == 1
-    house.write_text(HOUSE.replace("Clear", "Site"))
+    house.write_text(HOUSE.replace("3,4,5,4,3", "3,4,6,4,3"))
     done = pert_days(capfdbinary, house, "--count", "2026-09-02")
-    assert done.output == b"1\n" and done.has("it is not used")
+    assert done.status == 1 and done.has("does not fit house.csv: ACT SITE was changed; make it")
+    assert done.has("(pert-days house.csv --calendar)")
+    assert pert_days(capfdbinary, house, "--calendar").status == 0
+    assert pert_days(capfdbinary, house, "--count", "2026-09-02").output == b"1\n"
 
 
 def test_decks_in_weeks(house: Path, capfdbinary: pytest.CaptureFixture[bytes]) -> None:
@@ -220,13 +223,66 @@ def test_weekdays_and_holidays_are_read_strictly(tmp_path: Path) -> None:
         with pytest.raises(UsageError, match="is no weekday such as mon"):
             calendar_of(word, None)
     path = tmp_path / "days.txt"
-    for line in ("2026-02-30", "soon", "2026-09-04..2026-09-03", "2026-09-04x", "2026-9-4"):
+    for line in ("2026-02-30", "2026-09-04..2026-09-03", "2026-09-04x", "31/31/2026"):
         path.write_text(f"\n{line}\n")
         with pytest.raises(InputError, match="days.txt: line 2: "):
             holidays_of(path)
-    path.write_bytes(b"\xff")
-    with pytest.raises(InputError, match="not in UTF-8 at byte 1"):
+    path.write_text("2026-12-25 Christmas\nand so on\n")
+    with pytest.raises(InputError, match="line 2: 'and so on': there is no date in this row"):
+        holidays_of(path)
+    for data in (b"soon", b"\xff", b"Date;Name\n"):
+        path.write_bytes(data)
+        with pytest.raises(InputError, match="there is no date such as 2024-12-25"):
+            holidays_of(path)
+    path.write_text("13/04/2026\n04/13/2026\n")
+    with pytest.raises(InputError, match="the day is first and in 04/13/2026 the month"):
         holidays_of(path)
     path.write_bytes(b"#" * (1024 * 1024 + 1))
     with pytest.raises(InputError, match="no list of holidays"):
         holidays_of(path)
+
+
+CHRISTMAS = CalendarException(date(2026, 12, 24), date(2026, 12, 31), "Christmas")
+LABOUR_DAY = CalendarException(date(2026, 5, 1), date(2026, 5, 1), "Labour Day")
+FREE_DAYS = (LABOUR_DAY, CHRISTMAS)
+
+
+@pytest.mark.parametrize(
+    "text",
+    (
+        "2026-05-01 Labour Day\n2026-12-24..2026-12-31 Christmas # the office is closed\n",
+        "Date,Name\n2026-05-01,Labour Day\n2026-12-24 - 2026-12-31,Christmas\n",
+        "Feiertag;Von;Bis\r\nLabour Day;01.05.2026;01.05.2026\r\nChristmas;24.12.26;31.12.26\r\n",
+        "Free days of the office\n\n01.05.2026\tLabour Day\n24.12.2026 – 31.12.2026\tChristmas\n",
+        "5/1/2026 Labour Day\n12/24/2026 to 12/31/2026 Christmas\n",
+        "1/5/2026 Labour Day\n24/12/2026 bis 31/12/2026 Christmas\n",
+        "Fri 1 May 2026, Labour Day\nDec 24, 2026 - Dec 31, 2026; Christmas\n",
+    ),
+)
+def test_holidays_as_people_have_them(tmp_path: Path, text: str) -> None:
+    """Headings, names before or after, local dates and ranges, with any separator."""
+    path = tmp_path / "free.txt"
+    for encoding in ("utf-8-sig", "cp1252"):
+        path.write_bytes(text.encode(encoding))
+        assert holidays_of(path) == FREE_DAYS
+
+
+def test_holidays_in_a_workbook(tmp_path: Path) -> None:
+    """The sheet of holidays is read, or the first one if none is called so."""
+    book = Workbook()
+    other = book.active
+    sheet = book.create_sheet("Feiertage")
+    for row in (
+        ("Name", "From", "To"),
+        ("Labour Day", date(2026, 5, 1), None),
+        ("Christmas", date(2026, 12, 24), date(2026, 12, 31)),
+    ):
+        sheet.append(row)
+    other.append(("nothing", "here"))
+    path = tmp_path / "free.xlsx"
+    book.save(path)
+    assert holidays_of(path) == FREE_DAYS
+    book.remove(other)
+    sheet.title = "2026"
+    book.save(path)
+    assert holidays_of(path) == FREE_DAYS

@@ -7,17 +7,16 @@ from pathlib import Path
 
 from hypothesis import given, settings
 from hypothesis import strategies as st
-from running import CASES, HOUSE, MONTHS, PROGRAMS, imported, plan_of
+from running import CASES, HOUSE, MONTHS, imported, opened, plan_of
 
-from pert_companion.earned_value import (
+from pert_companion.analysis.earned_value import (
     EarnedValue,
     Figures,
-    Planned,
     done_shares,
-    earned_schedule,
     earned_value,
 )
-from pert_companion.opening import OpenPlan, open_plan
+from pert_companion.analysis.measuring import Piece, time_of_value
+from pert_companion.state.project import ProjectState
 from pert_companion.writers import earned_text
 
 MILESTONES = """PROJECT,P,s,e,2026-03-02,1,,Plan,2
@@ -38,9 +37,9 @@ END
 """
 
 
-def own(plan: OpenPlan) -> EarnedValue:
+def own(plan: ProjectState) -> EarnedValue:
     """Returns the earned value of a plan against itself."""
-    return earned_value(PROGRAMS, plan, plan)
+    return earned_value(plan, plan)
 
 
 def amounts(earned: EarnedValue) -> dict[str, tuple[int, int, int, int]]:
@@ -54,7 +53,7 @@ def amounts(earned: EarnedValue) -> dict[str, tuple[int, int, int, int]]:
 
 def test_the_house_by_hand() -> None:
     """14 days have passed: SITE done, FOUND 6 of 7, ORDER 13 of 25; WALLS should have 3 of 10."""
-    earned = own(open_plan(HOUSE))
+    earned = own(opened(HOUSE))
     found = amounts(earned)
     assert found["1.1.1"] == (400, 400, 400, 420)
     assert found["1.1.2"] == (900, 900, 771, 600)  # 900 x 6 / 7
@@ -78,7 +77,7 @@ def test_the_house_by_hand() -> None:
 
 def test_dummies_without_status_hold_no_package_back() -> None:
     """Roof has a dummy; all else of it is finished, so it has earned its budget."""
-    plan = open_plan(CASES / "done.csv")
+    plan = opened(CASES / "done.csv")
     statuses = tuple(card for card in plan.deck.statuses if card.activity != "D1")
     earned = own(replace(plan, deck=replace(plan.deck, statuses=statuses)))
     assert amounts(earned)["1.2.2"] == (1500, 1500, 1500, 0)
@@ -87,7 +86,7 @@ def test_dummies_without_status_hold_no_package_back() -> None:
 
 def test_time_stops_when_the_work_is_finished() -> None:
     """The house of 35 days was done after 42; later data dates do not make it later."""
-    earned = own(open_plan(CASES / "done.csv"))
+    earned = own(opened(CASES / "done.csv"))
     assert earned.actual_time == 42
     assert earned.earned_schedule == 35
     assert earned.total.ev == earned.total.bac == 12600
@@ -97,7 +96,7 @@ def test_time_stops_when_the_work_is_finished() -> None:
 
 def test_a_house_that_is_ahead() -> None:
     """FOUND was done in 5 days: on day 9 900 are earned where 5 / 7 of them were planned."""
-    earned = own(open_plan(CASES / "early.csv"))
+    earned = own(opened(CASES / "early.csv"))
     assert amounts(earned)["1.1.2"] == (900, 643, 900, 0)
     assert earned.total.pv == 400 + 643 + 1800
     assert earned.total.ev == 400 + 900 + 1600
@@ -106,7 +105,7 @@ def test_a_house_that_is_ahead() -> None:
 
 def test_a_plan_of_totals() -> None:
     """Procure has a day left of 40 and Build 21 of 60; on day 67 Build should have 47."""
-    earned = own(open_plan(CASES / "sh.csv"))
+    earned = own(opened(CASES / "sh.csv"))
     total = earned.total
     assert total.pv == 20000 + 60000 + 70500
     assert total.ev == 20000 + 58500 + 58500
@@ -138,7 +137,7 @@ def test_new_and_gone_tasks_are_named() -> None:
     """Work without a baseline earns nothing; what is in the baseline alone is in no figure."""
     old = plan_of(MILESTONES)
     text = MILESTONES.replace("TASK,LAST,B,0,0,0,0,0,70", "TASK,MORE,B,0,0,0,0,0,70")
-    earned = earned_value(PROGRAMS, old, plan_of(text.replace("AFTER,LAST", "AFTER,MORE")))
+    earned = earned_value(plan_of(text.replace("AFTER,LAST", "AFTER,MORE")), old)
     assert earned.total.bac == 1500
     assert any(note.startswith("MORE: not in the baseline") for note in earned.notes)
     assert any(note.startswith("LAST: in the baseline alone") for note in earned.notes)
@@ -149,31 +148,39 @@ def test_units_of_money_of_the_baseline_do_not_matter() -> None:
     old = plan_of(MILESTONES)
     new = plan_of(MILESTONES)
     new = replace(new, side=replace(new.side, money_scale=100))
-    assert earned_value(PROGRAMS, old, new).total.bac == 157_000
+    assert earned_value(new, old).total.bac == 157_000
 
 
 def test_ratios_of_nothing_are_none() -> None:
     """Nothing is divided by 0."""
     nothing = Figures(0, 0, 0, 0)
-    found = (nothing.cpi, nothing.spi, nothing.eac_by_cpi, nothing.eac_by_both, nothing.tcpi)
+    found = (
+        nothing.cpi,
+        nothing.spi,
+        nothing.eac_by_cpi,
+        nothing.eac_by_both,
+        nothing.tcpi,
+    )
     assert found == (None,) * 5
     assert Figures(10, 5, 0, 5).eac_by_both is None
 
 
 def test_three_months_by_hand() -> None:
     """What stands in docs/cost-engineer.md, worked out from the lists."""
-    baseline = open_plan(MONTHS / "plan.csv")
-    march = earned_value(PROGRAMS, baseline, open_plan(MONTHS / "march.csv")).total
+    baseline = opened(MONTHS / "plan.csv")
+    march = earned_value(opened(MONTHS / "march.csv"), baseline).total
     assert march.pv == 2000 + 18000 + 36000 * 2 // 20 + 30000 * 17 // 40
     assert march.ev == 2000 + 18000 * 80 // 100 + 30000 * 40 // 100
     assert march.ac == 2300 + 15500 + 10000
-    april = earned_value(PROGRAMS, baseline, open_plan(MONTHS / "april.csv")).total
+    april = earned_value(opened(MONTHS / "april.csv"), baseline).total
     assert april.ev == 2000 + 18000 + 36000 * 70 // 100 + 30000 * 75 // 100
     assert april.ac == 2300 + 19400 + 27000 + 20000
 
 
 PLANNED = st.lists(
-    st.tuples(st.integers(0, 100), st.integers(0, 12), st.integers(0, 6)), min_size=1, max_size=6
+    st.tuples(st.integers(0, 100), st.integers(0, 12), st.integers(0, 6)),
+    min_size=1,
+    max_size=6,
 )
 
 
@@ -183,10 +190,10 @@ def test_the_earned_schedule_is_when_that_much_was_planned(
     drawn: list[tuple[int, int, int]], percent: int
 ) -> None:
     """At that time the planned value is reached, and no time before reaches it."""
-    tasks = [Planned("W", Fraction(cost), at, at + days) for cost, at, days in drawn]
-    whole = sum((task.cost for task in tasks), Fraction(0))
+    tasks = [Piece(Fraction(c), Fraction(at), Fraction(at + days)) for c, at, days in drawn]
+    whole = sum((task.amount for task in tasks), Fraction(0))
     earned = whole * percent / 100
-    time = earned_schedule(tasks, earned)
+    time = time_of_value(tasks, earned)
 
     def value(at: Fraction) -> Fraction:
         return sum((task.value_at(at) for task in tasks), Fraction(0))
@@ -199,16 +206,21 @@ def test_the_earned_schedule_is_when_that_much_was_planned(
 
 def test_texts() -> None:
     """Each ratio is next to the two numbers that it divides."""
-    earned = own(open_plan(HOUSE))
+    earned = own(opened(HOUSE))
     text = earned_text.to_text(earned, "EARNED", 480, 2051)
     assert "SPI 0.782 = EV 3771 / PV 4820\n" in text
     assert "CPI 1.867 = EV 3771 / AC 2020\n" in text
     assert "EAC 6749 = BAC 12600 x AC 2020 / EV 3771" in text
     assert "VALUE 2051 of pert value" in text
     table = earned_text.to_csv(earned).decode().split("\n")
-    assert table[0] == "Package,Title,Measured,BAC,PV,EV,AC,SPI,CPI"
-    assert "1.4,Supervision,no,,,,200,," in table
-    assert "TOTAL,,yes,12600,4820,3771,2020,0.782,1.867" in table
+    assert table[0].startswith("Package,Title,Scope,Technique,Manager,BAC,PV,EV,AC,SV,CV,SPI,CPI,")
+    assert table[0].endswith("VAC,TCPI,SPI(t)")
+    assert "1.4,Supervision,not measured,percent,,,,,200,,,,,,,,,," in table
+    total = next(row for row in table if row.startswith("TOTAL,"))
+    assert total.startswith(
+        "TOTAL,,work,percent,,12600,4820,3771,2020,-1049,1751,0.782,1.867,6749,"
+    )
+    assert total.endswith("5851,0.834,0.830")
 
 
 def test_a_task_with_percent_that_has_begun() -> None:

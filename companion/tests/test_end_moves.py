@@ -10,13 +10,20 @@ from hypothesis import given, settings
 from hypothesis import strategies as st
 
 from examples import example_count
-from pert_companion.cards import ActivityCard, StatusCard, TaskCard
-from pert_companion.deck import Deck
-from pert_companion.end_moves import EndMoves, EndState, Links, Work, end_moves, replace_along
-from pert_companion.forecast import finished_end
-from pert_companion.opening import OpenPlan
-from pert_companion.page.clock import Clock
-from pert_companion.remaining import State, remaining
+from pert_companion.analysis.end_moves import (
+    EndMoves,
+    EndState,
+    Links,
+    Work,
+    end_moves,
+    replace_along,
+)
+from pert_companion.analysis.forecast import finished_end
+from pert_companion.model.cards import ActivityCard, StatusCard, TaskCard
+from pert_companion.model.clock import Clock
+from pert_companion.model.deck import Deck
+from pert_companion.state.project import ProjectState
+from pert_companion.state.remaining import State, remaining
 from running import plan_of
 from status_decks import FIRST_DAY, random_network, random_tasks, side_file_of
 
@@ -24,7 +31,7 @@ Card = TypeVar("Card", TaskCard, ActivityCard)
 HEAD = "PROJECT,P,S,E,2026-03-02,1,,Plan\nASOF,{}\nWBS,W,,Plan\nWBS,X,W,Work\n"
 
 
-def plan(as_of: str, tasks: str, links: str = "", statuses: str = "") -> OpenPlan:
+def plan(as_of: str, tasks: str, links: str = "", statuses: str = "") -> ProjectState:
     """Returns a plan from words such as `A5 B10`, `A-B` for a link, and `A=02` or `A=02:05`.
 
     A task has the days that it lasts; a status has the days of March on which it began and ended.
@@ -64,19 +71,19 @@ def length_of(deck: Deck) -> int:
     return max(ends.values())
 
 
-def state_of(given_plan: OpenPlan) -> EndState:
-    """Returns the state of a plan with its forecast end, as `forecast` has it."""
-    rest = remaining(given_plan.deck, given_plan.side)
+def end_state(state: ProjectState) -> EndState:
+    """Returns a state with its forecast end, as `forecast` has it."""
+    rest = state.remaining
     if all(left.state is State.FINISHED for left in rest.left):
-        return EndState(given_plan, rest, finished_end(given_plan))
+        return EndState(state, finished_end(state))
     end = Clock(rest.side).end(length_of(rest.deck))
     assert end is not None
-    return EndState(given_plan, rest, end)
+    return EndState(state, end)
 
 
-def moves_of(old: OpenPlan, new: OpenPlan) -> EndMoves:
+def moves_of(old: ProjectState, new: ProjectState) -> EndMoves:
     """Returns the moves between two plans, which add up to that of the end."""
-    before, after = state_of(old), state_of(new)
+    before, after = end_state(old), end_state(new)
     found = end_moves(before, after)
     assert found.days == new.side.calendar.count_days(before.end, after.end)
     assert all(move.days for move in found.tasks)
@@ -208,7 +215,7 @@ def test_moments_move_with_their_task() -> None:
     assert by_code(moves_of(states[0], states[1])) == {"A": 2}
 
 
-def plan_at(deck: Deck, seed: int | None = None) -> OpenPlan:
+def plan_at(deck: Deck, seed: int | None = None) -> ProjectState:
     """Returns the plan of a deck, with a random side file if there is a seed for it."""
     found = plan_of(deck.to_bytes().decode())
     if seed is None:
@@ -244,7 +251,7 @@ def lasting(random: Random, card: Card) -> Card:
     return replace(card, normal=normal, crash=min(card.crash, normal))
 
 
-def is_over_at_once(plan_now: OpenPlan) -> bool:
+def is_over_at_once(plan_now: ProjectState) -> bool:
     """Says whether nothing is left of a plan but milestones: its end is a morning, no evening."""
     rest = remaining(plan_now.deck, plan_now.side)
     is_done = all(left.state is State.FINISHED for left in rest.left)

@@ -5,14 +5,18 @@ from datetime import date
 from pathlib import Path
 
 import pytest
-from running import CASES, HOUSE, MONTHS, PROGRAMS, imported, run_words
+from running import CASES, HOUSE, MONTHS, imported, opened, run_words
 
+from pert_companion.analysis.forecast import (
+    Forecast,
+    ForecastTask,
+    finished_end,
+    forecast,
+)
 from pert_companion.cli import schedule as command
-from pert_companion.errors import InputError
-from pert_companion.forecast import Forecast, ForecastTask, finished_end, forecast
-from pert_companion.opening import open_plan
-from pert_companion.plan import Baseline
-from pert_companion.remaining import Said, State
+from pert_companion.model.errors import InputError
+from pert_companion.model.plan import Baseline
+from pert_companion.state.remaining import Said, State
 from pert_companion.writers import forecast_text
 
 
@@ -24,7 +28,7 @@ def task_of(found: Forecast, code: str) -> ForecastTask:
 def test_late(tmp_path: Path) -> None:
     """36 working days from Friday 2 October end on 20 November, ten more on 4 December."""
     plan = imported(tmp_path, "late.csv", "--as-of", "2026-10-01")
-    found = forecast(PROGRAMS, plan)
+    found = forecast(plan)
     fabricate = task_of(found, "Fabricate")
     assert fabricate.state is State.BEGUN
     assert fabricate.first_day == date(2026, 9, 1)
@@ -41,7 +45,7 @@ def test_on_time_nothing_is_late(tmp_path: Path) -> None:
     """A plan that is on time ends as planned; Next4 could have begun two days before."""
     plan = imported(tmp_path, "ontime.csv", "--as-of", "2026-09-08")
     before = imported(tmp_path, "ontime.csv", "--no-progress")
-    found = forecast(PROGRAMS, plan, before)
+    found = forecast(plan, before)
     late = {task.code: task.baseline_late_minutes for task in found.tasks}
     assert late == {"Demolish": 0, "Next": 0, "Next2": 0, "Next4": 2 * 480}
     assert task_of(found, "Demolish").left_minutes == 2 * 480
@@ -50,7 +54,7 @@ def test_on_time_nothing_is_late(tmp_path: Path) -> None:
 
 def test_finished_work_sets_no_slack() -> None:
     """FOUND is done two days early: the critical path goes on from the as-of date."""
-    found = forecast(PROGRAMS, open_plan(CASES / "early.csv"))
+    found = forecast(opened(CASES / "early.csv"))
     assert found.end == date(2024, 4, 5)
     assert {task.code for task in found.tasks if task.is_critical} == {
         "WALLS",
@@ -64,8 +68,8 @@ def test_finished_work_sets_no_slack() -> None:
 
 def test_a_finished_project_has_ended() -> None:
     """The house was done on the morning of 15 April, so its last day of work is the 14th."""
-    plan = open_plan(CASES / "done.csv")
-    found = forecast(PROGRAMS, plan)
+    plan = opened(CASES / "done.csv")
+    found = forecast(plan)
     assert found.tasks == ()
     assert found.end == date(2024, 4, 14)
     nothing = replace(plan, deck=replace(plan.deck, statuses=()))
@@ -81,7 +85,7 @@ def test_lists_and_saved_baselines(tmp_path: Path) -> None:
     first = replace(first, listed_finish=date(2026, 11, 18), baselines=(later, saved))
     second = replace(second, listed_finish=date(2026, 12, 7))
     plan = replace(plan, side=replace(plan.side, tasks=(first, second)))
-    found = forecast(PROGRAMS, plan)
+    found = forecast(plan)
     fabricate = task_of(found, "Fabricate")
     assert fabricate.listed_late_minutes == 2 * 480
     assert fabricate.baseline_late_minutes == 19 * 480
@@ -99,16 +103,16 @@ def test_lists_and_saved_baselines(tmp_path: Path) -> None:
 
 def test_what_is_left_may_be_said() -> None:
     """FOUND needs five days more, not one."""
-    plan = open_plan(HOUSE)
-    assert forecast(PROGRAMS, plan, said={"FOUND": Said(5)}).end == date(2024, 4, 15)
+    plan = opened(HOUSE)
+    assert forecast(plan.with_said({"FOUND": Said(5)})).end == date(2024, 4, 15)
     with pytest.raises(InputError):
-        forecast(PROGRAMS, plan, said={"NONE": Said(5)})
+        forecast(plan.with_said({"NONE": Said(5)}))
 
 
 def test_april_against_the_baseline() -> None:
     """What stands in docs/cost-engineer.md."""
-    plan, baseline = open_plan(MONTHS / "april.csv"), open_plan(MONTHS / "plan.csv")
-    found = forecast(PROGRAMS, plan, baseline)
+    plan, baseline = opened(MONTHS / "april.csv"), opened(MONTHS / "plan.csv")
+    found = forecast(plan, baseline)
     assert (found.end, found.baseline_end) == (date(2026, 6, 19), date(2026, 6, 10))
     assert task_of(found, "Walls").last_day == date(2026, 5, 8)
     assert task_of(found, "Walls").baseline_late_minutes == 10 * 480
@@ -134,7 +138,13 @@ def test_command(capfdbinary: pytest.CaptureFixture[bytes], tmp_path: Path) -> N
     status, output, _ = run(capfdbinary, HOUSE, "--forecast", "--critical", "--csv")
     rows = output.split("\n")[:-1]
     assert rows[0].startswith("Row,Code,Id,Outline,Name,State,Days left,Start,Finish,")
-    assert [row.split(",")[1] for row in rows[1:]] == ["FOUND", "WALLS", "ROOF", "PLASTER", "PAINT"]
+    assert [row.split(",")[1] for row in rows[1:]] == [
+        "FOUND",
+        "WALLS",
+        "ROOF",
+        "PLASTER",
+        "PAINT",
+    ]
     left = tmp_path / "left.csv"
     left.write_text("FOUND,5\n")
     words = ("--forecast", "--left", left, "--baseline", HOUSE, "--order", "plan")
@@ -144,9 +154,15 @@ def test_command(capfdbinary: pytest.CaptureFixture[bytes], tmp_path: Path) -> N
     assert output.split("\n")[8].split()[0] == "FOUND"
 
 
-def test_options_that_do_not_go_together(capfdbinary: pytest.CaptureFixture[bytes]) -> None:
+def test_options_that_do_not_go_together(
+    capfdbinary: pytest.CaptureFixture[bytes],
+) -> None:
     """Each is refused with status 2."""
-    for words in (("--forecast", "--gantt"), ("--forecast", "--length", "30"), ("--left", "x")):
+    for words in (
+        ("--forecast", "--gantt"),
+        ("--forecast", "--length", "30"),
+        ("--left", "x"),
+    ):
         status, output, errors = run(capfdbinary, HOUSE, *words)
         assert (status, output) == (2, "")
         assert "--forecast" in errors

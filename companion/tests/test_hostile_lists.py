@@ -1,11 +1,9 @@
 """Lists and workbooks made to break readers: one line or named losses, soon, in little memory."""
 
 import io
-import time
 import tracemalloc
 import zipfile
-from collections.abc import Callable, Iterator
-from contextlib import contextmanager
+from collections.abc import Callable
 from datetime import date
 from pathlib import Path
 
@@ -14,10 +12,13 @@ from hypothesis import given, settings
 from hypothesis import strategies as st
 from openpyxl import Workbook
 
-from pert_companion.errors import InputError
-from pert_companion.losses import LossKind
+from pert_companion.carry import carry
+from pert_companion.model.errors import InputError
+from pert_companion.model.losses import LossKind
+from pert_companion.model.source import Source
 from pert_companion.readers import table, workbook, xlsx
-from pert_companion.readers.base import ReaderOptions, Reading, Source
+from pert_companion.readers.base import ReaderOptions, Reading
+from timing import within
 
 HERE = Path(__file__).parent
 HOSTILE = HERE / "cases" / "hostile" / "lists"
@@ -25,14 +26,6 @@ OPTIONS = ReaderOptions(start=date(2026, 1, 5))
 MOST_SECONDS = 10
 SHEET = "xl/worksheets/sheet1.xml"
 NAMESPACE = 'xmlns="http://schemas.openxmlformats.org/spreadsheetml/2006/main"'
-
-
-@contextmanager
-def _soon() -> Iterator[None]:
-    """Fails if what it holds takes more processor time than ten seconds."""
-    begin = time.process_time()
-    yield
-    assert time.process_time() - begin < MOST_SECONDS
 
 
 def check_lines(reading: Reading) -> None:
@@ -45,7 +38,7 @@ def check_lines(reading: Reading) -> None:
 def read(data: bytes, name: str = "list.csv") -> Reading | str:
     """Reads hostile bytes: returns the reading, or the one line of the refusal."""
     read_it = xlsx.read if name.endswith(".xlsx") else table.read
-    with _soon():
+    with within(MOST_SECONDS):
         try:
             reading = read_it(Source(Path(name), data), OPTIONS)
         except InputError as reason:
@@ -111,8 +104,14 @@ def test_a_deck_is_no_list() -> None:
 
 def test_a_long_cell() -> None:
     """A cell of a million characters, quoted or not."""
-    refused(b"Name,Duration\n" + b"x" * 10**6 + b",5\n", "row 2: a cell of more than 32767")
-    refused(b'Name,Duration\n"' + b"x" * 10**6 + b'",5\n', "row 2: a cell of more than 32767")
+    refused(
+        b"Name,Duration\n" + b"x" * 10**6 + b",5\n",
+        "row 2: a cell of more than 32767",
+    )
+    refused(
+        b'Name,Duration\n"' + b"x" * 10**6 + b'",5\n',
+        "row 2: a cell of more than 32767",
+    )
     refused(b"Name,Duration\n" + b"x" * 40_000 + b",5\n", "row 2: a cell of more than 32767")
 
 
@@ -179,7 +178,15 @@ def test_line_breaks_inside_cells() -> None:
 
 def test_names_with_markup_and_formulas() -> None:
     """They are names like others."""
-    names = ["<b>&amp;</b>", "=HYPERLINK(1)", "@SUM(A1)", "+5", "-5", "]]>", "\u202eevil\u202c"]
+    names = [
+        "<b>&amp;</b>",
+        "=HYPERLINK(1)",
+        "@SUM(A1)",
+        "+5",
+        "-5",
+        "]]>",
+        "\u202eevil\u202c",
+    ]
     text = "Name,Duration\n" + "".join(f"{name},5\n" for name in names)
     found = [task.name for task in taken(text.encode()).plan.tasks()]
     assert found == [*names[:-1], "evil"]
@@ -228,7 +235,8 @@ CELLS = st.text(alphabet="0123456789.,-+%;: FSdh€[]eAE/\n", max_size=30)
 
 @settings(max_examples=60, deadline=None)
 @given(
-    st.lists(st.lists(CELLS, min_size=9, max_size=9), min_size=1, max_size=6), st.sampled_from(",;")
+    st.lists(st.lists(CELLS, min_size=9, max_size=9), min_size=1, max_size=6),
+    st.sampled_from(",;"),
 )
 def test_any_cells(rows: list[list[str]], mark: str) -> None:
     """Cells of digits, signs and letters of links, in every column."""
@@ -353,7 +361,10 @@ def test_merged_cells_over_everything() -> None:
     everything = '<mergeCells><mergeCell ref="A2:XFD1048576"/></mergeCells>'
     taken(with_part(SHEET, sheet_of(TASK, everything)), "plan.xlsx")
     many = "".join(f'<mergeCell ref="A{n}:A1048576"/>' for n in range(2, 5000))
-    taken(with_part(SHEET, sheet_of(TASK, f"<mergeCells>{many}</mergeCells>")), "plan.xlsx")
+    taken(
+        with_part(SHEET, sheet_of(TASK, f"<mergeCells>{many}</mergeCells>")),
+        "plan.xlsx",
+    )
     wrong = '<mergeCells><mergeCell ref="rubbish"/></mergeCells>'
     refused(with_part(SHEET, sheet_of(TASK, wrong)), "cannot be read", "plan.xlsx")
     column = '<mergeCells><mergeCell ref="A:A"/><mergeCell ref="A9:A12"/></mergeCells>'
@@ -448,3 +459,57 @@ REPLACED: tuple[Callable[[bytes], bytes], ...] = (
 def test_odd_sheets(change: Callable[[bytes], bytes]) -> None:
     """Elements with other names, numbers of rows that are none, characters that XML has not."""
     read(with_part(SHEET, change(sheet_of(TASK))), "plan.xlsx")
+
+
+# Lists within the documented limits, at their edges
+
+
+def test_long_names() -> None:
+    """Names of a thousand characters become codes in little time."""
+    words = " ".join(["abcdefghijklmnopqrst"] * 48)
+    rows = "".join(f"{number},{words} {number},1\n" for number in range(1, 3_900))
+    reading = taken(f"ID,Name,Duration\n{rows}".encode())
+    with within(MOST_SECONDS):
+        assert len(carry(reading.plan).deck.tasks) == 3_899
+
+
+def test_very_many_links() -> None:
+    """Cells of six thousand links are named, and so is a list of eight million."""
+    head = "ID,Name,Duration,Predecessors\n1,Dig,1,\n"
+    wide = "".join(f'{number},T,1,"{";".join(["1"] * 6_000)}"\n' for number in range(2, 4_000))
+    reading = taken(f"{head}{wide}".encode())
+    assert len(reading.losses) == 3_998
+    assert {loss.why for loss in reading.losses} == {"more than 2000 links in one cell"}
+    long = "".join(f'{number},T,1,"{";".join(["1"] * 2_000)}"\n' for number in range(2, 4_000))
+    refused(f"{head}{long}".encode(), "row 103: the list has more than 200000 links")
+
+
+@pytest.mark.parametrize("name", ("f-h80000.xlsx", "f-h400000.xlsx", "fmt2.xlsx"))
+def test_very_long_number_formats(name: str) -> None:
+    """Excel has number formats of at most 255 characters; longer ones take a library minutes."""
+    data = (HERE / "cases" / "workbooks" / name).read_bytes()
+    refused(data, "styles.xml has a number format of more than 255 characters", "plan.xlsx")
+
+
+def test_the_longest_number_format() -> None:
+    """A format of 255 characters is read, also if all of them are entities."""
+    book = Workbook()
+    sheet = book.active
+    for row in (("Name", "Duration"), ("Dig", 5)):
+        sheet.append(row)
+    sheet["B2"].number_format = '0"' + "&" * 252 + '"'
+    data = io.BytesIO()
+    book.save(data)
+    assert len(list(taken(data.getvalue(), "plan.xlsx").plan.tasks())) == 1
+
+
+def test_very_many_merged_ranges() -> None:
+    """A sheet of 790,000 merged ranges is refused; one of a few thousand is read."""
+    for count, is_read in ((2_000, True), (790_000, False)):
+        ranges = "".join(f'<mergeCell ref="A{at}:B{at + 1}"/>' for at in range(4, 4 + count))
+        merged = f"<mergeCells>{ranges}</mergeCells></worksheet>"
+        data = with_part(SHEET, sheet_of(TASK).replace(b"</worksheet>", merged.encode()))
+        if is_read:
+            taken(data, "plan.xlsx")
+        else:
+            refused(data, "more than 50000 merged ranges", "plan.xlsx")

@@ -8,16 +8,17 @@ from pathlib import Path
 
 import pytest
 
-from pert_companion import deck as decks
-from pert_companion import sidefile
+
+from running import opened
 from pert_companion.cli import importing
 from pert_companion.cli.common import run_command
-from pert_companion.days import counted
-from pert_companion.opening import open_plan
-from pert_companion.pauses import check_curve
-from pert_companion.programs import Programs
-from pert_companion.scheduling import normal_tasks
-from pert_companion.sidefile import SideFile
+from pert_companion.importing.pauses import check_curve
+from pert_companion.model import deck as decks, fitting
+from pert_companion.model.days import counted
+from pert_companion.model.sidefile import SideFile
+from pert_companion.programs.client import Programs
+from pert_companion.state.project import ProjectState
+from pert_companion.analysis.scheduling import normal_schedule
 
 CASES = Path(__file__).resolve().parent / "cases"
 PROGRAMS = Programs()
@@ -49,14 +50,14 @@ def pert_import(capture: pytest.CaptureFixture[bytes], *words: object) -> Outcom
 
 def side_of(deck: Path) -> SideFile:
     """Returns the side file of a deck, which fits it."""
-    side, why = sidefile.find(deck, deck.read_bytes())
-    assert side is not None, why
+    side = fitting.find(deck, decks.read_deck(deck), deck.read_bytes())
+    assert side is not None
     return side
 
 
 def forecast_days(deck: Path) -> int:
     """Returns the forecast end of a deck by `pert value`, in units."""
-    plan = open_plan(deck)
+    plan = opened(deck)
     network = PROGRAMS.network(counted(plan.deck, plan.side))
     return PROGRAMS.value(network).events[network.project.end].time // 6
 
@@ -196,10 +197,10 @@ def test_no_length_of_the_curve_needs_a_pause(
     deck = tmp_path / "pause.csv"
     done = pert_import(capfdbinary, CASES / "pause.csv", "-o", deck, "--start", "2026-09-01")
     assert done.status == 0 and not done.has("least length in one piece")
-    plan = open_plan(deck)
+    plan = opened(deck)
     curve = PROGRAMS.curve(PROGRAMS.network(plan.deck))
     assert [point.length for point in curve] == [24]
-    assert check_curve(PROGRAMS, plan.deck, plan.side).least == 24
+    assert check_curve(plan.plan).least == 24
 
 
 def test_hours_have_the_dates_of_days(
@@ -209,10 +210,18 @@ def test_hours_have_the_dates_of_days(
     found = []
     for unit in ("days", "hours"):
         deck = tmp_path / f"{unit}.csv"
-        words = (CASES / "ontime.csv", "-o", deck, "--as-of", "2026-09-08", "--unit", unit)
+        words = (
+            CASES / "ontime.csv",
+            "-o",
+            deck,
+            "--as-of",
+            "2026-09-08",
+            "--unit",
+            unit,
+        )
         assert pert_import(capfdbinary, *words).status == 0
-        plan = open_plan(deck)
-        tasks = normal_tasks(PROGRAMS, plan.deck, plan.side)
+        plan = opened(deck)
+        tasks = normal_schedule(ProjectState(PROGRAMS, plan.deck, plan.side).plan).tasks
         found.append([(task.name, task.start, task.finish) for task in tasks])
     assert found[0] == found[1]
     assert found[0][0][1:] == (datetime(2026, 9, 1, 8), datetime(2026, 9, 10, 17))
@@ -265,10 +274,10 @@ def test_deck_and_side_file_are_written_together(
 ) -> None:
     """If the side file cannot be written, the old deck stays."""
     deck = tmp_path / "wing.csv"
-    deck.write_bytes(b"old")
+    deck.write_bytes(b"PROJECT,old\n")
     (tmp_path / "wing.json").mkdir()
     done = pert_import(capfdbinary, CASES / "snet.csv", "-o", deck)
-    assert done.status == 1 and deck.read_bytes() == b"old"
+    assert done.status == 1 and deck.read_bytes() == b"PROJECT,old\n"
     (tmp_path / "wing.json").rmdir()
     folder = tmp_path / "closed"
     folder.mkdir()
@@ -283,15 +292,38 @@ def test_deck_and_side_file_are_written_together(
     [
         (["no-such.csv"], 1, "no-such.csv: No such file or directory"),
         (["{plan}", "-o", "wing.json"], 2, "this is the name of a side file"),
-        (["{plan}", "-o", "{plan}"], 2, "the deck would overwrite the file"),
-        (["{plan}", "--unit", "fortnights"], 2, "--unit fortnights: say auto, days, hours"),
-        (["{plan}", "--start", "1.9.2026"], 2, "'1.9.2026' is no date such as 2026-09-01"),
+        (
+            ["{plan}", "-o", "{plan}"],
+            2,
+            "this is read by the same command; see --overwrite",
+        ),
+        (
+            ["{plan}", "--unit", "fortnights"],
+            2,
+            "--unit fortnights: say auto, days, hours",
+        ),
+        (
+            ["{plan}", "--start", "1.9.2026"],
+            2,
+            "'1.9.2026' is no date such as 2026-09-01",
+        ),
         (["{plan}", "--column", "duration"], 2, "'duration' is not FIELD=HEADING"),
-        (["{plan}", "--day-hours", "0"], 2, "'0' is no number of hours such as 8 or 7.5"),
+        (
+            ["{plan}", "--day-hours", "0"],
+            2,
+            "'0' is no number of hours such as 8 or 7.5",
+        ),
         (["{plan}", "--day-hours", "7.123"], 2, "'7.123' is no number of hours"),
-        (["{plan}", "--start", "1850-01-01"], 1, "first day 1850-01-01 is not in the years 1900"),
-        (["{plan}", "--as-of", "2026-08-01"], 1, "is before the first day 2026-09-01"),
-        (["{plan}", "--bin", "/nonexistent", "--strict"], 2, "no program pert in /nonexistent"),
+        (
+            ["{plan}", "--start", "1850-01-01"],
+            2,
+            "is no date from 1900-01-01 to 2199-12-31",
+        ),
+        (
+            ["{plan}", "--bin", "/nonexistent", "--strict"],
+            2,
+            "no program pert in /nonexistent",
+        ),
         ([], 2, "the following arguments are required: file"),
     ],
 )
@@ -314,7 +346,14 @@ def test_without_pert_dates_are_not_compared(
     """The deck is written all the same, and the line says what was not done."""
     deck = tmp_path / "wing.csv"
     done = pert_import(
-        capfdbinary, CASES / "snet.csv", "-o", deck, "--bin", "/nonexistent", "--day-hours", "7.5"
+        capfdbinary,
+        CASES / "snet.csv",
+        "-o",
+        deck,
+        "--bin",
+        "/nonexistent",
+        "--day-hours",
+        "7.5",
     )
     assert done.status == 0 and deck.exists()
     assert done.has("dates are not compared with those of the file: no program pert")
@@ -328,7 +367,11 @@ def test_without_pert_dates_are_not_compared(
         ("plan.mpp", b"\xd0\xcf\x11\xe0\xa1\xb1", "save it as XML or as .xlsx"),
         ("plan.pdf", b"%PDF-1.7", "export the plan from the program that made it"),
         ("plan.zip", b"PK\x03\x04rest", "no workbook (.xlsx)"),
-        ("plan.txt", b"nothing\nof interest\n", "no plan: no file of a planner, and no list"),
+        (
+            "plan.txt",
+            b"nothing\nof interest\n",
+            "no plan: no file of a planner, and no list",
+        ),
     ],
 )
 def test_a_file_of_no_known_format_is_one_line(

@@ -16,13 +16,16 @@ from lists import (
     same_resources,
     xlsx_bytes,
 )
-from pert_companion.plan import Plan
+from pert_companion.model.plan import Plan
+from pert_companion.model.source import Source
 from pert_companion.readers import table, xlsx
-from pert_companion.readers.base import ReaderOptions, Source
+from pert_companion.readers.base import ReaderOptions
 from plans import ALL_FEATURES, FIRST_DAY, Feature, plans
 
 FEW = settings(
-    max_examples=example_count(25), deadline=None, suppress_health_check=[HealthCheck.too_slow]
+    max_examples=example_count(25),
+    deadline=None,
+    suppress_health_check=[HealthCheck.too_slow],
 )
 
 # A list has no column for the week, and CSV none for holidays.
@@ -82,7 +85,11 @@ def test_text_in_other_character_sets(plan: Plan, encoding: str) -> None:
 
 
 @FEW
-@given(plans(features=IN_A_LIST), st.booleans(), st.sampled_from(("level", "wbs", "indent")))
+@given(
+    plans(features=IN_A_LIST),
+    st.booleans(),
+    st.sampled_from(("level", "wbs", "indent")),
+)
 def test_xlsx(plan: Plan, german: bool, outline: str) -> None:
     """Workbooks with a title, real dates and numbers, and free days on a sheet of their own."""
     form = Form(german=german, decimal="," if german else ".", outline=outline)

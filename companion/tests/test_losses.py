@@ -3,7 +3,7 @@
 from pathlib import Path
 
 from pert_companion.cli import importing
-from pert_companion.losses import MEANINGS, Loss, LossKind, not_accepted
+from pert_companion.model.losses import MEANINGS, Acceptance, Loss, LossKind
 
 
 def test_each_kind_has_a_meaning() -> None:
@@ -31,4 +31,5 @@ def test_a_line_names_what_it_is_about() -> None:
     assert short.line("a.xlsx") == "a.xlsx: sheet Old, 'hidden': it is not read [field]"
     bare = Loss(LossKind.FIELD, "sheet Old", "", "", "", "it is not read")
     assert bare.line("a.xlsx") == "a.xlsx: sheet Old: it is not read [field]"
-    assert not_accepted([full, short], frozenset({LossKind.LINK})) == [short]
+    accepted = Acceptance(frozenset({LossKind.LINK}), ())
+    assert accepted.divided([full, short]) == ([full], [short])

@@ -9,10 +9,18 @@ import pytest
 from hypothesis import given, settings
 from hypothesis import strategies as st
 
-from pert_companion.calendar import Calendar
-from pert_companion.errors import UsageError
-from pert_companion.overtime import Overtime, parse_overtime, propose_overtime
-from pert_companion.plan import Assignment, Crash, Plan, Progress, Resource, ResourceKind, Task
+from pert_companion.importing.overtime import Overtime, parse_overtime, propose_overtime
+from pert_companion.model.calendar import Calendar
+from pert_companion.model.errors import UsageError
+from pert_companion.model.plan import (
+    Assignment,
+    Crash,
+    Plan,
+    Progress,
+    Resource,
+    ResourceKind,
+    Task,
+)
 from plans import ALL_FEATURES, plans
 
 DAY = 480
@@ -111,7 +119,18 @@ def test_option(text: str, wanted: Overtime) -> None:
 
 @pytest.mark.parametrize(
     "text",
-    ["", "2h", "2h@50", "2h@x%", "x@50%", "0h@50%", "17h@50%", "2h@1001%", "2h@-5%", "0.001h@5%"],
+    [
+        "",
+        "2h",
+        "2h@50",
+        "2h@x%",
+        "x@50%",
+        "0h@50%",
+        "17h@50%",
+        "2h@1001%",
+        "2h@-5%",
+        "0.001h@5%",
+    ],
 )
 def test_wrong_options(text: str) -> None:
     """Other texts are wrong usage."""

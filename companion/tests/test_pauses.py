@@ -5,19 +5,21 @@ from dataclasses import replace
 from datetime import date
 from itertools import cycle
 
+import pytest
 from cpm import dates_of
 from hypothesis import assume, given
 from hypothesis import strategies as st
 from plans import Feature, plans
 from test_carry import DATES, PROGRAMS, has_exact_links, property_settings
 
-from pert_companion.calendar import Calendar
-from pert_companion.cards import AfterCard, ItemCard, ProjectCard, TaskCard
 from pert_companion.carry import carry
-from pert_companion.deck import Deck
-from pert_companion.pauses import CurvePauses, check_curve, pausing_tasks
-from pert_companion.plan import Link, LinkKind, Plan
-from pert_companion.sidefile import SideFile, SideTask
+from pert_companion.importing.pauses import CurvePauses, check_curve, pausing_tasks
+from pert_companion.model.calendar import Calendar
+from pert_companion.model.cards import AfterCard, ItemCard, ProjectCard, TaskCard
+from pert_companion.model.deck import Deck
+from pert_companion.model.plan import Link, LinkKind, Plan
+from pert_companion.model.sidefile import SideFile, SideTask
+from pert_companion.state.project import ProjectState
 
 
 def card(code: str, normal: int, crash: int | None = None, slope: int = 0) -> TaskCard:
@@ -71,7 +73,7 @@ SIDE = SideFile(
 
 def test_the_least_length_in_one_piece_is_found() -> None:
     """The curve goes to 21, in one piece 24 is the least, and the decking is named."""
-    found = check_curve(PROGRAMS, DECK, SIDE)
+    found = check_curve(ProjectState(PROGRAMS, DECK, SIDE).plan)
     assert found.least == 24
     assert [entry.length for entry in found.pausing] == [21]
     assert [task.code for task in found.pausing[0].tasks] == ["DECK"]
@@ -81,13 +83,52 @@ def test_the_least_length_in_one_piece_is_found() -> None:
     )
 
 
+def decking(prep: str, steel: str, deck: str, serve: str) -> Deck:
+    """Returns the deck with other durations: `5/2@3` can take 2, at 3 a unit."""
+    words = {"PREP": prep, "STEEL": steel, "DECK": deck, "SERVE": serve}
+    tasks = []
+    for each in DECK.tasks:
+        if each.code in words:
+            lasting, _, slope = words[each.code].partition("@")
+            normal, _, crash = lasting.partition("/")
+            each = card(each.code, int(normal), int(crash or normal), int(slope or 0))
+        tasks.append(each)
+    return replace(DECK, tasks=tuple(tasks))
+
+
+@pytest.mark.parametrize(
+    "deck, least, pausing",
+    [
+        (decking("4/1@1", "14", "10/9@100", "20"), 24, [21]),
+        (decking("4/1@1", "20", "10/9@100", "20"), 24, [24, 21]),
+        (decking("4/1@1", "14", "10/9@100", "20/17@5"), 24, [21, 18]),
+        (decking("6/1@1", "14", "10/9@100", "20/17@5"), 24, [21, 18]),
+        (decking("4/1@9", "14", "10/9@1", "20/15@5"), 19, [16]),
+        (decking("4/1@1", "9", "10/9@100", "20/17@5"), 18, []),
+    ],
+)
+def test_breakpoints_with_a_pause_and_the_least_length_without(
+    deck: Deck, least: int, pausing: list[int]
+) -> None:
+    """Each length of the curve by itself says the same."""
+    work = ProjectState(PROGRAMS, deck, SIDE).plan
+    found = check_curve(work)
+    assert (found.least, [entry.length for entry in found.pausing]) == (least, pausing)
+    apart = []
+    for length in range(work.shortest, work.longest + 1):
+        if pausing_tasks(deck, SIDE, work.point(length).durations, length):
+            apart.append(length)
+    assert set(pausing) == {point.length for point in work.curve} & set(apart)
+    assert least == (min(max(apart) + 1, work.longest) if apart else work.shortest)
+
+
 def test_plans_that_cannot_pause_are_not_asked_about() -> None:
     """Without a finish that waits for others, or if no schedule needs it, nothing pauses."""
     plain = replace(SIDE, tasks=tuple(side_task(task.code) for task in DECK.tasks))
-    assert check_curve(PROGRAMS, DECK, plain) == CurvePauses(21, ())
+    assert check_curve(ProjectState(PROGRAMS, DECK, plain).plan) == CurvePauses(21, ())
     fixed = replace(DECK, tasks=tuple(replace(task, crash=task.normal) for task in DECK.tasks))
-    assert check_curve(PROGRAMS, fixed, SIDE) == CurvePauses(24, ())
-    assert check_curve(PROGRAMS, fixed, SIDE).line("days") == ""
+    assert check_curve(ProjectState(PROGRAMS, fixed, SIDE).plan) == CurvePauses(24, ())
+    assert check_curve(ProjectState(PROGRAMS, fixed, SIDE).plan).line("days") == ""
     normal = {task.code: task.normal for task in DECK.tasks}
     assert not pausing_tasks(DECK, SIDE, normal, 24)
     assert pausing_tasks(DECK, SIDE, normal, 23)

@@ -2,7 +2,7 @@
 
 from hypothesis import given
 
-from pert_companion.plan import Group, Plan, Task
+from pert_companion.model.plan import Group, Plan, Task
 from plans import ALL_FEATURES, Feature, plans
 
 

@@ -12,6 +12,7 @@ import sys
 import time
 from collections.abc import Iterator
 from contextlib import contextmanager
+from dataclasses import replace
 from datetime import date, timedelta
 from pathlib import Path
 
@@ -19,15 +20,21 @@ import pytest
 
 from page.browser import Browser
 from page.certificates import HOUSE, SHED, TOP
+from pert_companion.analysis.sureness import sureness
 from pert_companion.cli import portfolio
 from pert_companion.cli.common import run_command
-from pert_companion.errors import UsageError
-from pert_companion.opening import open_plan
-from pert_companion.portfolio.row import Row, is_stale, row_of, week_name
+from pert_companion.model.errors import UsageError
+from pert_companion.portfolio.row import Row, row_of, week_name
 from pert_companion.portfolio.stored import Cache, row_from, row_text
-from pert_companion.portfolio.work import Job, packed, rows_of, serve
-from pert_companion.programs import Programs
-from running import WITH_INTERRUPTS
+from pert_companion.portfolio.sums import sums_of
+from pert_companion.portfolio.urgency import Alarm, Freshness, alarms, by_urgency
+from pert_companion.portfolio import work
+from pert_companion.portfolio.hosts import host_of, packed
+from pert_companion.portfolio.job import Job
+from pert_companion.portfolio.work import rows_of, serve
+from pert_companion.programs.client import Programs
+from running import WITH_INTERRUPTS, opened
+from test_endings import WITHIN, left_after
 
 PROGRAMS = Programs()
 BIN = Path(PROGRAMS.find("pert")).parent
@@ -75,24 +82,37 @@ def run(*words: object) -> int:
 def test_a_row_has_the_figures_of_the_programs(decks: Path) -> None:
     """The house: forecast and price by hand from `pert curve` of what is left and the summary."""
     row = row_of(PROGRAMS, decks / "house.csv", None, "house.csv")
-    plan = open_plan(decks / "house.csv")
+    plan = opened(decks / "house.csv")
     top = next(iter(PROGRAMS.summary(plan.deck).values()))
     assert (row.code, row.as_of, row.fault) == ("H1", "2024-03-18", "")
     assert (row.latest, row.budget, row.overrun) == (14020, 13600, 420)
-    assert (top.latest, top.budget, top.overrun) == (row.latest, row.budget, row.overrun)
+    assert (top.latest, top.budget, top.overrun) == (
+        row.latest,
+        row.budget,
+        row.overrun,
+    )
     late = date.fromisoformat(row.forecast) - date.fromisoformat(row.contract)
-    assert row.late == late.days  # every day counts in this deck
+    assert row.late == late.days * row.day_minutes  # every day counts in this deck
 
 
 def test_the_shed_is_on_time_and_its_next_day_costs_3(decks: Path) -> None:
     """At 9 days the shed costs 45, and a day less costs 3."""
     row = row_of(PROGRAMS, decks / "shed.csv", None, "shed.csv")
-    assert (row.forecast, row.contract, row.late, row.next_price) == (
+    assert (row.forecast, row.contract, row.late, row.day_price) == (
         "2024-01-09",
         "2024-01-09",
         0,
         3,
     )
+
+
+def test_the_day_that_is_likely_is_that_of_the_simulation(decks: Path) -> None:
+    """The house has three estimates; a deck with one for each task says nothing of chances."""
+    row = row_of(PROGRAMS, decks / "house.csv", None, "house.csv")
+    known = sureness(opened(decks / "house.csv").rest)
+    assert known is not None and known.likely_end is not None
+    assert row.likely == known.likely_end.isoformat() >= row.forecast
+    assert row_of(PROGRAMS, decks / "roof.csv", None, "roof.csv").likely == ""
 
 
 def test_the_next_milestone_is_named_with_its_day(decks: Path) -> None:
@@ -102,15 +122,15 @@ def test_the_next_milestone_is_named_with_its_day(decks: Path) -> None:
     assert (row.milestone.name, row.milestone.day) == ("Handed over", "2026-03-04")
 
 
-def test_what_moved_is_counted_in_units(decks: Path) -> None:
+def test_what_moved_is_counted_in_working_time(decks: Path) -> None:
     """The deck before has one day less of tiles, so the forecast is a day later now."""
     before = decks / "before"
     before.mkdir()
     (before / "roof.csv").write_text(MONDAY_DECK.replace("4,4,4,4,4", "3,3,3,3,3"))
     row = row_of(PROGRAMS, decks / "roof.csv", before / "roof.csv", "roof.csv")
-    assert (row.moved, row.previous_as_of) == (1, "2026-03-02")
+    assert (row.moved, row.previous_as_of) == (row.day_minutes, "2026-03-02")
     back = row_of(PROGRAMS, before / "roof.csv", decks / "roof.csv", "roof.csv")
-    assert back.moved == -1
+    assert back.moved == -row.day_minutes
 
 
 def test_loads_are_spread_over_calendar_weeks(decks: Path) -> None:
@@ -118,7 +138,7 @@ def test_loads_are_spread_over_calendar_weeks(decks: Path) -> None:
     row = row_of(PROGRAMS, decks / "roof.csv", None, "roof.csv")
     found = [(load.resource, load.week, load.amount) for load in row.loads]
     assert found == [("CREW", "2026-W10", 14), ("CREW", "2026-W11", 46)]
-    plan = open_plan(decks / "roof.csv")
+    plan = opened(decks / "roof.csv")
     load = PROGRAMS.load(PROGRAMS.network(plan.deck), 7)
     assert list(load.resources["CREW"].values()) == [14, 46]
 
@@ -128,7 +148,10 @@ def test_an_activity_without_length_loads_the_week_it_is_in(decks: Path) -> None
     deck = MONDAY_DECK.replace("ACT,B,M,T,1,4,4,4,4,4", "ACT,B,M,T,1,0,0,0,0,0")
     (decks / "roof.csv").write_text(deck)
     row = row_of(PROGRAMS, decks / "roof.csv", None, "roof.csv")
-    assert [(load.week, load.amount) for load in row.loads] == [("2026-W10", 14), ("2026-W11", 46)]
+    assert [(load.week, load.amount) for load in row.loads] == [
+        ("2026-W10", 14),
+        ("2026-W11", 46),
+    ]
 
 
 def test_weeks_are_those_of_iso_8601() -> None:
@@ -154,19 +177,73 @@ def test_the_page_and_the_table(decks: Path, capsys: pytest.CaptureFixture[str])
     assert "refused: <bdi>" in text
     rows = list(csv.DictReader(io.StringIO((decks / "page.csv").read_text())))
     assert [row["code"] for row in rows] == ["H1", "MON", "T1", ""]
-    assert [row["stale"] for row in rows] == ["yes", "", "", ""]
+    assert "old figures" in rows[0]["alarms"] and rows[3]["alarms"] == "refused"
     assert rows[0]["overrun"] == "420"
     said = capsys.readouterr().err
     assert "bad.csv" in said and "4 decks, 1 refused" in said and "\r" not in said
+
+
+def test_one_deck_is_counted_as_one(decks: Path, capsys: pytest.CaptureFixture[str]) -> None:
+    """The last line says `1 deck`."""
+    assert run(decks / "house.csv", "--no-cache", "-o", decks / "page.html") == 0
+    assert capsys.readouterr().err.endswith(": 1 deck, 0 refused\n")
 
 
 def test_stale_is_measured_from_the_newest() -> None:
     """Exactly so many days are not yet stale."""
     row = Row("a", as_of="2026-03-01")
     newest = date(2026, 3, 1) + timedelta(days=31)
-    assert not is_stale(row, newest.isoformat(), 31)
-    assert is_stale(row, (newest + timedelta(days=1)).isoformat(), 31)
-    assert not is_stale(Row("b", fault="x"), newest.isoformat(), 31)
+    after = newest + timedelta(days=1)
+    assert not Freshness(newest.isoformat(), 31).is_stale(row)
+    assert Freshness(after.isoformat(), 31).is_stale(row)
+    assert not Freshness(newest.isoformat(), 31).is_stale(Row("b", fault="x"))
+
+
+FRESH = Freshness("2026-03-01", 31)
+HELD = Row("a", as_of="2026-03-01", contract="2026-04-01", contract_name="contract date")
+
+
+def test_the_most_urgent_is_first_and_refused_decks_are_last() -> None:
+    """Missed deadlines, late, overrun, old figures; the later of two late ones first, by days."""
+    rows = [
+        Row("refused", fault="x"),
+        Row("well", as_of="2026-03-01"),
+        Row("old", as_of="2026-01-01"),
+        Row("over", as_of="2026-03-01", overrun=1),
+        replace(HELD, path="late", late=480, day_minutes=480),
+        replace(HELD, path="later", late=120, day_minutes=60),
+        Row("missed", as_of="2026-03-01", missed=1, missed_first="Dig"),
+        Row("behind its plan", as_of="2026-03-01", contract_name="planned end", late=480),
+    ]
+    names = ["missed", "later", "late", "over", "old", "behind its plan", "well", "refused"]
+    assert [row.path for row in by_urgency(rows, FRESH)] == names
+
+
+def test_alarms_are_what_is_over_a_limit() -> None:
+    """On time, on budget and early are none; a planned end is no date to be late against."""
+    row = replace(HELD, late=0, overrun=0)
+    assert alarms(row, FRESH) == ()
+    row = replace(HELD, late=1, overrun=1, missed=1)
+    assert alarms(row, FRESH) == (Alarm.DEADLINE, Alarm.LATE, Alarm.OVERRUN)
+    row = Row("a", as_of="2026-03-01", contract_name="planned end", late=5)
+    assert alarms(row, FRESH) == ()
+    assert alarms(Row("a", fault="x"), FRESH) == (Alarm.REFUSED,)
+
+
+def test_sums_are_of_one_currency() -> None:
+    """Euros and cents are added; a deck alone, without amounts or without a currency is not."""
+    rows = [
+        Row("a", currency="EUR", money_scale=1, latest=110, budget=100, overrun=10),
+        Row("b", currency="EUR", money_scale=100, latest=5050, budget=5000, overrun=50),
+        Row("c", currency="EUR"),
+        Row("d", currency="USD", latest=7, budget=6, overrun=1),
+        Row("e", latest=7, budget=6, overrun=1),
+        Row("f", latest=7, budget=6, overrun=1),
+    ]
+    (found,) = sums_of(rows)
+    assert found.name == "2 projects with amounts in EUR"
+    assert found.overrun == "10.50\u00a0EUR" and found.is_bad
+    assert found.note == "latest estimate 160.50\u00a0EUR, budget 150.00\u00a0EUR"
 
 
 def test_a_project_links_the_page_next_to_its_deck(decks: Path) -> None:
@@ -175,7 +252,13 @@ def test_a_project_links_the_page_next_to_its_deck(decks: Path) -> None:
     folder.mkdir()
     shutil.copy(SHED, folder / "shed.csv")
     (folder / "shed.html").write_text("page")
-    words = (folder / "shed.csv", decks / "roof.csv", "--no-cache", "-o", decks / "page.html")
+    words = (
+        folder / "shed.csv",
+        decks / "roof.csv",
+        "--no-cache",
+        "-o",
+        decks / "page.html",
+    )
     assert run(*words) == 0
     text = (decks / "page.html").read_text()
     assert 'href="a%20b/shed.html"' in text and text.count("<a href") == 1
@@ -197,7 +280,13 @@ def test_titles_cannot_forge_the_page(decks: Path) -> None:
 def test_shared_resources_have_sums_by_week(decks: Path) -> None:
     """Two decks with the same crew, one of them a week later."""
     (decks / "other.csv").write_text(MONDAY_DECK.replace("2026-03-02", "2026-03-09"))
-    words = (decks / "roof.csv", decks / "other.csv", "--no-cache", "-o", decks / "page.html")
+    words = (
+        decks / "roof.csv",
+        decks / "other.csv",
+        "--no-cache",
+        "-o",
+        decks / "page.html",
+    )
     assert run(*words) == 0
     text = (decks / "page.html").read_text()
     section = text[text.index('id="shared"') :]
@@ -214,7 +303,7 @@ def test_the_table_is_sorted_by_a_heading(decks: Path) -> None:
     names = ["shed.csv", "roof.csv", "house.csv", "bad.csv"]
     run(*[decks / name for name in names], "--no-cache", "-o", decks / "page.html")
     rows = "[...document.querySelectorAll('#projects tbody th bdi')].map(it => it.textContent)"
-    picked = "document.querySelectorAll('#projects thead button')[6].click()"
+    picked = "document.querySelectorAll('#projects thead button')[2].click()"
     with Browser() as browser:
         page = browser.open((decks / "page.html").as_uri())
         page.run(picked)
@@ -226,6 +315,58 @@ def test_the_table_is_sorted_by_a_heading(decks: Path) -> None:
     assert up[:2] == ["A garden shed", "House, two floors"]
     assert down[:2] == ["House, two floors", "A garden shed"]
     assert set(up[2:]) == set(down[2:]) == {"Roof", "bad"}
+
+
+@pytest.fixture(name="page")
+def _page(decks: Path) -> Path:
+    """Returns a page of the house, the shed, one of tasks that is late, and a refused deck."""
+    if shutil.which("chromium") is None:
+        pytest.skip("no chromium")
+    late = TASKS.format(code="T1").replace(",S,T,2026-03-02,1,,T1", ",S,T,2026-03-02,1,5,T1")
+    (decks / "tasks.csv").write_text(late)
+    names = ["shed.csv", "house.csv", "tasks.csv", "bad.csv"]
+    assert run(*[decks / name for name in names], "--no-cache", "-o", decks / "page.html") == 1
+    return decks / "page.html"
+
+
+def test_all_columns_fit_and_a_phone_has_late_and_overrun_first(page: Path) -> None:
+    """Nothing is to be scrolled at 1280 px; at 390 px the first three columns are in view."""
+    table = "document.getElementById('projects')"
+    with Browser() as browser:
+        wide = browser.open(page.as_uri(), width=1280)
+        assert wide.run(f"{table}.parentNode.scrollWidth <= {table}.parentNode.clientWidth")
+        phone = browser.open(page.as_uri(), width=390)
+        heads = json.loads(
+            phone.run(
+                f"JSON.stringify([...{table}.tHead.rows[0].cells].filter("
+                "it => it.getBoundingClientRect().right <= 390).map(it => it.textContent))"
+            )
+        )
+        assert heads[:3] == ["Project", "Late", "Overrun"]
+        assert phone.run("document.documentElement.scrollWidth <= 390")
+
+
+def test_projects_are_filtered_by_alarm_and_name(page: Path) -> None:
+    """The late one alone, then nothing with another name, and all of them again."""
+    rows = (
+        "JSON.stringify([...document.querySelectorAll('#projects tbody tr:not([hidden]) th')]"
+        ".map(it => it.querySelector('bdi').textContent))"
+    )
+    typed = "(it => { it.value = %r; it.dispatchEvent(new Event('input')); })(named)"
+    with Browser() as browser:
+        shown = browser.open(page.as_uri())
+        everything = json.loads(shown.run(rows))
+        assert everything[-1] == "bad" and len(everything) == 4
+        shown.run("document.querySelector('[data-only=refused]').click()")
+        assert json.loads(shown.run(rows)) == ["bad"]
+        shown.run(typed % "house")
+        assert json.loads(shown.run(rows)) == []
+        shown.run("document.querySelector('[data-only=\"\"]').click()")
+        assert json.loads(shown.run(rows)) == ["House, two floors"]
+        assert shown.text("#count") == "1 of 4 shown"
+        shown.run(typed % "")
+        assert json.loads(shown.run(rows)) == everything
+        assert not shown.messages()
 
 
 def jobs_of(folder: Path, *names: str) -> list[Job]:
@@ -273,14 +414,53 @@ def test_what_is_kept_is_checked(decks: Path) -> None:
     """A row goes through JSON unchanged; anything else is no row."""
     row = row_of(PROGRAMS, decks / "roof.csv", None, "roof.csv")
     text = row_text(row)
-    assert row_from(text) == row
+    assert row_from(text, "roof.csv") == row
+    assert row_from(text, "other.csv") is None
     found = json.loads(text)
+
+    def read(values: dict[str, object]) -> Row | None:
+        return row_from(json.dumps(values), "roof.csv")
+
     for key in found:
-        assert row_from(json.dumps({k: v for k, v in found.items() if k != key})) is None
-        assert row_from(json.dumps({**found, key: {"x": 1}})) is None
-    assert row_from(json.dumps({**found, "more": 1})) is None
-    assert row_from(json.dumps({**found, "late": True})) is None
-    assert row_from("[]") is None and row_from("x") is None and row_from("[" * 100000) is None
+        assert read({k: v for k, v in found.items() if k != key}) is None
+        assert read({**found, key: {"x": 1}}) is None
+    assert read({**found, "more": 1}) is None
+    assert read({**found, "late": True}) is None
+    for text in ("[]", "x", "[" * 100000):
+        assert row_from(text, "roof.csv") is None
+
+
+WRONG: dict[str, list[object]] = {
+    "as_of": ["", "2026-02-30", "20260301", "2026-3-1", "2026-W10-1", "1 Mar 2026"],
+    "forecast": ["soon", "9999-99-99"],
+    "likely": ["soon"],
+    "contract": ["", "x"],
+    "contract_name": ["", "a date"],
+    "previous_as_of": ["x"],
+    "money_scale": [0, -1, 7, 20, 10**12],
+    "day_minutes": [0, -480, 1441],
+    "late": [None, 10**19, 1.5, "1"],
+    "latest": [1],
+    "missed": [-1, 1],
+    "moved": [1],
+    "day_price": [-(10**19)],
+    "fault": ["refused"],
+    "milestone": [{"name": "M", "day": ""}, {"name": "M", "day": "x"}, {"name": "M"}],
+    "loads": [
+        [{"resource": "C", "title": "C", "week": week, "amount": amount}]
+        for week, amount in [("2026-W54", 1), ("2026-W1", 1), ("x", 1), ("2026-W10", 0)]
+    ],
+}
+
+
+@pytest.mark.parametrize("key", WRONG)
+def test_a_row_with_a_value_that_no_deck_has_is_none(decks: Path, key: str) -> None:
+    """Dates that are none, numbers out of range, scales, and halves of what belongs together."""
+    row = row_of(PROGRAMS, decks / "roof.csv", None, "roof.csv")
+    found = json.loads(row_text(row))
+    assert row_from(json.dumps(found), "roof.csv") == row
+    for value in WRONG[key]:
+        assert row_from(json.dumps({**found, key: value}), "roof.csv") is None, value
 
 
 def test_a_damaged_cache_is_not_used(decks: Path) -> None:
@@ -310,7 +490,7 @@ def test_wrong_words_are_refused(decks: Path, capsys: pytest.CaptureFixture[str]
     assert run(decks / "shed.csv", "--no-cache", "-o", decks / "shed.csv") == 2
     assert (decks / "shed.csv").read_bytes() == SHED.read_bytes()
     assert not (decks / "page.html").exists()
-    assert "would overwrite" in capsys.readouterr().err
+    assert "shed.csv: this is read by the same command" in capsys.readouterr().err
 
 
 def test_the_cache_is_that_of_the_user(monkeypatch: pytest.MonkeyPatch, tmp_path: Path) -> None:
@@ -338,7 +518,14 @@ def test_the_bar_is_for_terminals(capsys: pytest.CaptureFixture[str]) -> None:
 def rows_by_hosts(decks: Path, logins: Path, names: list[str]) -> list[str]:
     """Returns the codes of the CSV that two hosts made."""
     words: list[object] = [*[decks / name for name in names], "--csv", "--bin", BIN]
-    words += ["--hosts", logins, "--remote", f"{COMMAND} --bin {BIN}", "-o", decks / "page.html"]
+    words += [
+        "--hosts",
+        logins,
+        "--remote",
+        f"{COMMAND} --bin {BIN}",
+        "-o",
+        decks / "page.html",
+    ]
     assert run(*words) == 1
     rows = list(csv.DictReader(io.StringIO((decks / "page.csv").read_text())))
     assert rows[-1]["fault"].startswith(str(decks / "bad.csv"))
@@ -349,7 +536,12 @@ def many(decks: Path) -> list[str]:
     """Writes ten decks of tasks and returns the names of these, two more and a refused one."""
     for number in range(10):
         (decks / f"t{number}.csv").write_text(TASKS.format(code=f"P{number}"))
-    return [*[f"t{number}.csv" for number in range(10)], "shed.csv", "house.csv", "bad.csv"]
+    return [
+        *[f"t{number}.csv" for number in range(10)],
+        "shed.csv",
+        "house.csv",
+        "bad.csv",
+    ]
 
 
 WANTED = [*[f"P{number}" for number in range(10)], "SHED", "H1", ""]
@@ -384,7 +576,8 @@ def _server(folder: Path, port: int) -> Iterator[str]:
     for key in (host, user):
         if not key.exists():
             subprocess.run(
-                ["ssh-keygen", "-q", "-t", "ed25519", "-N", "", "-f", str(key)], check=True
+                ["ssh-keygen", "-q", "-t", "ed25519", "-N", "", "-f", str(key)],
+                check=True,
             )
     settings = folder / f"config{port}"
     settings.write_text(
@@ -438,21 +631,79 @@ def test_two_hosts_by_ssh(decks: Path) -> None:
     assert codes == WANTED
 
 
-def test_a_host_that_answers_nonsense_is_an_error(
-    decks: Path, capsys: pytest.CaptureFixture[str]
+BAD_HOSTS = {
+    "cat >/dev/null; echo 0 {}": "answered something that is no row",
+    "exit 3": "ended with status 3",
+    "cat >/dev/null": "did not answer for all of its decks",
+    "kill -9 $$": "ended with",
+}
+"""What a host does instead of its work, and how it is named."""
+
+
+def stub_hosts(decks: Path, wrong: str, names: str) -> Path:
+    """Returns a file of hosts by a stub for ssh, of which the one that is called `bad` fails."""
+    stub = decks / "stub-ssh"
+    stub.write_text(
+        f'#!/bin/sh\nhost=$1\nshift\n[ "$1" != -- ] || shift\n'
+        f'if [ "$host" = bad ]; then\n{wrong}\nelse\nexec sh -c "$*"\nfi\n'
+    )
+    stub.chmod(0o755)
+    (decks / "hosts").write_text("".join(f"1/{stub} {name}\n" for name in names.split()))
+    return decks / "hosts"
+
+
+@pytest.mark.parametrize("wrong", BAD_HOSTS)
+def test_a_host_that_fails_is_left_out_and_named(
+    decks: Path, wrong: str, capsys: pytest.CaptureFixture[str]
 ) -> None:
-    """What is no row of a deck that was asked for makes no page, and so does a host that fails."""
+    """Its decks go to the other host, and the page has all rows."""
     if shutil.which("parallel") is None:
         pytest.skip("no GNU parallel")
-    stub = decks / "stub-ssh"
-    (decks / "hosts").write_text(f"1/{stub} one\n")
-    words = (decks / "shed.csv", "--hosts", decks / "hosts", "-o", decks / "page.html")
-    for ending, said in (("echo 0 {}", "no row of a deck"), ("exit 3", "parallel ended with")):
-        stub.write_text(f"#!/bin/sh\ncat >/dev/null\n{ending}\n")
-        stub.chmod(0o755)
-        assert run(*words) == 1
-        assert said in capsys.readouterr().err
-        assert not (decks / "page.html").exists()
+    logins = stub_hosts(decks, wrong, "bad good")
+    assert rows_by_hosts(decks, logins, many(decks)) == WANTED
+    said = capsys.readouterr().err
+    assert "stub-ssh bad: " + BAD_HOSTS[wrong] in said
+
+
+def test_without_a_host_that_works_each_deck_has_a_fault(
+    decks: Path, capsys: pytest.CaptureFixture[str]
+) -> None:
+    """The page is written all the same."""
+    if shutil.which("parallel") is None:
+        pytest.skip("no GNU parallel")
+    logins = stub_hosts(decks, "exit 3", "bad")
+    words = (decks / "shed.csv", "--hosts", logins, "-o", decks / "page.html")
+    assert run(*words) == 1
+    assert "no host answered for this deck" in capsys.readouterr().err
+    assert "no host answered for this deck" in (decks / "page.html").read_text()
+
+
+def test_a_login_is_named_without_its_connections() -> None:
+    """The log of parallel has it so."""
+    assert host_of("4/planner@alpha") == "planner@alpha"
+    assert host_of("1/ssh -p 1 one") == "ssh -p 1 one"
+    assert host_of("/usr/bin/ssh one") == "/usr/bin/ssh one"
+
+
+def test_a_crash_of_a_worker_is_a_fault_of_its_deck(
+    decks: Path, monkeypatch: pytest.MonkeyPatch
+) -> None:
+    """One deck ends its process, another one raises an error: the others have their rows."""
+
+    def row_or_crash(programs: Programs, path: Path, previous: Path | None, name: str) -> Row:
+        if name == "shed.csv":
+            os.kill(os.getpid(), signal.SIGKILL)
+        if name == "roof.csv":
+            raise MemoryError("no more")
+        return row_of(programs, path, previous, name)
+
+    monkeypatch.setattr(work, "row_of", row_or_crash)
+    names = many(decks)
+    jobs = jobs_of(decks, *names[:10], "shed.csv", "roof.csv", "house.csv")
+    rows = rows_of(PROGRAMS, jobs, Cache(None, PROGRAMS), None, Counter())
+    assert [row.code for row in rows] == [*WANTED[:10], "", "", "H1"]
+    assert rows[10].fault == "the process that read this deck crashed"
+    assert rows[11].fault == "reading this deck failed: MemoryError: no more"
 
 
 def test_a_host_answers_a_row_for_each_line(
@@ -477,6 +728,7 @@ def test_without_parallel_there_are_no_hosts(
 ) -> None:
     """The line says how to get it."""
     monkeypatch.setenv("PATH", str(decks))
+    (decks / "hosts").write_text("alpha\n")
     words = (decks / "shed.csv", "--hosts", decks / "hosts", "-o", decks / "page.html")
     assert run(*words, "--bin", BIN) == 2
     assert "apt install parallel" in capsys.readouterr().err
@@ -496,7 +748,13 @@ def test_an_interrupt_leaves_no_page(decks: Path, whole_group: bool) -> None:
             "exec sleep 900\n"
         )
         program.chmod(0o755)
-    words = [str(COMMAND), str(decks / "shed.csv"), "--no-cache", "--bin", str(decks / "bin")]
+    words = [
+        str(COMMAND),
+        str(decks / "shed.csv"),
+        "--no-cache",
+        "--bin",
+        str(decks / "bin"),
+    ]
     words += ["-o", str(decks / "page.html")]
     words = [*WITH_INTERRUPTS, *words]
     with subprocess.Popen(words, stderr=subprocess.PIPE, start_new_session=True) as running:
@@ -510,17 +768,29 @@ def test_an_interrupt_leaves_no_page(decks: Path, whole_group: bool) -> None:
         _, said = running.communicate(timeout=600)
     assert (running.returncode, said) == (1, b"pert-portfolio: interrupted\n")
     assert not (decks / "page.html").exists()
-    with pytest.raises(ProcessLookupError):
-        os.kill(int((decks / "begun").read_text()), 0)
+    assert left_after(WITHIN, [int((decks / "begun").read_text())]) == []
 
 
 def test_a_worker_refuses_what_is_no_deck() -> None:
     """Standard input of a host has lines of JSON."""
-    words = [sys.executable, "-m", "pert_companion", "portfolio", "--worker", "--bin", str(BIN)]
+    words = [
+        sys.executable,
+        "-m",
+        "pert_companion",
+        "pert-portfolio",
+        "--worker",
+        "--bin",
+        str(BIN),
+    ]
     environment = {**os.environ, "PYTHONPATH": str(TOP / "companion" / "src")}
     for text in ('{"number": "x", "name": "a", "files": {}}\n', "nonsense\n", "[1]\n"):
         done = subprocess.run(
-            words, input=text, capture_output=True, text=True, check=False, env=environment
+            words,
+            input=text,
+            capture_output=True,
+            text=True,
+            check=False,
+            env=environment,
         )
         assert done.returncode == 2 and done.stderr.count("\n") == 1, done.stderr
         assert "no deck" in done.stderr and done.stdout == ""

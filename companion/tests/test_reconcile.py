@@ -3,33 +3,19 @@
 from dataclasses import replace
 from datetime import date, datetime
 
-from pert_companion.calendar import Calendar
-from pert_companion.reconcile import reconcile
-from pert_companion.schedule import ScheduledTask
-from pert_companion.sidefile import SideFile, SideTask
+from pert_companion.analysis.scheduling import TaskDates
+from pert_companion.importing.reconcile import reconcile
+from pert_companion.model.calendar import Calendar
+from pert_companion.model.sidefile import SideFile, SideTask
 
 CALENDAR = Calendar()
 MONDAY = datetime(2026, 9, 7, 8)
 FRIDAY = datetime(2026, 9, 11, 17)
 
 
-def scheduled(code: str, start: datetime, finish: datetime, minutes: int = 2400) -> ScheduledTask:
-    """Returns a task of a schedule."""
-    return ScheduledTask(
-        code=code,
-        uid=code,
-        row=None,
-        name=code,
-        outline=(),
-        normal_minutes=minutes,
-        chosen_minutes=minutes,
-        start=start,
-        finish=finish,
-        total_float_minutes=0,
-        cost=0,
-        is_critical=True,
-        is_milestone=minutes == 0,
-    )
+def scheduled(code: str, start: datetime, finish: datetime, minutes: int = 2400) -> TaskDates:
+    """Returns the dates of a task in a schedule."""
+    return TaskDates(code, start, finish, minutes == 0)
 
 
 TASKS = (scheduled("A", MONDAY, FRIDAY), scheduled("M", MONDAY, MONDAY, 0))
@@ -59,7 +45,10 @@ def test_starts_and_finishes_are_compared() -> None:
     )
     short = replace(same, listed_finish=date(2026, 9, 10))
     found = reconcile(side_file(short, replace(M, listed_finish=date(2026, 9, 9))), TASKS)
-    assert [difference.field for difference in found.differences] == ["finish", "finish"]
+    assert [difference.field for difference in found.differences] == [
+        "finish",
+        "finish",
+    ]
     assert found.differences[1].line() == (
         "id 8 Done, finish 2026-09-09 in the file, 2026-09-07 by its links"
     )
@@ -80,5 +69,8 @@ def test_a_file_without_dates_is_said() -> None:
     assert reconcile(side_file(A, M), TASKS).summary() == (
         "the file has no dates of tasks to compare with"
     )
-    both = [replace(A, listed_start=MONDAY.date()), replace(M, listed_start=MONDAY.date())]
+    both = [
+        replace(A, listed_start=MONDAY.date()),
+        replace(M, listed_start=MONDAY.date()),
+    ]
     assert reconcile(side_file(*both), TASKS).summary() == ("all 2 tasks have your planner's dates")

@@ -1,20 +1,29 @@
 """What is left of each activity, by the stated rule, one case after the other."""
 
+import re
 from dataclasses import replace
 from datetime import date
 from decimal import Decimal
 from pathlib import Path
 
 import pytest
-from running import CASES, HOUSE, PROGRAMS, imported, plan_of, run_words
 
-from pert_companion.calendar import Calendar
 from pert_companion.cli import remaining as command
-from pert_companion.deck import Deck, parse_deck
-from pert_companion.errors import InputError
-from pert_companion.opening import OpenPlan, open_plan
-from pert_companion.remaining import Basis, Left, Remaining, Said, State, read_left, remaining
-from pert_companion.sidefile import SideFile, SideTask, side_path
+from pert_companion.model.calendar import Calendar
+from pert_companion.model.deck import Deck, parse_deck
+from pert_companion.model.errors import InputError
+from pert_companion.model.sidefile import SideFile, SideTask, side_path
+from pert_companion.state.project import ProjectState
+from pert_companion.state.remaining import (
+    Basis,
+    Left,
+    Remaining,
+    Said,
+    State,
+    read_left,
+    remaining,
+)
+from running import CASES, HOUSE, PROGRAMS, imported, opened, plan_of, run_words
 
 PLAN = """PROJECT,P,s,e,2026-03-02,1,,Plan,2
 ASOF,2026-03-12
@@ -35,7 +44,7 @@ END
 """
 
 
-def rest_of(plan: OpenPlan, said: dict[str, Said] | None = None) -> Remaining:
+def rest_of(plan: ProjectState, said: dict[str, Said] | None = None) -> Remaining:
     """Returns what is left of a plan."""
     return remaining(plan.deck, plan.side, said)
 
@@ -45,7 +54,7 @@ def left_of(rest: Remaining, code: str) -> Left:
     return next(left for left in rest.left if left.code == code)
 
 
-def with_side(plan: OpenPlan, **fields: object) -> SideFile:
+def with_side(plan: ProjectState, **fields: object) -> SideFile:
     """Returns the side file of a plan with other fields of its first task."""
     first, *others = plan.side.tasks
     return replace(plan.side, tasks=(replace(first, **fields), *others))
@@ -175,7 +184,7 @@ def test_lists_that_make_no_sense(code: str, said: Said, why: str) -> None:
 
 def test_a_list_that_names_finished_work() -> None:
     """SITE of the house is finished."""
-    plan = open_plan(HOUSE)
+    plan = opened(HOUSE)
     with pytest.raises(InputError, match="SITE, which is finished"):
         remaining(plan.deck, plan.side, {"SITE": Said(1)})
 
@@ -187,7 +196,15 @@ def test_lists_of_what_is_left() -> None:
         "B": Said(4, 2),
         "C": Said(5),
     }
-    for bad in (b"A\n", b"A,1\nA,2\n", b"A,x\n", b"A,1.5\n", b"A,1,2,3\n", b"A,-1\n", b"\xff,1\n"):
+    for bad in (
+        b"A\n",
+        b"A,1\nA,2\n",
+        b"A,x\n",
+        b"A,1.5\n",
+        b"A,1,2,3\n",
+        b"A,-1\n",
+        b"\xff,1\n",
+    ):
         with pytest.raises(InputError, match="^x: "):
             read_left(bad, "x")
 
@@ -204,7 +221,10 @@ def test_late(tmp_path: Path) -> None:
     """10 % of 40 days done in a month: 36 days are left, as a planner says."""
     plan = imported(tmp_path, "late.csv", "--as-of", "2026-10-01")
     rest = rest_of(plan)
-    assert [(left.code, left.normal) for left in rest.left] == [("Fabricate", 36), ("Install", 10)]
+    assert [(left.code, left.normal) for left in rest.left] == [
+        ("Fabricate", 36),
+        ("Install", 10),
+    ]
 
 
 def test_on_time(tmp_path: Path) -> None:
@@ -218,10 +238,10 @@ def test_on_time(tmp_path: Path) -> None:
 
 def test_done_and_early() -> None:
     """Nothing is left of a finished house; of one ahead of the plan the rest of the plan is."""
-    done = rest_of(open_plan(CASES / "done.csv"))
+    done = rest_of(opened(CASES / "done.csv"))
     assert {left.normal for left in done.left} == {0}
     assert PROGRAMS.normal(done.deck).length == 0
-    early = rest_of(open_plan(CASES / "early.csv"))
+    early = rest_of(opened(CASES / "early.csv"))
     assert PROGRAMS.normal(early.deck).length == 10 + 5 + 6 + 3
     assert left_of(early, "ORDER").normal == 25 - 8
 
@@ -278,9 +298,9 @@ def test_command_writes_the_deck_with_its_side_file(
     status, output, errors = run(capfdbinary, tmp_path / "late.csv", "--left", left, "-o", rest)
     assert status == 0, errors
     assert "list of what is left" in output
-    opened = open_plan(rest)
-    assert opened.has_side_file and opened.side.deck_name == "rest.csv"
-    assert opened.deck.tasks[0].normal == 30
+    state = opened(rest)
+    assert state.has_side_file and state.side.deck_name == "rest.csv"
+    assert state.deck.tasks[0].normal == 30
     alone = tmp_path / "alone.csv"
     assert run(capfdbinary, HOUSE, "-o", alone)[0] == 0
     assert not side_path(alone).exists()
@@ -296,17 +316,17 @@ def test_command_refuses_to_write_over_its_deck(
     deck.write_bytes(HOUSE.read_bytes())
     status, _, errors = run(capfdbinary, deck, "-o", deck)
     assert status == 2
-    assert "is the deck itself" in errors
+    assert "this is read by the same command" in errors
     assert deck.read_bytes() == HOUSE.read_bytes()
 
 
 def test_command_names_a_side_file_that_does_not_fit(
     tmp_path: Path, capfdbinary: pytest.CaptureFixture[bytes]
 ) -> None:
-    """It is not used, and that is said."""
+    """The line says which card differs."""
     imported(tmp_path, "late.csv", "--as-of", "2026-10-01")
     deck = tmp_path / "late.csv"
-    deck.write_bytes(deck.read_bytes().replace(b",Install\n", b",Fit\n"))
+    deck.write_bytes(re.sub(rb"\nAFTER,([^,]*),.*\n", rb"\n", deck.read_bytes(), count=1))
     status, _, errors = run(capfdbinary, deck)
-    assert status == 0
-    assert "it is not used" in errors
+    assert status == 1
+    assert "it does not fit late.csv: the links of TASK " in errors

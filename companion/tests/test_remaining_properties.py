@@ -16,12 +16,12 @@ from hypothesis import given, settings
 from hypothesis import strategies as st
 from status_decks import random_network, random_tasks, side_file_of
 
-from pert_companion.cards import ActivityCard, TaskCard
-from pert_companion.deck import Deck, parse_deck
-from pert_companion.programs import Programs
-from pert_companion.remaining import Remaining, State, remaining
-from pert_companion.results import cost_at
-from pert_companion.scheduling import implied_side_file
+from pert_companion.model.cards import ActivityCard, TaskCard
+from pert_companion.model.deck import Deck, parse_deck
+from pert_companion.programs.client import Programs
+from pert_companion.programs.results import cost_at
+from pert_companion.state.implied import implied_side_file
+from pert_companion.state.remaining import Remaining, State, remaining
 
 EXAMPLES = int(os.environ.get("REMAINING_EXAMPLES", "150"))
 """How many decks; `make soak` tries 10,000."""

@@ -11,10 +11,10 @@ from pathlib import Path
 import pytest
 
 from page.certificates import HOUSE, PROGRAMS, bench, house_with_terms
+from page.reports import gathered_of
 from pert_companion.cli import remaining, report, schedule
 from pert_companion.cli.common import run_command
-from pert_companion.page.gathering import Wishes, gather
-from pert_companion.page.verify import build_verify_page
+from pert_companion.page.verify import verify_page
 from running import WITH_INTERRUPTS
 
 HERE = Path(__file__).resolve().parent
@@ -57,8 +57,8 @@ def test_help_says_which_length_a_page_opens_with(has_terms: bool, tmp_path: Pat
     for word in ("", "--optimum", "--normal") if has_terms else ("", "--normal"):
         words = [word] if word else []
         options = report.parser().parse_args([str(deck), "-o", "page.html", *words])
-        wishes = Wishes(optimum=options.optimum, normal=options.normal)
-        opened[word] = gather(PROGRAMS, deck, wishes, lambda text: None).length
+        wishes = {"optimum": options.optimum, "normal": options.normal}
+        opened[word] = gathered_of(deck, **wishes).length
     said = " ".join(report.parser().format_help().split())
     if has_terms:
         assert opened[""] == opened["--optimum"] != opened["--normal"]
@@ -99,7 +99,7 @@ def test_a_title_with_a_next_line_character(
 
 def test_the_page_that_checks_pages(tmp_path: Path, capsys: pytest.CaptureFixture[str]) -> None:
     assert run("--verify-page", tmp_path / "verify.html") == 0
-    assert (tmp_path / "verify.html").read_text("utf-8") == build_verify_page()
+    assert (tmp_path / "verify.html").read_text("utf-8") == verify_page().decode()
     assert capsys.readouterr().err.endswith("the page that checks a report or a certificate\n")
 
 
@@ -109,9 +109,13 @@ def test_the_page_that_checks_pages(tmp_path: Path, capsys: pytest.CaptureFixtur
         ([], 2, "name a deck and a page: pert-report DECK -o PAGE"),
         ([HOUSE], 2, "name a deck and a page: pert-report DECK -o PAGE"),
         (["none.csv", "-o", "x.html"], 1, "none.csv: No such file or directory"),
-        ([HOUSE, "-o", "x.html", "--length", 26], 1, f"{HOUSE}: length 26 is outside 18 to 25"),
+        (
+            [HOUSE, "-o", "x.html", "--length", 26],
+            1,
+            "there is no schedule of 26 days: the shortest",
+        ),
         ([HOUSE, "-o", "no/x.html"], 1, "No such file or directory"),
-        ([HOUSE, "-o", "x.html", "--length", "x"], 2, "'x' is no length in whole units"),
+        ([HOUSE, "-o", "x.html", "--length", "x"], 2, "'x' is no length in days such as 76"),
     ],
 )
 def test_faults_are_one_line(
@@ -157,18 +161,16 @@ def test_a_certificate_that_is_not_confirmed_gives_no_page(
 def test_progress_is_shown_on_a_terminal_alone(monkeypatch: pytest.MonkeyPatch) -> None:
     shown = io.StringIO()
     monkeypatch.setattr(sys, "stderr", shown)
-    meter = report.Meter(True)
-    meter.begun -= 10
-    meter("certify: segment 3, length 30, 50 %")
-    meter("too soon after the one before, 51 %")
-    meter.clear()
+    with report.Meter(True) as meter:
+        meter.begun -= 10
+        meter("certify: segment 3, length 30, 50 %")
+        meter("too soon after the one before, 51 %")
     assert shown.getvalue() == (
         "\r\x1b[Kcertify: segment 3, length 30, 50 %, about 10 s left\r\x1b[K\r"
     )
     assert report.Meter(True).estimate("certify: segment 1, length 30, 4 %", 0) == ""
-    quiet = report.Meter(False)
-    quiet("certify: segment 3, length 30, 50 %")
-    quiet.clear()
+    with report.Meter(False) as quiet:
+        quiet("certify: segment 3, length 30, 50 %")
     assert shown.getvalue().count("certify") == 1
 
 
@@ -185,7 +187,16 @@ def test_ctrl_c_leaves_no_half_file(tmp_path: Path) -> None:
     )
     (folder / "pert").chmod(0o755)
     (folder / "pert_check").symlink_to(PROGRAMS.find("pert_check"))
-    command = [sys.executable, "-m", "pert_companion.cli.report", "plan.csv", "-o", "plan.html"]
+    command = [
+        sys.executable,
+        "-m",
+        "pert_companion",
+        "pert-report",
+        "plan.csv",
+        "-o",
+        "plan.html",
+        "--overwrite",
+    ]
     running = subprocess.Popen(
         [*WITH_INTERRUPTS, *command, "--bin", str(folder)],
         cwd=tmp_path,

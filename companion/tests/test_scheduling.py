@@ -3,20 +3,19 @@
 from dataclasses import replace
 from datetime import date
 from decimal import Decimal
-from fractions import Fraction
-from pathlib import Path
 
 from hypothesis import assume, given
 from plans import Feature, plans
 from test_carry import DATES, PROGRAMS, early_dates, has_exact_links, property_settings
 
-from pert_companion.calendar import Calendar
+from pert_companion.analysis.earned_value import measured_packages
+from pert_companion.analysis.measuring import all_pieces, planned_values
+from pert_companion.analysis.money import money
+from pert_companion.analysis.scheduling import in_one_piece, normal_schedule, span
 from pert_companion.carry import carry
-from pert_companion.earned_value import planned_tasks
-from pert_companion.money import money_over_time
-from pert_companion.opening import OpenPlan
-from pert_companion.plan import Lag, Link, LinkKind, Plan, Task
-from pert_companion.scheduling import in_one_piece, normal_tasks, span
+from pert_companion.model.calendar import Calendar
+from pert_companion.model.plan import Lag, Link, LinkKind, Plan, Task
+from pert_companion.state.project import ProjectState
 
 DAY = 480
 
@@ -36,7 +35,10 @@ FINISHES = Plan(
 def test_a_task_in_parts_that_ends_after_another_is_in_one_piece() -> None:
     """B ends 10 days after A, C begins 2 days before that: B's parts have no time between them."""
     carried = carry(FINISHES)
-    tasks = {task.code: task for task in normal_tasks(PROGRAMS, carried.deck, carried.side)}
+    tasks = {
+        task.code: task
+        for task in normal_schedule(ProjectState(PROGRAMS, carried.deck, carried.side).plan).tasks
+    }
     assert carried.side.tasks[1].parts == ("B", "B.2")
     assert tasks["B"].start.date() == date(2026, 3, 12)
     assert tasks["B"].finish.date() == date(2026, 3, 20)
@@ -60,7 +62,7 @@ def test_tasks_have_the_dates_of_the_calendar(plan: Plan) -> None:
     for entry in carried.side.tasks:
         start, _ = span(entry, cards, point.events, point.durations)
         assert begins[entry.parts[0]] == start, entry.code
-    for task in normal_tasks(PROGRAMS, carried.deck, carried.side):
+    for task in normal_schedule(ProjectState(PROGRAMS, carried.deck, carried.side).plan).tasks:
         if not task.is_milestone:
             assert task.start.date() == dates[task.uid].first_day(plan.calendar), task.uid
             assert task.finish.date() == dates[task.uid].last_day(plan.calendar), task.uid
@@ -74,10 +76,9 @@ def test_money_and_earned_value_follow_the_dates_of_one_piece() -> None:
     cost = {"A": 500, "B": 700, "C": 20}
     tasks = tuple(replace(task, cost=Decimal(cost[task.uid])) for task in FINISHES.tasks())
     carried = carry(replace(FINISHES, outline=tasks))
-    plan = OpenPlan(Path("plan.csv"), b"", carried.deck, carried.side, True)
-    planned = planned_tasks(PROGRAMS, plan)
-    sums = [sum(task.value_at(Fraction(day)) for task in planned.values()) for day in (5, 10, 15)]
-    assert sums == [500, 700, 1220]
-    money = {point.day: point.amount for point in money_over_time(PROGRAMS, plan).planned}
+    plan = ProjectState(PROGRAMS, carried.deck, carried.side)
+    pieces = all_pieces(list(measured_packages(plan, plan).values()))
+    assert planned_values(pieces, (5, 10, 15)) == [500, 700, 1220]
+    planned_money = {point.day: point.amount for point in money(plan).planned}
     days = (date(2026, 3, 6), date(2026, 3, 11), date(2026, 3, 13), date(2026, 3, 20))
-    assert [money[day] for day in days] == [500, 500, 700, 1220]
+    assert [planned_money[day] for day in days] == [500, 500, 700, 1220]

@@ -4,30 +4,24 @@ import json
 from dataclasses import replace
 from datetime import date
 from decimal import Decimal
-from pathlib import Path
 from typing import Any
 
 import pytest
 from hypothesis import given, settings
 from hypothesis import strategies as st
 
-from pert_companion.calendar import STANDARD_DAY, Calendar, CalendarException
-from pert_companion.deck import checksum
-from pert_companion.errors import InputError
-from pert_companion.plan import Baseline, Constraint, ConstraintKind
-from pert_companion.sidefile import (
-    MAX_BYTES,
-    LaterVersionError,
+from pert_companion.model.calendar import STANDARD_DAY, Calendar, CalendarException
+from pert_companion.model.errors import InputError
+from pert_companion.model.plan import Baseline, Constraint, ConstraintKind
+from pert_companion.model.sidefile import (
     SideFile,
     SideGroup,
     SideTask,
-    find,
+    as_of,
     from_json,
-    side_path,
     to_json,
 )
 
-DECK = b"PROJECT,P,s,e,2026-09-01,1,,Wing\n"
 TASK = SideTask(
     code="STEEL",
     uid="7",
@@ -49,7 +43,7 @@ TASK = SideTask(
     baselines=(Baseline(0, date(2026, 9, 1), None, 480, Decimal("10.50")),),
 )
 SIDE = SideFile(
-    deck_sha256=checksum(DECK),
+    deck_sha256="",
     deck_name="wing.csv",
     start=date(2026, 9, 1),
     calendar=Calendar(
@@ -59,13 +53,18 @@ SIDE = SideFile(
         )
     ),
     unit_minutes=480,
-    tasks=(TASK, replace(TASK, code="B", parts=("B",), start_moment=None, finish_moment=None)),
+    tasks=(
+        TASK,
+        replace(TASK, code="B", parts=("B",), start_moment=None, finish_moment=None),
+    ),
     groups=(SideGroup("W", "1", "Wing", 1), SideGroup("W.1", "2", "Frame")),
     waits=("STEEL.w1",),
     currency="EUR",
     data_date=date(2026, 9, 4),
     source="mspdi",
     source_name="wing.xml",
+    unit_days=1,
+    cards={"STEEL": "12345678 9abcdef0"},
 )
 
 
@@ -88,38 +87,40 @@ def test_what_is_written_is_read_back() -> None:
     data = to_json(SIDE)
     assert from_json(data, "wing.json") == SIDE
     assert to_json(from_json(data, "wing.json")) == data
-    empty = replace(SIDE, tasks=(), groups=(), waits=())
+    empty = replace(SIDE, tasks=(), groups=(), waits=(), cards={})
     assert from_json(to_json(empty), "wing.json") == empty
 
 
-def test_it_is_found_next_to_its_deck(tmp_path: Path) -> None:
-    """A side file is used only if it fits the bytes of its deck, and else says why not."""
-    deck = tmp_path / "wing.csv"
-    deck.write_bytes(DECK)
-    assert side_path(deck) == tmp_path / "wing.json"
-    assert find(deck, DECK) == (None, "")
-    side_path(deck).write_bytes(to_json(SIDE))
-    assert find(deck, DECK) == (SIDE, "")
-    side, why = find(deck, DECK + b"\n")
-    assert side is None and "another content of wing.csv" in why
-    side_path(deck).write_bytes(b"{}")
-    side, why = find(deck, DECK)
-    assert side is None and why.endswith("wing.json: version: it is missing; it is not used")
-    side_path(deck).write_bytes(changed(version=2))
-    with pytest.raises(LaterVersionError, match="version 2 of side files"):
-        find(deck, DECK)
-    side_path(deck).unlink()
-    side_path(deck).mkdir()
-    assert find(deck, DECK)[1].endswith("Is a directory; it is not used")
-    assert find(tmp_path / "wing.json", DECK) == (None, "")
+def test_version_1_is_read() -> None:
+    """It has the checksum of the deck's bytes, and neither digests nor days of a unit."""
+    content = json.loads(to_json(SIDE))
+    content = {key: content[key] for key in content if key not in ("cards", "unit_days")}
+    old = json.dumps({**content, "version": 1, "sha256": "0" * 64}).encode()
+    assert from_json(old, "wing.json") == replace(SIDE, deck_sha256="0" * 64, cards=None)
 
 
-def test_a_huge_side_file_is_not_read(tmp_path: Path) -> None:
-    """More than the most bytes are not read at all."""
-    deck = tmp_path / "wing.csv"
-    with side_path(deck).open("wb") as file:
-        file.truncate(MAX_BYTES + 1)
-    assert "longer than" in find(deck, DECK)[1]
+def test_names_that_are_not_utf_8_are_read_back() -> None:
+    """A byte of a name that is no text is replaced in the side file."""
+    data = to_json(replace(SIDE, deck_name="a\udcff.csv", source_name="\udc80.xml"))
+    read = from_json(data, "wing.json")
+    assert (read.deck_name, read.source_name) == ("a\ufffd.csv", "\ufffd.xml")
+
+
+def test_progress_of_an_earlier_day() -> None:
+    """Percentages and remaining durations after the day are not known; finished tasks keep them."""
+    done = replace(TASK, percent=Decimal(100), remaining=0, actual_finish=date(2026, 9, 2))
+    before = as_of(replace(SIDE, tasks=(TASK, done)), date(2026, 9, 3))
+    assert before.data_date == date(2026, 9, 2)
+    assert before.tasks == (replace(TASK, percent=None, remaining=None), done)
+    first = as_of(replace(SIDE, tasks=(TASK, done)), date(2026, 9, 1)).tasks
+    assert first[1] == replace(done, percent=None, remaining=None, actual_finish=None)
+    not_begun = as_of(
+        replace(SIDE, tasks=(replace(TASK, actual_start=date(2026, 9, 2)),)),
+        date(2026, 9, 1),
+    )
+    assert not_begun.tasks[0].actual_start is None
+    later = as_of(SIDE, date(2026, 9, 20))
+    assert (later.data_date, later.tasks) == (date(2026, 9, 19), SIDE.tasks)
 
 
 @pytest.mark.parametrize(
@@ -137,6 +138,18 @@ def test_a_huge_side_file_is_not_read(tmp_path: Path) -> None:
         (b'{"version": true}', "version: it is no whole number"),
         (b'{"version": 0}', "version: 0 is not from 1"),
         (b'{"version": 1}', "sha256: it is missing"),
+        (b'{"version": 2}', "deck: it is missing"),
+        (
+            changed(version=3),
+            "version 3 of side files; this program reads up to version 2",
+        ),
+        (
+            changed(start="0001-01-01"),
+            "start: 0001-01-01 is not in the years 1900 to 2199",
+        ),
+        (changed(data_date="2200-01-01"), "data_date: 2200-01-01 is not in the years"),
+        (changed(cards=["A"]), "cards: it is no object"),
+        (changed(cards={"A": 1}), "cards: it is no text"),
         (changed(other=1), "unknown key 'other'"),
         (changed(start="2026-02-30"), "start: '2026-02-30' is no date"),
         (changed(start="20260230"), "start: '20260230' is no date"),
@@ -144,16 +157,25 @@ def test_a_huge_side_file_is_not_read(tmp_path: Path) -> None:
         (changed(tasks={}), "tasks: it is no list"),
         (changed(tasks=[3]), "tasks[0] is no object"),
         (changed(waits=["STEEL"]), "the card 'STEEL' has more than one use"),
-        (changed(groups=[{"code": "A", "uid": "", "name": ""}] * 2), "two groups have the code"),
+        (
+            changed(groups=[{"code": "A", "uid": "", "name": ""}] * 2),
+            "two groups have the code",
+        ),
         (changed(calendar=None), "calendar is no object"),
         (changed(currency="x" * 100_001), "more than 100000 characters"),
         (changed(currency="\ud800"), "half of a surrogate pair"),
         (changed_task(parts=[]), "tasks[0]: the first of its parts is not its code"),
         (changed_task(percent="1e9"), "tasks[0].percent: '1e9' is no decimal number"),
-        (changed_task(constraint={"kind": "soon"}), "constraint: unknown constraint 'soon'"),
+        (
+            changed_task(constraint={"kind": "soon"}),
+            "constraint: unknown constraint 'soon'",
+        ),
         (changed_task(normal=-1), "tasks[0].normal: -1 is not from 0"),
         (changed_task(row="3"), "tasks[0].row: it is no whole number"),
-        (changed_task(baselines=[{"number": 0, "x": 1}]), "baselines[0]: unknown key 'x'"),
+        (
+            changed_task(baselines=[{"number": 0, "x": 1}]),
+            "baselines[0]: unknown key 'x'",
+        ),
     ],
 )
 def test_hostile_json_is_one_line(data: bytes, line: str) -> None:

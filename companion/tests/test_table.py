@@ -9,9 +9,9 @@ from pathlib import Path
 import pytest
 
 from lists import comparable
-from pert_companion.errors import InputError, UsageError
-from pert_companion.losses import LossKind
-from pert_companion.plan import (
+from pert_companion.model.errors import InputError, UsageError
+from pert_companion.model.losses import LossKind
+from pert_companion.model.plan import (
     Baseline,
     Constraint,
     ConstraintKind,
@@ -25,8 +25,9 @@ from pert_companion.plan import (
     ResourceKind,
     Task,
 )
+from pert_companion.model.source import Source
 from pert_companion.readers import table
-from pert_companion.readers.base import ReaderOptions, Reading, Source
+from pert_companion.readers.base import ReaderOptions, Reading
 
 HERE = Path(__file__).parent
 DAY = 480
@@ -117,7 +118,11 @@ def test_list_with_codes() -> None:
 @pytest.mark.parametrize(
     ("name", "index", "wanted"),
     [
-        ("fri", 0, Progress(Decimal(100), date(2026, 9, 1), date(2026, 9, 4), None, Decimal(100))),
+        (
+            "fri",
+            0,
+            Progress(Decimal(100), date(2026, 9, 1), date(2026, 9, 4), None, Decimal(100)),
+        ),
         ("late", 0, Progress(Decimal(10), date(2026, 9, 1))),
         ("ontime", 0, Progress(Decimal(75), date(2026, 9, 1))),
     ],
@@ -155,7 +160,10 @@ def test_pause_case() -> None:
 def test_listed_dates_of_a_case() -> None:
     """Start and Finish are kept, so that `carry` can compare them."""
     task = tasks(read_file("cases/manual.csv"))[1]
-    assert (task.listed_start, task.listed_finish) == (date(2026, 11, 2), date(2026, 11, 2))
+    assert (task.listed_start, task.listed_finish) == (
+        date(2026, 11, 2),
+        date(2026, 11, 2),
+    )
 
 
 def test_constraint_of_a_case() -> None:
@@ -271,7 +279,12 @@ def test_a_column_of_groups() -> None:
 def test_levels_that_are_none() -> None:
     """A row without a level is on the level of the row above it; the group column is not read."""
     reading = read("Level,Name,Duration,Phase\n1,House,,A\n2,Walls,5,A\nx,Roof,3,A\n99,Attic,2,A\n")
-    assert [entry.parent for entry in reading.plan.outline] == [None, "row 2", "row 2", "row 2"]
+    assert [entry.parent for entry in reading.plan.outline] == [
+        None,
+        "row 2",
+        "row 2",
+        "row 2",
+    ]
     assert [loss.kind for loss in reading.losses] == [LossKind.GROUP] * 2
     assert "column 'Phase' is not read, since the list has an outline" in reading.plan.notes
 
@@ -300,7 +313,13 @@ def test_outline_codes_that_several_tasks_have() -> None:
         "WBS,Activity ID,Name,Duration\nA,,Ground,\nA,A10,Dig,2\nA,A20,Drain,1\nB,B10,Lawn,1\n"
     )
     shown = [(entry.uid, entry.parent) for entry in reading.plan.outline]
-    assert shown == [("row 2", None), ("A10", "row 2"), ("A20", "row 2"), ("B", None), ("B10", "B")]
+    assert shown == [
+        ("row 2", None),
+        ("A10", "row 2"),
+        ("A20", "row 2"),
+        ("B", None),
+        ("B10", "B"),
+    ]
     assert [task.code for task in tasks(reading)] == ["A10", "A20", "B10"]
 
 
@@ -438,7 +457,10 @@ def test_milestones() -> None:
 def test_most_likely_durations_alone() -> None:
     """Without a column of durations the most likely one is the normal one."""
     reading = read("Name,Opt,Most Likely,Pess\nA,1,2,4\nB,,3,\n")
-    assert [task.estimates for task in tasks(reading)] == [Estimates(DAY, 2 * DAY, 4 * DAY), None]
+    assert [task.estimates for task in tasks(reading)] == [
+        Estimates(DAY, 2 * DAY, 4 * DAY),
+        None,
+    ]
 
 
 def test_estimates() -> None:
@@ -488,7 +510,10 @@ def test_crash_fields_by_option() -> None:
     text = "Name,Duration,Duration1,Cost,Cost1\nA,5 days,3 days,100,200\nB,5 days,0 days,100,0\n"
     reading = read(text, crash_field="Duration1", crash_cost_field="Cost1")
     assert reading.losses == ()
-    assert [task.crash for task in tasks(reading)] == [Crash(3 * DAY, cost=Decimal(200)), None]
+    assert [task.crash for task in tasks(reading)] == [
+        Crash(3 * DAY, cost=Decimal(200)),
+        None,
+    ]
     assert "column 'Duration1' is not read" in read(text).plan.notes
 
 
@@ -541,7 +566,10 @@ def test_everything_of_a_task() -> None:
     first, second = tasks(reading)
     assert first.manual and not second.manual
     assert first.progress == Progress(
-        Decimal(40), remaining=3 * DAY, actual_cost=Decimal(40), remaining_cost=Decimal(60)
+        Decimal(40),
+        remaining=3 * DAY,
+        actual_cost=Decimal(40),
+        remaining_cost=Decimal(60),
     )
     wanted = Baseline(0, date(2026, 3, 2), date(2026, 3, 6), 5 * DAY, Decimal(100))
     assert first.baselines == (wanted,)
@@ -643,7 +671,11 @@ def test_links_that_lead_nowhere() -> None:
         ("row 6", "Twin", "2 rows have this name"),
         ("row 8", "6", "one of the rows that it links is not carried over"),
         ("row 8", "2FS+x", "lag: this is no duration; the link is left out"),
-        ("row 8", "2FS+2 moons", "lag: 'moons' is no unit of time; the link is left out"),
+        (
+            "row 8",
+            "2FS+2 moons",
+            "lag: 'moons' is no unit of time; the link is left out",
+        ),
         (
             "row 8",
             "2FS+5e%",
@@ -793,7 +825,14 @@ def test_lists_that_are_none() -> None:
 def test_character_sets() -> None:
     """Marks at the top, UTF-16 without one, cp1252, and the user's; wrong ones are named."""
     text = "Name;Dauer\nÜbergabe;5\n"
-    for encoding in ("utf-8-sig", "utf-16", "utf-16-le", "utf-16-be", "cp1252", "utf-32"):
+    for encoding in (
+        "utf-8-sig",
+        "utf-16",
+        "utf-16-le",
+        "utf-16-be",
+        "cp1252",
+        "utf-32",
+    ):
         assert tasks(read(text.encode(encoding)))[0].name == "Übergabe"
     assert tasks(read(text.encode("cp437"), encoding="cp437"))[0].name == "Übergabe"
     with pytest.raises(InputError, match="byte 11 is not utf-8: export in UTF-8, or name"):
@@ -836,3 +875,47 @@ def test_kinds_of_entries() -> None:
     assert isinstance(outline[0], Group) and outline[0].row == 1
     assert read("Level,Name,Duration\n1,House,\n2,Dig,5\n").plan.name == "House"
     assert LinkKind.FINISH_START.value == "FS"
+
+
+def test_headings_with_currencies_and_units() -> None:
+    """`Cost €`, `Budget CHF`, `Cost k€`, `Crash days` and `Duration h` mean their fields."""
+    head = "Code,Name,Duration h,Crash days,Cost k€,Slope €,Depends on\n"
+    text = f"{head}A,Dig,80,6,2,100,\nB,Pour,8,,,,A\n"
+    plan = read_list_of(text)
+    first, second = plan.tasks()
+    assert (first.minutes, first.cost) == (10 * 480, Decimal(2000))
+    assert first.crash == Crash(6 * 480, slope=Decimal(100))
+    assert second.minutes == 480
+    assert [(link.predecessor, link.successor) for link in plan.links] == [("A", "B")]
+    for heading in ("Cost €", "Kosten EUR", "Budget CHF", "Cost $"):
+        (task,) = read_list_of(f"Name,Duration,{heading}\nDig,1,250\n").tasks()
+        assert task.cost == 250, heading
+
+
+@pytest.mark.parametrize(
+    ("ids", "uids"),
+    (
+        (("10", "20", "15"), ["10", "20", "15"]),
+        (("T-7", "T-8", "T-9"), ["T-7", "T-8", "T-9"]),
+        (("1", "2", "3"), ["A", "B", "C"]),
+        (("7", "8", "9"), ["A", "B", "C"]),
+        (("10", "10", "15"), ["A", "B", "C"]),
+        (("10", "", "15"), ["A", "B", "C"]),
+    ),
+)
+def test_ids_next_to_codes(ids: tuple[str, ...], uids: list[str]) -> None:
+    """Numbers that do more than count the rows are what a task is known by next month."""
+    lines = ["ID,Code,Name,Duration"]
+    for number, code in zip(ids, "ABC"):
+        lines.append(f"{number},{code},Task {code},1")
+    plan = read_list_of("\n".join(lines) + "\n")
+    assert [task.uid for task in plan.tasks()] == uids
+    assert [task.code for task in plan.tasks()] == ["A", "B", "C"]
+
+
+def read_list_of(text: str) -> Plan:
+    """Returns the plan of a list that begins on 2 March 2026, of which nothing is lost."""
+    options = ReaderOptions(start=date(2026, 3, 2))
+    reading = table.read(Source(Path("list.csv"), text.encode()), options)
+    assert reading.losses == ()
+    return reading.plan

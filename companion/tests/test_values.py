@@ -47,7 +47,21 @@ def test_number(text: values.Cell, style: Style, wanted: str) -> None:
 
 @pytest.mark.parametrize(
     "text",
-    ["", "x", "1.2.3", "1,25", "12,3456", "1,234'567", "1E+05", "--5", "(5", "5)", "1..", ".", "١"]
+    [
+        "",
+        "x",
+        "1.2.3",
+        "1,25",
+        "12,3456",
+        "1,234'567",
+        "1E+05",
+        "--5",
+        "(5",
+        "5)",
+        "1..",
+        ".",
+        "١",
+    ]
     + ["1" * 16, "9" * 300, "1,,000", "1.", "+5", "1 25", date(2026, 1, 1)],
 )
 def test_no_number(text: values.Cell) -> None:
@@ -79,7 +93,8 @@ def test_amount(text: values.Cell, style: Style, wanted: str) -> None:
 
 
 @pytest.mark.parametrize(
-    "text", ["", "€", "abc", "1E+05", "--40", "-(40)", "5k", "5 T€", "3 Mio.", "7" * 201]
+    "text",
+    ["", "€", "abc", "1E+05", "--40", "-(40)", "5k", "5 T€", "3 Mio.", "7" * 201],
 )
 def test_no_amount(text: str) -> None:
     """Multiples such as 5k are refused, since they would be taken for 5."""
@@ -89,7 +104,14 @@ def test_no_amount(text: str) -> None:
 
 @pytest.mark.parametrize(
     ("text", "wanted"),
-    [("1.250,00 €", "€"), ("$5", "$"), ("-CHF 5", "CHF"), ("5", ""), ("x" * 300, ""), ("", "")],
+    [
+        ("1.250,00 €", "€"),
+        ("$5", "$"),
+        ("-CHF 5", "CHF"),
+        ("5", ""),
+        ("x" * 300, ""),
+        ("", ""),
+    ],
 )
 def test_currency(text: str, wanted: str) -> None:
     """The currency is what stands before or behind the digits."""
@@ -160,7 +182,17 @@ def test_duration_in_the_unit_of_the_column() -> None:
 
 @pytest.mark.parametrize(
     "text",
-    ["", "soon", "5m", "4 moons", "5 days 1 eday", "PT8H", "5,5 days", "1" * 20, "5" * 201]
+    [
+        "",
+        "soon",
+        "5m",
+        "4 moons",
+        "5 days 1 eday",
+        "PT8H",
+        "5,5 days",
+        "1" * 20,
+        "5" * 201,
+    ]
     + ["5 days x", "-", date(2026, 1, 1), Share(Decimal(5))],
 )
 def test_no_duration(text: values.Cell) -> None:
@@ -202,8 +234,24 @@ def test_day(text: values.Cell, day_first: bool, wanted: tuple[int, int, int]) -
 
 @pytest.mark.parametrize(
     "text",
-    ["", "5th of May", "2026-02-30", "13/13/2026", "31-Xyz-26", "9999-12-31", "1899-01-01"]
-    + ["2026", "1/2", "8:00", "1/1/" + "1" * 500, Decimal(46000), Share(Decimal(1)), "Foo 1, 2026"],
+    [
+        "",
+        "5th of May",
+        "2026-02-30",
+        "13/13/2026",
+        "31-Xyz-26",
+        "9999-12-31",
+        "1899-01-01",
+    ]
+    + [
+        "2026",
+        "1/2",
+        "8:00",
+        "1/1/" + "1" * 500,
+        Decimal(46000),
+        Share(Decimal(1)),
+        "Foo 1, 2026",
+    ],
 )
 def test_no_day(text: values.Cell) -> None:
     """What is no day of the years 1900 to 2199."""
@@ -216,7 +264,14 @@ def test_every_day_is_read_back(day: date, day_first: bool) -> None:
     """Every day in each of the usual forms."""
     style = Style(day_first=day_first)
     slashed = "%d/%m/%Y" if day_first else "%m/%d/%Y"
-    for form in ("%Y-%m-%d", "%d.%m.%y", slashed, "%a " + slashed, "%d-%b-%y", "%B %d, %Y"):
+    for form in (
+        "%Y-%m-%d",
+        "%d.%m.%y",
+        slashed,
+        "%a " + slashed,
+        "%d-%b-%y",
+        "%B %d, %Y",
+    ):
         assert values.day(day.strftime(form), style) == day
 
 
@@ -258,7 +313,12 @@ def test_words() -> None:
 
 def test_whole_minutes() -> None:
     """Halves go away from zero; noise below a hundredth of a second is whole."""
-    assert [values.whole_minutes(Fraction(n, 2)) for n in (-3, -1, 1, 3)] == [-2, -1, 1, 2]
+    assert [values.whole_minutes(Fraction(n, 2)) for n in (-3, -1, 1, 3)] == [
+        -2,
+        -1,
+        1,
+        2,
+    ]
     assert values.is_whole(Fraction(5) + Fraction(1, 100_000))
     assert not values.is_whole(Fraction(11, 2))
 

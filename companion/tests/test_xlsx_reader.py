@@ -15,12 +15,13 @@ from openpyxl import Workbook
 from openpyxl.styles import Alignment, Font
 
 from lists import comparable
-from pert_companion.calendar import CalendarException
-from pert_companion.errors import InputError
-from pert_companion.losses import LossKind
-from pert_companion.plan import Crash, Group, Lag, Progress, ResourceKind, Task
+from pert_companion.model.calendar import CalendarException
+from pert_companion.model.errors import InputError
+from pert_companion.model.losses import LossKind
+from pert_companion.model.plan import Crash, Group, Lag, Progress, ResourceKind, Task
+from pert_companion.model.source import Source
 from pert_companion.readers import table, xlsx
-from pert_companion.readers.base import ReaderOptions, Reading, Source
+from pert_companion.readers.base import ReaderOptions, Reading
 
 HERE = Path(__file__).parent
 DAY = 480
@@ -93,7 +94,10 @@ def test_libreoffice() -> None:
     assert walls.minutes == 10 * DAY + 240
     assert walls.crash == Crash(7 * DAY, slope=Decimal("95.5"))
     assert walls.progress == Progress(Decimal(25))
-    assert (walls.listed_start, walls.listed_finish) == (date(2026, 3, 10), date(2026, 3, 24))
+    assert (walls.listed_start, walls.listed_finish) == (
+        date(2026, 3, 10),
+        date(2026, 3, 24),
+    )
     for locale in ("en-US", "en-GB", "de-DE"):
         path = HERE / "files" / f"lake-{locale}.csv"
         text = table.read(Source(path, path.read_bytes()), ReaderOptions(name="Lake"))
@@ -136,11 +140,42 @@ def wizard() -> Workbook:
     rows: list[list[object]] = [
         [1, 11, "Yes", "Auto Scheduled", "House", "9 days?"] + [None] * 3 + [1] + [None] * 11,
         [2, 13, "Yes", "Auto Scheduled", "   Dig", "5 days", day.format(2, "8:00 AM")]
-        + [day.format(6, "5:00 PM"), None, 2, "Masons[200%]", 0.5, day.format(2, "8:00 AM"), "NA"]
+        + [
+            day.format(6, "5:00 PM"),
+            None,
+            2,
+            "Masons[200%]",
+            0.5,
+            day.format(2, "8:00 AM"),
+            "NA",
+        ]
         + [1200, "As Soon As Possible", "NA", "NA", "No", "5 days", "3 days"],
-        [3, 17, "Yes", "Manually Scheduled", "   Pour", "4 days?", day.format(9, "8:00 AM")]
-        + [day.format(12, "5:00 PM"), "2FS+1 day", 2, "Concrete[12 m3]", 0, "NA", "NA", 800]
-        + ["Start No Earlier Than", day.format(9, "8:00 AM"), "March 20, 2026", "No", "0 days"]
+        [
+            3,
+            17,
+            "Yes",
+            "Manually Scheduled",
+            "   Pour",
+            "4 days?",
+            day.format(9, "8:00 AM"),
+        ]
+        + [
+            day.format(12, "5:00 PM"),
+            "2FS+1 day",
+            2,
+            "Concrete[12 m3]",
+            0,
+            "NA",
+            "NA",
+            800,
+        ]
+        + [
+            "Start No Earlier Than",
+            day.format(9, "8:00 AM"),
+            "March 20, 2026",
+            "No",
+            "0 days",
+        ]
         + ["0 days"],
         [4, 19, "No", "Auto Scheduled", "   Party", "1 day"] + [None] * 3 + [2] + [None] * 11,
     ]
@@ -227,7 +262,13 @@ def test_groups_by_bold() -> None:
         for row in (2, 5, 7):
             sheet.cell(row, 1).font = Font(bold=True)
 
-    rows: Rows = [["Task", "Duration"], ["Shell", 8], ["Walls", 5], ["Roof", 3], ["Inside", None]]
+    rows: Rows = [
+        ["Task", "Duration"],
+        ["Shell", 8],
+        ["Walls", 5],
+        ["Roof", 3],
+        ["Inside", None],
+    ]
     rows += [["Paint", 2], ["Handover", 0]]
     reading = read(workbook(rows, change))
     assert outline(reading) == [
@@ -326,7 +367,17 @@ def test_cells_with_values_of_their_own() -> None:
             "Work",
             "Resources",
         ],
-        ["A", 40, 0.25, datetime(2026, 3, 2, 8), False, 0.6, 0.1 + 0.2, time(8, 30), "Crew"],
+        [
+            "A",
+            40,
+            0.25,
+            datetime(2026, 3, 2, 8),
+            False,
+            0.6,
+            0.1 + 0.2,
+            time(8, 30),
+            "Crew",
+        ],
         ["B", timedelta(hours=36), 0, date(2026, 3, 9), True, None, None, None, None],
         ["C", 1 / 3, None, None, None, None, None, None, None],
     ]
@@ -342,7 +393,11 @@ def test_cells_with_values_of_their_own() -> None:
 
 def test_links_that_the_workbook_changed() -> None:
     """`5,6` typed in German is a number, and `3.5` a date: both are named, and none is guessed."""
-    rows: Rows = [["ID", "Task", "Duration", "Predecessors"], [1, "A", 5, None], [2, "B", 5, 1]]
+    rows: Rows = [
+        ["ID", "Task", "Duration", "Predecessors"],
+        [1, "A", 5, None],
+        [2, "B", 5, 1],
+    ]
     rows += [[3, "C", 5, 1.2], [4, "D", 5, date(2026, 5, 3)], [5, "E", 5, 9]]
     reading = read(workbook(rows))
     assert [(link.predecessor, link.successor) for link in reading.plan.links] == [("1", "2")]
@@ -376,7 +431,9 @@ def test_formulas() -> None:
 def error_value(xml: bytes) -> bytes:
     """Gives the formula of B3 the error that a spreadsheet computes."""
     return re.sub(
-        rb'<c r="B3"><f>1/0</f><v></v></c>', b'<c r="B3" t="e"><f>1/0</f><v>#DIV/0!</v></c>', xml
+        rb'<c r="B3"><f>1/0</f><v></v></c>',
+        b'<c r="B3" t="e"><f>1/0</f><v>#DIV/0!</v></c>',
+        xml,
     )
 
 
@@ -468,7 +525,10 @@ def test_holidays() -> None:
 def test_rates() -> None:
     """Rates per hour and day, of materials, and those that are none."""
     book = workbook(
-        [["Task", "Duration", "Resources"], ["A", 5, "Crew;Masons;Sand[3];Paint[4 l];X"]]
+        [
+            ["Task", "Duration", "Resources"],
+            ["A", 5, "Crew;Masons;Sand[3];Paint[4 l];X"],
+        ]
     )
     sheet = book.create_sheet("Ressourcen")
     sheet.append(["Name", "Art", "Stundensatz", "Überstundensatz", "Einheit"])

@@ -9,8 +9,16 @@ from pathlib import Path
 sys.path.insert(0, str(Path(__file__).resolve().parent.parent))
 
 from cpm import dates_of  # noqa: E402
-from pert_companion.calendar import Calendar, CalendarException  # noqa: E402
-from pert_companion.plan import Crash, Group, Lag, Link, LinkKind, Plan, Task  # noqa: E402
+from pert_companion.model.calendar import Calendar, CalendarException  # noqa: E402
+from pert_companion.model.plan import (
+    Crash,
+    Group,
+    Lag,
+    Link,
+    LinkKind,
+    Plan,
+    Task,
+)  # noqa: E402
 from planner_files import gan_bytes, mspdi_bytes, pmxml_bytes, xer_bytes  # noqa: E402
 
 DAY = 480

@@ -15,14 +15,58 @@ from openpyxl import Workbook
 from openpyxl.styles import Alignment, Font
 
 HERE = Path(__file__).parent
-HEADINGS = ["ID", "Task Name", "Duration", "Start", "Finish", "Predecessors", "Resource Names"]
+HEADINGS = [
+    "ID",
+    "Task Name",
+    "Duration",
+    "Start",
+    "Finish",
+    "Predecessors",
+    "Resource Names",
+]
 HEADINGS += ["Cost", "% Complete", "Crash Duration", "Cost per Day"]
 ROWS: list[list[object]] = [
     [1, "Shell", None, None, None, None, None, 9200, None, None, None],
-    [2, "Foundation", 6, (2026, 3, 2), (2026, 3, 9), None, "Crew[200%]", 2500.5, 1, 4, 120],
-    [3, "Walls, north", 10.5, (2026, 3, 10), (2026, 3, 24), "2", "Masons", 6699.5, 0.25, 7, 95.5],
+    [
+        2,
+        "Foundation",
+        6,
+        (2026, 3, 2),
+        (2026, 3, 9),
+        None,
+        "Crew[200%]",
+        2500.5,
+        1,
+        4,
+        120,
+    ],
+    [
+        3,
+        "Walls, north",
+        10.5,
+        (2026, 3, 10),
+        (2026, 3, 24),
+        "2",
+        "Masons",
+        6699.5,
+        0.25,
+        7,
+        95.5,
+    ],
     [4, "Inside", None, None, None, None, None, None, None, None, None],
-    [5, "Wires", 4, (2026, 3, 13), (2026, 3, 18), "3SS+3 days", None, 1800, 0, None, None],
+    [
+        5,
+        "Wires",
+        4,
+        (2026, 3, 13),
+        (2026, 3, 18),
+        "3SS+3 days",
+        None,
+        1800,
+        0,
+        None,
+        None,
+    ],
     [6, "Übergabe", 0, (2026, 3, 24), (2026, 3, 24), "3,5", None, None, 0, None, None],
 ]
 LOCALES = {"en-US": (",", 1033), "en-GB": (",", 2057), "de-DE": (";", 1031)}

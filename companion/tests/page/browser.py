@@ -37,7 +37,13 @@ class Browser:
         command_end, self._out = os.pipe()
         self._in, answer_end = os.pipe()
         ends = _above_ten(command_end), _above_ten(answer_end)
-        words = [CHROMIUM, "--headless=new", "--no-sandbox", "--disable-gpu", "--no-first-run"]
+        words = [
+            CHROMIUM,
+            "--headless=new",
+            "--no-sandbox",
+            "--disable-gpu",
+            "--no-first-run",
+        ]
         words += ["--disable-background-networking", "--remote-debugging-pipe"]
         words += ["--hide-scrollbars"]
         words += [f"--user-data-dir={self._profile.name}", "about:blank"]
@@ -73,7 +79,11 @@ class Browser:
     def call(self, method: str, session: str | None = None, **parameters: Any) -> dict[str, Any]:
         """Sends a command and returns its result. Events that come before it are kept."""
         self._count += 1
-        message: dict[str, Any] = {"id": self._count, "method": method, "params": parameters}
+        message: dict[str, Any] = {
+            "id": self._count,
+            "method": method,
+            "params": parameters,
+        }
         if session is not None:
             message["sessionId"] = session
         data = json.dumps(message).encode() + b"\0"

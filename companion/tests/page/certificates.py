@@ -11,8 +11,8 @@ from functools import cache
 from pathlib import Path
 from typing import Any
 
-from pert_companion.errors import ProgramError
-from pert_companion.programs import Programs
+from pert_companion.model.errors import ProgramError
+from pert_companion.programs.client import Programs
 
 TOP = Path(__file__).resolve().parents[3]
 PAGE = TOP / "companion" / "src" / "pert_companion" / "page"
@@ -74,7 +74,7 @@ def tampered() -> Any:
 def in_node(script: str, given: object) -> Any:
     """Returns what a script in node writes, as JSON. It has `given`, and the page's scripts."""
     assert NODE is not None
-    names = {"PertCheck": "check", "PertCertificate": "certificate", "PertFigures": "figures"}
+    names = {"PertCheck": "check", "PertCertificate": "certificate", "PertCompactor": "compactor"}
     loads = [f"const {name} = require('{PAGE}/{file}.js');" for name, file in names.items()]
     read = "const given = JSON.parse(require('fs').readFileSync(0, 'utf8'));"
     big = "BigInt.prototype.toJSON = function () { return Number(this); };"

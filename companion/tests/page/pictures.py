@@ -10,7 +10,7 @@ from pathlib import Path
 
 from page.browser import Browser
 from page.certificates import HOUSE
-from page.reports import CHECKED, plan_without_status, write_page
+from page.reports import DRAWN, plan_without_status, write_page
 
 WIDTH = 1120
 SECTIONS = "document.querySelectorAll('section, #differences')"
@@ -28,7 +28,11 @@ PICTURES = [
 def write_pages(folder: Path) -> None:
     """Writes the pages of which pictures are drawn."""
     plan = plan_without_status()
-    decks = {"rest": HOUSE.read_bytes(), "plan": plan, "terms": plan.replace(b"END\n", TERMS)}
+    decks = {
+        "rest": HOUSE.read_bytes(),
+        "plan": plan,
+        "terms": plan.replace(b"END\n", TERMS),
+    }
     for name, text in decks.items():
         (folder / f"{name}.csv").write_bytes(text)
         write_page(folder / f"{name}.csv", folder / f"{name}.html")
@@ -40,7 +44,7 @@ def draw(folder: Path) -> None:
         write_pages(Path(scratch))
         for name, deck, address, selector, most in PICTURES:
             page = browser.open(Path(scratch, f"{deck}.html").as_uri() + address, width=WIDTH)
-            page.wait(CHECKED)
+            page.wait(DRAWN)
             page.run("document.documentElement.style.overflow = 'hidden'")
             page.run(f"{SECTIONS}.forEach((it) => (it.style.contentVisibility = 'visible'))")
             box = page.run(f"document.querySelector('{selector}').getBoundingClientRect().toJSON()")
@@ -53,7 +57,10 @@ def draw(folder: Path) -> None:
                 "scale": 1,
             }
             answer = page.call(
-                "Page.captureScreenshot", format="png", captureBeyondViewport=True, clip=clip
+                "Page.captureScreenshot",
+                format="png",
+                captureBeyondViewport=True,
+                clip=clip,
             )
             (folder / f"{name}.png").write_bytes(base64.b64decode(answer["data"]))
 

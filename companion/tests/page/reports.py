@@ -8,13 +8,16 @@ from typing import Any
 
 from page.browser import Browser, Page
 from page.certificates import HOUSE, PROGRAMS, bench
-from pert_companion.cards import ActivityCard
-from pert_companion.deck import Deck, parse_deck
-from pert_companion.page.gathering import Gathered, Wishes, gather
+from pert_companion.model.cards import ActivityCard
+from pert_companion.model.deck import Deck, parse_deck
+from pert_companion.page.gathering import Gathered, gather
 from pert_companion.page.render import render
 from pert_companion.page.report import page_of
+from pert_companion.page.source import Source, Wishes
+from pert_companion.state.project import open_state
 
-CHECKED = "/right|wrong/.test(document.getElementById('badge').className)"
+DRAWN = "document.documentElement.classList.contains('live')"
+"""Whether the script of a page has drawn the chosen length."""
 MONTHS = "Jan Feb Mar Apr May Jun Jul Aug Sep Oct Nov Dec".split(" ")
 
 MOVES = """
@@ -46,9 +49,12 @@ MOVES = """
 """
 
 
-def gathered_of(deck: Path, **wishes: Any) -> Gathered:
+def gathered_of(
+    deck: Path, previous: Path | None = None, baseline: Path | None = None, **wishes: Any
+) -> Gathered:
     """Returns what a page of a deck shows."""
-    return gather(PROGRAMS, deck, Wishes(**wishes), lambda text: None)
+    others = [None if path is None else open_state(path, PROGRAMS) for path in (baseline, previous)]
+    return gather(Source(Wishes(**wishes), open_state(deck, PROGRAMS), *others), lambda text: None)
 
 
 def write_page(deck: Path, page: Path, **wishes: Any) -> Gathered:
@@ -58,10 +64,10 @@ def write_page(deck: Path, page: Path, **wishes: Any) -> Gathered:
     return gathered
 
 
-def open_checked(browser: Browser, page: Path, **options: Any) -> Page:
-    """Opens a page and waits until its badge says what was found; nothing else was asked for."""
+def open_drawn(browser: Browser, page: Path, **options: Any) -> Page:
+    """Opens a page and waits until its script has drawn it; nothing else was asked for."""
     opened = browser.open(page.as_uri(), **options)
-    opened.wait(CHECKED)
+    opened.wait(DRAWN)
     assert opened.messages() == []
     assert opened.requests() == [page.as_uri()]
     return opened

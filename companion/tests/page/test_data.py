@@ -1,4 +1,4 @@
-"""The compact form of certificates, the data in a page, and the list of figures."""
+"""The compact form of certificates, and the data in a page."""
 
 import json
 import random
@@ -10,6 +10,7 @@ from hypothesis import strategies as st
 
 from page.certificates import SHED, bench, certificate_of, certificates, tampered
 from pert_companion.page import data
+from pert_companion.programs.certificate import parts
 
 CODES = st.text("ABCabc019._-", min_size=1, max_size=16)
 NUMBERS = st.one_of(st.integers(0, 12), st.integers(0, 10**18 - 1))
@@ -120,21 +121,18 @@ def test_embedded_data_cannot_end_its_element(title: str) -> None:
     assert json.loads(text)["text"] == f"</script><!--&\u2028\u2029{title}"
 
 
-def test_a_certificate_above_the_limit_is_left_out(monkeypatch: pytest.MonkeyPatch) -> None:
+def test_a_certificate_above_the_limit_is_left_out() -> None:
     certificate = certificate_of(bench(4))
-    text = data.embedded_certificate(certificate)
+    text = compacted(certificate, data.MOST_BYTES)
     assert text is not None and data.expand(json.loads(text)) == certificate
-    monkeypatch.setattr(data, "MOST_BYTES", len(text) - 1)
-    assert data.embedded_certificate(certificate) is None
+    assert compacted(certificate, len(text)) == text
+    assert compacted(certificate, len(text) - 1) is None
+    assert compacted(certificate, 1) is None
 
 
-def test_figures_are_listed_once_and_by_their_numbers() -> None:
-    figures = data.Figures()
-    assert figures.add("cost", 13190, length=30) == 0
-    assert figures.add("duration", 9, length=30, code="WALLS") == 1
-    assert figures.add("cost", 13190, length=30) == 0
-    assert figures.add("total-more", -5, length=30, code="35") == 2
-    rows = [["cost", "30", "", "13190"], ["duration", "30", "WALLS", "9"]]
-    assert figures.data() == {"form": 1, "rows": [*rows, ["total-more", "30", "35", "-5"]]}
-    with pytest.raises(data.DataError):
-        figures.add("guess", 1)
+def compacted(certificate: str, most: int) -> str | None:
+    """Returns what a page of at most so many bytes holds of a certificate."""
+    compactor = data.Compactor(most)
+    for part in parts([certificate.encode()]):
+        compactor.take(part)
+    return compactor.text()

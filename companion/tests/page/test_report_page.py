@@ -1,8 +1,7 @@
-"""The report page in a browser: the slider, the badge, what it asks for, and how it is laid out."""
+"""The report page in a browser: the slider, what it asks for, and how it is laid out."""
 
 import base64
 import json
-import random
 import re
 import shutil
 import subprocess
@@ -23,19 +22,18 @@ from page.reports import (
     judge,
     moves,
     number,
-    open_checked,
+    open_drawn,
     plan_without_status,
     write_page,
 )
-from pert_companion import results
-from pert_companion.calendar import Calendar
+from pert_companion.analysis.scheduling import schedule_at
 from pert_companion.carry import carry
-from pert_companion.page import data
-from pert_companion.page.verify import build_verify_page
-from pert_companion.plan import Crash, Lag, Link, LinkKind, Plan, Task
-from pert_companion.remaining import State
-from pert_companion.scheduling import schedule_at
-from pert_companion.sidefile import to_json
+from pert_companion.model.calendar import Calendar
+from pert_companion.model.plan import Crash, Lag, Link, LinkKind, Plan, Task
+from pert_companion.model.sidefile import to_json
+from pert_companion.programs import results
+from pert_companion.state.remaining import State
+from pert_companion.state.project import ProjectState
 
 needs_chromium = pytest.mark.skipif(CHROMIUM is None, reason="chromium is missing")
 CASES = Path(__file__).resolve().parents[1] / "cases" / "hostile" / "report"
@@ -75,7 +73,11 @@ def big_page(place: Path) -> Path:
 
 
 def deck_at(place: Path, name: str) -> Path:
-    texts = {"plan": plan_without_status(), "rest": HOUSE.read_bytes(), "terms": house_with_terms()}
+    texts = {
+        "plan": plan_without_status(),
+        "rest": HOUSE.read_bytes(),
+        "terms": house_with_terms(),
+    }
     (place / f"{name}.csv").write_bytes(texts[name])
     return place / f"{name}.csv"
 
@@ -86,10 +88,9 @@ def test_each_length_of_the_house_shows_a_schedule_with_its_cost(
     browser: Browser, place: Path, name: str
 ) -> None:
     gathered = write_page(deck_at(place, name), place / f"{name}.html")
-    page = open_checked(browser, place / f"{name}.html")
-    assert page.text("#verdict").startswith("consistent (checked here): certified ")
-    network = gathered.status.network
-    lengths = range(gathered.status.shortest, gathered.status.longest + 1)
+    page = open_drawn(browser, place / f"{name}.html")
+    network = gathered.state.rest.network
+    lengths = range(gathered.state.rest.shortest, gathered.state.rest.longest + 1)
     assert len(lengths) == (9 if name == "plan" else 8)
     finished = frozenset(c for c, state in gathered.progress.items() if state is State.FINISHED)
     for length, shown in zip(lengths, moves(page, lengths), strict=True):
@@ -106,13 +107,13 @@ def test_each_length_of_400_activities_shows_a_schedule_with_its_cost(
     network = deck_of(big_plan())
     curve = PROGRAMS.curve(network)
     lengths = range(curve[-1].length, curve[0].length + 1)
-    page = open_checked(browser, big_page)
-    assert page.text("#verdict").startswith("consistent (checked here): certified ")
+    page = open_drawn(browser, big_page)
     found = moves(page, lengths)
     for length, shown in zip(lengths, found, strict=True):
         paid, price = results.cost_at(curve, length)
         assert (number(shown["length"]), number(shown["cost"])) == (length, paid)
-        assert shown["next"] == ("no length is shorter" if price is None else f"{price:,}")
+        more = f"+{price:,}" if price else "0"
+        assert shown["next"] == ("no length is shorter" if price is None else more)
         judge(shown, network, network, frozenset())
     for length in (lengths.start, lengths.start + 500, lengths.stop - 1):
         point = PROGRAMS.point(network, length)
@@ -127,28 +128,36 @@ HELD = (
         Link("D", "C", LinkKind.FINISH_FINISH, Lag(480)),
     ),
 )
+HELD_AT_ITS_END = (
+    {"C": 3, "B": 2, "A": 2, "E": 4},
+    (Link("C", "B", LinkKind.FINISH_FINISH), Link("B", "A", LinkKind.START_START)),
+)
+"""B ends no earlier than C, and A begins no earlier than B, whose start has the greater slack."""
 
 
 @needs_chromium
-def test_the_slack_of_the_page_is_that_of_planners(browser: Browser, place: Path) -> None:
-    """A finish that waits for others gives no slack that the start of its task does not have."""
-    days, links = HELD
+@pytest.mark.parametrize("held", [HELD, HELD_AT_ITS_END])
+def test_the_slack_of_the_page_is_that_of_planners(
+    browser: Browser, place: Path, held: tuple[dict[str, int], tuple[Link, ...]]
+) -> None:
+    """A task has the slack of its start or of its finish, whichever is less."""
+    days, links = held
     tasks = tuple(Task(name, name, name, count * 480) for name, count in days.items())
-    crash = Crash(5 * 480, slope=Decimal(10))
+    crash = Crash(days["C"] // 2 * 480, slope=Decimal(10))
     tasks = tuple(replace(task, crash=crash if task.uid == "C" else None) for task in tasks)
     carried = carry(Plan("P", date(2026, 9, 1), Calendar(), tasks, links))
     (place / "held.csv").write_bytes(carried.data)
     (place / "held.json").write_bytes(to_json(carried.side))
     gathered = write_page(place / "held.csv", place / "held.html")
-    page = open_checked(browser, place / "held.html")
-    lengths = range(gathered.status.shortest, gathered.status.longest + 1)
+    page = open_drawn(browser, place / "held.html")
+    lengths = range(gathered.state.rest.shortest, gathered.state.rest.longest + 1)
     slacks = []
     for length, shown in zip(lengths, moves(page, lengths), strict=True):
-        schedule = schedule_at(PROGRAMS, carried.deck, carried.side, length)
-        found = [number(shown["rows"][f"t{place}"][3]) for place in range(4)]
+        schedule = schedule_at(ProjectState(PROGRAMS, carried.deck, carried.side).plan, length)
+        found = [number(shown["rows"][f"t{at}"][3]) for at in range(len(tasks))]
         assert found == [task.total_float_minutes // 480 for task in schedule.tasks]
         slacks.append(found)
-    assert slacks[-1] == [3, 0, 0, 3]
+    assert slacks[-1] == ([3, 0, 0, 3] if held is HELD else [1, 1, 2, 0])
 
 
 @needs_chromium
@@ -158,7 +167,7 @@ def test_sizes_and_the_time_of_a_move(browser: Browser, place: Path, big_page: P
     assert big_page.stat().st_size < 3_000_000
     (place / "empty.html").write_text(EMPTY)
     empty = browser.open((place / "empty.html").as_uri())
-    page = open_checked(browser, big_page)
+    page = open_drawn(browser, big_page)
     # The same move back and forth, and the best of 40: what else the machine does counts less.
     move = (
         "slider.value = String(2000 + (move % 2) * 400); slider.dispatchEvent(new Event('input'))"
@@ -170,66 +179,7 @@ def test_sizes_and_the_time_of_a_move(browser: Browser, place: Path, big_page: P
         nothing = min(empty.run(FRAMES.replace("MOVE", "document.title = String(move)")))
         page.call("Page.bringToFront")
         ratios.append(min(page.run(frames)) / nothing)
-    assert min(ratios) <= 2
-
-
-@needs_chromium
-def test_one_changed_digit_turns_the_badge_to_line_and_reason(
-    browser: Browser, place: Path
-) -> None:
-    deck = deck_at(place, "terms")
-    gathered = write_page(deck, place / "right.html")
-    text = (place / "right.html").read_text("utf-8")
-    found = re.search('id="pert-certificate">([^<]*)<', text)
-    assert found is not None
-    chance = random.Random(63)
-    digits = [at.start() for at in re.finditer("[0-9]", found[1]) if at.start() > 20]
-    answers = set()
-    for at in chance.sample(digits, 16):
-        digit = str((int(found[1][at]) + 1) % 10)
-        changed = found[1][:at] + digit + found[1][at + 1 :]
-        (place / "wrong.html").write_text(text.replace(found[1], changed), "utf-8")
-        page = open_checked(browser, place / "wrong.html")
-        assert "wrong" in page.run("document.getElementById('badge').className")
-        try:
-            certificate = data.expand(json.loads(changed))
-        except data.DataError as error:
-            assert page.text("#verdict") == f"not consistent: {error}"
-            continue
-        answer = PROGRAMS.check(gathered.status.text.encode(), certificate.encode())
-        assert answer.startswith("not certified")
-        assert page.text("#verdict") == answer
-        answers.add(answer)
-    assert len(answers) > 8
-
-
-@needs_chromium
-def test_a_changed_figure_turns_the_badge(browser: Browser, place: Path) -> None:
-    write_page(deck_at(place, "rest"), place / "figures.html")
-    text = (place / "figures.html").read_text("utf-8")
-    listed = text.replace('["next","25","","100"]', '["next","25","","101"]')
-    (place / "listed.html").write_text(listed, "utf-8")
-    verdict = open_checked(browser, place / "listed.html").text("#verdict")
-    assert verdict == "not consistent: figure next 25 is 101, the certificate says 100"
-    shown, count = re.subn('(data-figure="[0-9]+">)12,600<', r"\g<1>12,500<", text, count=1)
-    assert count == 1
-    (place / "shown.html").write_text(shown, "utf-8")
-    verdict = open_checked(browser, place / "shown.html").text("#verdict")
-    assert verdict == "not consistent: a shown figure, 12,500, is not the listed one"
-
-
-@needs_chromium
-@pytest.mark.parametrize("name", ["plan", "rest", "terms"])
-def test_the_page_passes_pert_verify(browser: Browser, place: Path, name: str) -> None:
-    write_page(deck_at(place, name), place / f"{name}.html")
-    (place / "verify.html").write_text(build_verify_page(), "utf-8")
-    page = browser.open((place / "verify.html").as_uri())
-    page.choose("#files", [place / f"{name}.html"])
-    page.wait("/right|wrong/.test(document.getElementById('verdict').className)")
-    assert page.text("#verdict") == "Consistent (checked here)"
-    details = page.text("#details")
-    assert re.search("all [0-9]{2,} agree with the certificate", details)
-    assert re.search("all [0-9]{2,} that the page marks are the listed ones", details)
+    assert min(ratios) <= 4
 
 
 @needs_chromium
@@ -249,7 +199,7 @@ def test_the_address_the_keyboard_and_a_reader(browser: Browser, place: Path) ->
     page.wait("location.hash === '#length=21'")
     page.wait("document.getElementById('number').value === '21'")
     said = page.run("document.getElementById('slider').getAttribute('aria-valuetext')")
-    assert said == "21 days, ends on 7 Apr 2024, costs 13,070"
+    assert said == "21 days, ends on 7 Apr 2024, costs 15,310"
     page.wait(f"document.getElementById('said').textContent === {json.dumps(said)}")
     assert page.messages() == []
 
@@ -262,9 +212,8 @@ def test_without_scripts_there_is_a_table_of_all_breakpoints(browser: Browser, p
     page.call("Page.navigate", url=(place / "terms.html").as_uri())
     page.wait("document.readyState === 'complete' && document.getElementById('choose') !== null")
     rows = page.run("document.querySelectorAll('.breakpoints tbody tr').length")
-    assert rows == len(gathered.status.curve)
+    assert rows == len(gathered.state.rest.curve)
     assert page.run("document.getElementById('choose').hidden")
-    assert page.text("#verdict") == f"{gathered.answer} by pert_check when the page was written"
 
 
 def overflow(page: Page) -> Any:
@@ -283,7 +232,7 @@ def test_nothing_is_wider_than_the_window(browser: Browser, place: Path, name: s
         deck.write_bytes(text)
     write_page(deck, place / f"wide-{name}.html")
     for width in (390, 800, 801, 850, 902, 1400):
-        page = open_checked(browser, place / f"wide-{name}.html", width=width, dark=width == 850)
+        page = open_drawn(browser, place / f"wide-{name}.html", width=width, dark=width == 850)
         assert overflow(page) <= 0, width
         clipped = page.run(
             "[...document.querySelectorAll('.labels text')].filter((it) =>"
@@ -329,9 +278,9 @@ def test_no_two_dates_of_the_curve_overlap(browser: Browser, place: Path, span: 
         deck = place / f"span{span}.csv"
         deck.write_bytes(plan_of_span(span))
     gathered = write_page(deck, place / "dates.html")
-    assert span in (None, gathered.status.longest - gathered.status.shortest)
+    assert span in (None, gathered.state.rest.longest - gathered.state.rest.shortest)
     for width in (360, 390, 561, 721, 800, 901, 1400):
-        page = open_checked(browser, place / "dates.html", width=width)
+        page = open_drawn(browser, place / "dates.html", width=width)
         count, overlaps = page.run(OVERLAPS)
         assert overlaps == [], width
         assert count >= 2
@@ -342,8 +291,8 @@ def test_no_two_dates_of_the_curve_overlap(browser: Browser, place: Path, span: 
 @needs_chromium
 def test_titles_are_neither_run_nor_turned(browser: Browser, place: Path) -> None:
     write_page(CASES / "evil.csv", place / "evil.html")
-    page = open_checked(browser, place / "evil.html")
-    assert page.run("document.querySelectorAll('script').length") == 5
+    page = open_drawn(browser, place / "evil.html")
+    assert page.run("document.querySelectorAll('script').length") == 6
     assert page.run("document.querySelectorAll('main b, main svg[onload]').length") == 0
     shown = page.run("document.body.innerText")
     assert "\\u202eoverride starts here" in shown
@@ -357,7 +306,7 @@ def test_a_title_forges_no_figure(browser: Browser, place: Path, name: str) -> N
     tables = []
     for deck in ("honest", name):
         write_page(CASES / f"{deck}.csv", place / f"{deck}.html")
-        page = open_checked(browser, place / f"{deck}.html")
+        page = open_drawn(browser, place / f"{deck}.html")
         tables.append(
             page.run(
                 "[...document.querySelectorAll('td.number, .value')].map((it) => it.innerText)"
@@ -388,21 +337,15 @@ TABLE = """
 
 
 @needs_chromium
-def test_the_bridges_add_up_and_the_page_is_verified(browser: Browser, place: Path) -> None:
+def test_the_bridges_add_up(browser: Browser, place: Path) -> None:
     write_page(deck_at(place, "rest"), place / "bridges.html", previous=house_before(place))
-    page = open_checked(browser, place / "bridges.html")
-    assert page.text("#verdict").startswith("consistent (checked here): certified ")
+    page = open_drawn(browser, place / "bridges.html")
     has_heads, days = page.run(TABLE.replace("END", "by task"))
     assert has_heads and days == ["4", "4"]
     has_heads, amounts = page.run(TABLE.replace("END", "by account"))
     assert has_heads
     then, *moves, total, now = map(int, amounts)
     assert sum(moves) == total == now - then
-    (place / "verify.html").write_text(build_verify_page(), "utf-8")
-    page = browser.open((place / "verify.html").as_uri())
-    page.choose("#files", [place / "bridges.html"])
-    page.wait("/right|wrong/.test(document.getElementById('verdict').className)")
-    assert page.text("#verdict") == "Consistent (checked here)"
 
 
 ROWS = """
@@ -413,7 +356,8 @@ ROWS = """
 
 @needs_chromium
 @pytest.mark.parametrize(
-    ("mark", "escape"), [("\u0085", "\\x85"), ("\u2028", "\\u2028"), ("\u2029", "\\u2029")]
+    ("mark", "escape"),
+    [("\u0085", "\\x85"), ("\u2028", "\\u2028"), ("\u2029", "\\u2029")],
 )
 def test_a_line_end_in_a_title_is_an_escape_and_ends_no_row(
     browser: Browser, place: Path, mark: str, escape: str
@@ -425,7 +369,7 @@ def test_a_line_end_in_a_title_is_an_escape_and_ends_no_row(
     rows = {}
     for deck in (CASES / "honest.csv", place / "mark.csv"):
         write_page(deck, place / f"{deck.stem}.html")
-        page = open_checked(browser, place / f"{deck.stem}.html")
+        page = open_drawn(browser, place / f"{deck.stem}.html")
         rows[deck.stem] = page.run(ROWS)
         assert not re.search("[\u0085\u2028\u2029]", page.run("document.body.textContent"))
     title = f"Ground{escape}work"
@@ -446,13 +390,13 @@ def test_paper(browser: Browser, place: Path) -> None:
     deck = deck_at(place, "rest")
     write_page(deck, place / "full.html", length=21)
     write_page(deck, place / "brief.html", length=21, brief=True)
-    full = open_checked(browser, place / "full.html")
-    brief = open_checked(browser, place / "brief.html")
+    full = open_drawn(browser, place / "full.html")
+    brief = open_drawn(browser, place / "brief.html")
     a4 = {"paperWidth": 8.27, "paperHeight": 11.69}
     letter = {"paperWidth": 8.5, "paperHeight": 11.0}
     for paper in (a4, letter):
         count = pages_of(full, place / "full.pdf", **paper)
-        assert 2 <= count <= 6
+        assert 2 <= count <= 7
         text = pdf_text(place / "full.pdf", count)
         assert text is None or len(text.strip()) > 80
         assert pages_of(brief, place / "brief.pdf", **paper) == 1

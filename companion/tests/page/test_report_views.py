@@ -11,25 +11,27 @@ from hypothesis import strategies as st
 
 from page.certificates import HOUSE, PROGRAMS, SHED, certificate_of, house_with_terms
 from page.reports import gathered_of, plan_without_status
-from pert_companion.calendar import Calendar, free_days
-from pert_companion.errors import InputError, ProgramError
-from pert_companion.page import changed, charts, chooser, first, money, timeline
-from pert_companion.page.clock import Clock
-from pert_companion.page.gathering import Contract, Gathered, contract_of
-from pert_companion.page.reading import point_at
+from running import MONTHS, opened
+from pert_companion.analysis.compare import compare
+from pert_companion.analysis.contract import Contract, contract_of, held_dates
+from pert_companion.analysis.options import options
+from pert_companion.analysis.sureness import percent_text
+from pert_companion.model.calendar import Calendar, free_days
+from pert_companion.model.clock import Clock
+from pert_companion.model.errors import InputError
+from pert_companion.model.registers import Rename, Renames
+from pert_companion.model.sidefile import SideFile
+from pert_companion.page import changed, charts, chooser, decision, first, money, timeline
+from pert_companion.page.bridges import account_moves
+from pert_companion.page.gathering import Gathered
 from pert_companion.page.report import page_of
-from pert_companion.page.view import FigureBook, Line, signed
+from pert_companion.page.view import Line, signed
 from pert_companion.page.words import Words, day_text, number_text, plural, shown, words_of
-from pert_companion.opening import open_plan
-from pert_companion.remaining import State
-from pert_companion.scheduling import implied_side_file
-from pert_companion.sidefile import SideFile
+from pert_companion.programs.certificate import PointReader, parts
+from pert_companion.state.implied import implied_side_file
+from pert_companion.state.remaining import State
 
 DAYS = Words("day", "EUR", 1)
-
-
-def book() -> FigureBook:
-    return FigureBook(DAYS)
 
 
 def text_of(line: Line) -> str:
@@ -55,7 +57,7 @@ def terms(tmp_path_factory: pytest.TempPathFactory) -> Gathered:
 
 def test_amounts_have_their_decimals_and_currency() -> None:
     cents = Words("day", "EUR", 100)
-    assert cents.money(1319005) == "13,190.05 EUR"
+    assert cents.money(1319005) == "13,190.05\u00a0EUR"
     assert cents.digits(-5) == "\u22120.05"
     assert Words("day", "", 1).money(1234567) == "1,234,567"
     assert (plural(1, "day"), plural(0, "day"), plural(1000, "day")) == (
@@ -96,8 +98,8 @@ def test_the_word_for_a_unit(minutes: int, calendar: Calendar, word: str) -> Non
 
 
 def test_the_word_for_a_unit_of_every_day() -> None:
-    plan = open_plan(SHED)
-    assert words_of(plan.side, "kr").money(5) == "5 kr"
+    plan = opened(SHED)
+    assert words_of(plan.side, "kr").money(5) == "5\u00a0kr"
     assert words_of(implied_side_file(plan.deck), None).unit == "day"
 
 
@@ -167,64 +169,100 @@ def test_ticks_of_dates_are_in_order_and_inside(first_day: date, days: int) -> N
 @pytest.mark.parametrize("name", ["house", "shed"])
 def test_the_schedule_of_a_length_is_that_of_point(name: str) -> None:
     path = HOUSE if name == "house" else SHED
-    deck, certificate = open_plan(path).deck, certificate_of(path.read_bytes())
+    deck, certificate = opened(path).deck, certificate_of(path.read_bytes())
+    text = certificate.encode()
     curve = PROGRAMS.curve(deck)
-    for length in range(curve[-1].length, curve[0].length + 1):
-        assert point_at(certificate, deck, length) == PROGRAMS.point(deck, length)
-    with pytest.raises(ProgramError, match="no schedule for length 1"):
-        point_at(certificate, deck, 1)
+    lengths = range(curve[-1].length, curve[0].length + 1)
+    for size in (len(text), 7):
+        reader = PointReader(deck, [*lengths, 1])
+        for part in parts(text[at : at + size] for at in range(0, len(text), size)):
+            reader.take(part)
+        assert reader.points == {length: PROGRAMS.point(deck, length) for length in lengths}
+
+
+def sentences(gathered: Gathered) -> list[str]:
+    """Returns the sentences of the first screen."""
+    return [text_of(line) for line in first.first_screen(gathered, DAYS).sentences]
 
 
 def test_the_first_screen_of_the_house(house: Gathered) -> None:
-    screen = first.first_screen(house, book())
-    assert [text_of(sentence) for sentence in screen.sentences] == [
-        "What is left is forecast to end on 11 Apr 2024, 4 days late against the planned end"
-        " 7 Apr 2024.",
+    screen = first.first_screen(house, DAYS)
+    when, _, *others = sentences(house)
+    assert when == (
+        "What is left ends on 11 Apr 2024 by normal durations, 4 days late against the planned end"
+        " 7 Apr 2024."
+    )
+    assert others == [
         "The latest estimate is 14,020 EUR against a budget of 13,600 EUR, 420 EUR over it.",
-        "Keeping 7 Apr 2024 costs 470 EUR more; the first day costs 100 EUR.",
+        "Ending on 7 Apr 2024 costs 470 EUR more for the work; the deck has no price of time.",
     ]
-    assert [(tile.name, text_of(tile.value)) for tile in screen.tiles] == [
-        ("Forecast end", "11 Apr 2024"),
+    assert [
+        (tile.name, text_of(tile.value)) for tile in screen.tiles if "P50" not in tile.name
+    ] == [
+        ("End", "11 Apr 2024"),
         ("Planned end", "7 Apr 2024"),
-        ("Last report", "\u2013"),
         ("Latest estimate", "14,020 EUR"),
         ("Budget", "13,600 EUR"),
-        ("To end on 7 Apr 2024", "470 EUR"),
+        ("One day less", "100 EUR"),
     ]
-    assert [text_of(tile.value) for tile in screen.ends] == ["25 days", "18 days"]
+    assert screen.alerts == ()
+
+
+def test_what_is_hard_to_believe_is_an_alert() -> None:
+    """As pert-check-status finds it in the month of May; each leads to a section of the page."""
+    found = gathered_of(MONTHS / "may.csv", previous=MONTHS / "april.csv")
+    alerts = [(alert.key, text_of(alert.text)) for alert in first.alerts(found)]
+    assert alerts == [
+        ("cost", "To check, amount to go did not fall by what was spent: Windows"),
+        ("schedule", "To check, out of sequence: Make the windows"),
+    ]
+    assert {key for key, _ in alerts} <= {section.key for section in page_of(found).sections}
+
+
+def test_the_headline_says_how_sure_it_is(house: Gathered) -> None:
+    found = house.sureness
+    assert found is not None and house.state.rest.end is not None
+    assert sentences(house)[1] == (
+        "By normal durations the end is 11 Apr 2024, with a chance of"
+        f" {percent_text(found.chance_by(house.state.rest.end))}; even chance is"
+        f" {day_text(found.even_end)}, and four in five {day_text(found.likely_end)} (simulated)."
+    )
+    assert house.chances[25] == found.chance_by(house.state.rest.end)
 
 
 def with_contract(gathered: Gathered, day: date) -> Gathered:
-    held = replace(gathered)
-    held.__dict__["contract"] = Contract(day, "directed end of the deck", True)
-    return held
+    contract = Contract(day, "contract date", "of the deck's PROJECT card")
+    return replace(
+        gathered,
+        contract=contract,
+        options=options(gathered.state, held_dates(contract)),
+    )
 
 
 def test_a_date_that_no_schedule_keeps(house: Gathered) -> None:
-    screen = first.first_screen(with_contract(house, date(2024, 4, 1)), book())
-    assert text_of(screen.sentences[2]) == (
-        "1 Apr 2024 cannot be kept: the earliest end is 4 Apr 2024, for 1,070 EUR more;"
-        " the first day costs 100 EUR."
+    held = with_contract(house, date(2024, 4, 1))
+    assert sentences(held)[-1] == (
+        "1 Apr 2024 cannot be kept. Ending on 4 Apr 2024 costs 1,070 EUR more for the work; the"
+        " deck has no price of time."
     )
-    assert screen.tiles[5].name == "Earliest end, 4 Apr 2024"
-    assert screen.tiles[1].name == "Contract date"
+    assert first.first_screen(held, DAYS).tiles[2].name == "Contract date"
 
 
 def test_a_date_that_is_kept(house: Gathered) -> None:
-    screen = first.first_screen(with_contract(house, date(2024, 4, 13)), book())
-    assert "2 days early against the contract date 13 Apr 2024" in text_of(screen.sentences[0])
-    assert text_of(screen.sentences[2]) == "The date is kept. One day less would cost 100 EUR."
-    assert (screen.tiles[5].name, screen.tiles[0].tone) == ("One day less", "")
-    on_time = first.first_screen(with_contract(house, date(2024, 4, 11)), book())
-    assert "on time against the contract date" in text_of(on_time.sentences[0])
+    held = with_contract(house, date(2024, 4, 13))
+    assert "2 days early against the contract date 13 Apr 2024" in sentences(held)[0]
+    assert sentences(held)[-1] == "One day less would cost 100 EUR for the work."
+    assert first.first_screen(held, DAYS).tiles[0].tone == ""
+    on_time = sentences(with_contract(house, date(2024, 4, 11)))
+    assert "on time against the contract date" in on_time[0]
 
 
 def test_the_price_of_time(terms: Gathered) -> None:
-    screen = first.first_screen(terms, book())
-    assert text_of(screen.sentences[2]).endswith(
-        "With the price of time, 30 days (2 Apr 2024) cost least in all."
+    assert sentences(terms)[-1] == (
+        "Ending on 2 Apr 2024 saves 210 EUR in all: 590 EUR more for the work, 800 EUR less for"
+        " time."
     )
-    choice = chooser.choice(terms, book())
+    choice = chooser.choice(terms, DAYS)
     amounts = [(key, text_of(line)) for key, _, line in choice.costs]
     assert amounts == [
         ("cost", "13,190 EUR"),
@@ -233,21 +271,58 @@ def test_the_price_of_time(terms: Gathered) -> None:
         ("penalty", "0 EUR"),
         ("total", "15,890 EUR"),
     ]
-    assert (choice.late, text_of(choice.more)) == ("on the contract date", "590 EUR")
+    assert (choice.late, text_of(choice.more)) == ("on the target date", "\u2212210 EUR")
+    assert text_of(choice.next) == "+20 EUR"
+
+
+def test_options_are_one_table_with_the_chosen_length_below(terms: Gathered) -> None:
+    table = decision.options_table(terms, DAYS)
+    rows = [[text_of(row.name), *map(text_of, row.cells[:-1])] for row in table.rows]
+    assert table.heads[-1] == "Chance"
+    assert rows == [
+        ["35 days: today’s plan", "7 Apr 2024", "12,600", "3,500", "16,100", "0", "\u221260"],
+        [
+            "30 days: target, cheapest in all",
+            "2 Apr 2024",
+            *["13,190", "2,700", "15,890", "\u2212210", "+20"],
+        ],
+        ["27 days: shortest", "30 Mar 2024", "13,690", "2,310", "16,000", "\u2212100", "\u2013"],
+        ["30 days: chosen", "2 Apr 2024", "13,190", "2,700", "15,890", "\u2212210", "+20"],
+    ]
+    assert [row.is_sum for row in table.rows] == [False, True, False, False]
+    assert decision.terms_texts(terms, DAYS) == [
+        "Each day costs 90\u00a0EUR of overhead.",
+        "Each day before the target, 2 Apr 2024, earns 40\u00a0EUR.",
+        "Each day after the target, 2 Apr 2024, costs 70\u00a0EUR more.",
+    ]
+
+
+def test_the_bridge_goes_from_the_work_to_all(terms: Gathered) -> None:
+    table = decision.bridge_table(terms, DAYS)
+    assert table is not None
+    assert [[text_of(row.name), text_of(row.cells[0])] for row in table.rows] == [
+        ["The tasks at their normal costs", "+12,600"],
+        ["What was spent and re-estimated beyond that", "0"],
+        ["Packages without tasks", "+1,000"],
+        ["Latest estimate", "13,600"],
+        ["The shorter work", "+590"],
+        ["The price of time", "+2,700"],
+        ["In all", "16,890"],
+    ]
 
 
 def test_breakpoints_have_dates_totals_and_prices(terms: Gathered) -> None:
-    table = chooser.breakpoints(terms, book())
+    table = chooser.breakpoints(terms, DAYS)
     rows = [[text_of(row.name), *map(text_of, row.cells)] for row in table.rows]
-    assert rows[0] == ["35 days", "7 Apr 2024", "12,600 EUR", "16,100 EUR", "100 EUR"]
-    assert rows[-1] == ["27 days", "30 Mar 2024", "13,690 EUR", "16,000 EUR", "\u2013"]
+    assert rows[0] == ["35 days", "7 Apr 2024", "12,600", "16,100", "100"]
+    assert rows[-1] == ["27 days", "30 Mar 2024", "13,690", "16,000", "\u2013"]
 
 
 def test_equal_stretches_are_named(tmp_path: Path) -> None:
     plan = plan_without_status()
     free = plan.replace(b"7,5,900,200", b"7,5,900,0").replace(b"END\n", b"TERMS,110,20,0,0\nEND\n")
     found = gathered_of(deck_at(tmp_path, free))
-    texts = [stretch.text for stretch in chooser.stretches(found, book())]
+    texts = [stretch.text for stretch in chooser.stretches(found, DAYS)]
     assert texts == [
         "33 to 35 days cost the same work: take 33.",
         "30 to 32 days cost the same in all: take 32, which shortens less.",
@@ -255,7 +330,7 @@ def test_equal_stretches_are_named(tmp_path: Path) -> None:
 
 
 def test_prices_are_centred_or_left_out(terms: Gathered) -> None:
-    labels = chooser.curve_chart(terms, book()).prices
+    labels = chooser.curve_chart(terms, DAYS).prices
     assert [tick.label for tick in labels] == ["+100", "+110", "+120", "+150", "+200"]
     middle = labels[3].at.split("|")[0]
     assert middle == charts.percent(Fraction(31 + 28, 2) - 27, 8)
@@ -263,7 +338,7 @@ def test_prices_are_centred_or_left_out(terms: Gathered) -> None:
 
 
 def test_rows_say_what_is_done_and_late(house: Gathered) -> None:
-    drawn = timeline.timeline(house, book())
+    drawn = timeline.timeline(house, DAYS)
     rows = {row.key: row for row in drawn.rows if row.key}
     assert [rows[key].state for key in ("t0", "t1", "t2")] == ["finished", "begun", "waiting"]
     assert (rows["t0"].start, rows["t0"].finish, rows["t0"].slack) == (
@@ -275,7 +350,7 @@ def test_rows_say_what_is_done_and_late(house: Gathered) -> None:
     assert rows["t2"].flag == "should have begun 15 Mar 2024"
     assert [bar.name for bar in rows["t1"].bars] == ["baseline", "done", "bar critical"]
     assert [bar.name for bar in rows["t0"].bars] == ["baseline", "done"]
-    assert not drawn.appendix
+    assert drawn.others == 0
 
 
 def many_tasks() -> bytes:
@@ -289,19 +364,18 @@ def many_tasks() -> bytes:
     return "\n".join(lines).encode()
 
 
-def test_many_rows_have_an_appendix(tmp_path: Path) -> None:
+def test_of_many_rows_the_critical_ones_are_shown(tmp_path: Path) -> None:
     found = gathered_of(deck_at(tmp_path, many_tasks()))
-    drawn = timeline.timeline(found, book())
-    first_rows = [row for row in drawn.rows if row.key]
-    assert all(row.is_critical for row in first_rows)
-    assert len(first_rows) + len([row for row in drawn.appendix if row.key]) == 82
-    page = page_of(found)
-    assert page.rows_name == "Critical tasks"
-    assert "appendix" in [section.key for section in page.sections]
+    drawn = timeline.timeline(found, DAYS)
+    rows = [row for row in drawn.rows if row.key]
+    assert len(rows) == 82
+    assert all(row.is_other != row.is_critical for row in rows)
+    assert drawn.others == len([row for row in rows if row.is_other]) > 40
+    assert page_of(found).rows_name == "Critical tasks"
 
 
 def test_money_tables_add_up(house: Gathered) -> None:
-    table = money.summary_table(house, book())
+    table = money.summary_table(house, DAYS)
     assert table is not None
     assert [text_of(cell) for cell in table.rows[0].cells] == [
         "13,600",
@@ -310,25 +384,49 @@ def test_money_tables_add_up(house: Gathered) -> None:
         "14,020",
         "420",
     ]
-    earned = money.earned_table(house, book())
+    earned = money.earned_table(house, DAYS)
     assert earned is not None and house.earned is not None
     last = [text_of(cell) for cell in earned.rows[-1].cells]
     assert last[:3] == [f"{amount:,}" for amount in (4820, house.earned.total.ev, 2020)]
-    chart = money.money_chart(house, book())
+    chart = money.money_chart(house, DAYS)
     assert chart is not None
-    assert [series.name for series in chart.series] == ["planned", "spent", "forecast"]
-    load = money.load(house, book())
+    assert [series.name for series in chart.series] == ["planned", "earned", "spent", "forecast"]
+    load = money.load(house, DAYS)
     assert load is not None and load.left_out == 0 and len(load.charts) == 5
 
 
-def test_the_directed_end_is_the_contract_date(tmp_path: Path) -> None:
+def test_the_lines_of_money_are_of_the_packages_of_earned_value(house: Gathered) -> None:
+    """At the data date the lines have PV, EV and AC: their ratios can be read off."""
+    lines, earned = house.money, house.earned
+    assert lines is not None and earned is not None
+    evening = date(2024, 3, 17)
+    planned = {point.day: point.amount for point in lines.planned}
+    assert planned[evening] == earned.total.pv == 4820
+    assert (lines.earned[-1].day, lines.earned[-1].amount) == (evening, earned.total.ev)
+    assert lines.spent[-1].amount == lines.forecast[0].amount == earned.total.ac == 2020
+    assert (lines.planned[-1].amount, lines.forecast[-1].amount) == (12600, 13020)
+    apart = money.apart_table(house, DAYS)
+    assert apart is not None
+    assert [[text_of(row.name), *map(text_of, row.cells)] for row in apart.rows] == [
+        ["1.4 Supervision", "1,000", "200", "1,000"]
+    ]
+
+
+def test_the_load_of_a_running_project_is_what_is_to_go(house: Gathered) -> None:
+    """Nothing of the finished site is spent again: 10,800 are to go for tasks, 1.4 apart."""
+    assert house.load is not None
+    assert sum(house.load.items["1"].values()) == 11800 - 800
+    assert house.load.items["1.1.1"] == {}
+
+
+def test_the_contract_date_is_that_of_the_project_card(tmp_path: Path) -> None:
     text = HOUSE.read_bytes().replace(b"2024-03-04,1,,", b"2024-03-04,1,33,")
-    plan = open_plan(deck_at(tmp_path, text))
+    plan = opened(deck_at(tmp_path, text))
     contract = contract_of(plan, date(2024, 4, 7))
-    assert contract == Contract(date(2024, 4, 5), "directed end of the deck", True)
-    target = contract_of(open_plan(deck_at(tmp_path, house_with_terms(), "t")), None)
-    assert target == Contract(date(2024, 4, 2), "target of the deck's TERMS", True)
-    assert contract_of(open_plan(HOUSE), None) is None
+    assert contract == Contract(date(2024, 4, 5), "contract date", "of the deck's PROJECT card")
+    target = contract_of(opened(deck_at(tmp_path, house_with_terms(), "t")), None)
+    assert target == Contract(date(2024, 4, 2), "target date", "of the price of time (TERMS)")
+    assert contract_of(opened(HOUSE), None) is None
 
 
 def test_what_changed_since_the_report_before(tmp_path: Path) -> None:
@@ -341,8 +439,8 @@ def test_what_changed_since_the_report_before(tmp_path: Path) -> None:
     now = now.replace(b"3,4,5,4,3,700", b"3,4,5,4,3,900")
     old = deck_at(tmp_path, before, "old")
     found = gathered_of(deck_at(tmp_path, now, "new"), previous=old)
-    assert found.states is not None
-    ends = [(step.cause, step.end) for step in found.states.steps]
+    assert found.changes is not None
+    ends = [(step.cause, step.end) for step in found.changes.bridges.steps]
     assert ends == [
         ("forecast of the report before", date(2024, 4, 7)),
         ("restated past", date(2024, 4, 7)),
@@ -350,7 +448,7 @@ def test_what_changed_since_the_report_before(tmp_path: Path) -> None:
         ("re-estimates", date(2024, 4, 12)),
         ("scope and links", date(2024, 4, 12)),
     ]
-    view = changed.changes_view(found.states, book())
+    view = changed.changes_view(found.changes, DAYS)
     assert rows_of(view, "by task") == [
         ["Dig, pour, cure FOUND", "14 Mar 2024", "18 Mar 2024", "+4"],
         ["Walls WALLS", "24 Mar 2024", "29 Mar 2024", "+1"],
@@ -369,9 +467,10 @@ def test_what_changed_since_the_report_before(tmp_path: Path) -> None:
         "Since the last report, 1 figure of the time before it changed. The last report is shown"
         " as it was reported.",
     )
-    screen = first.first_screen(found, book())
-    assert "the report before said 7 Apr 2024" in text_of(screen.sentences[0])
-    assert text_of(screen.tiles[2].note) == "as of 11 Mar 2024; 5 days later now"
+    assert sentences(found)[3] == (
+        "Since the report of 11 Mar 2024 the end is 5 working days later, from 7 Apr 2024, most of"
+        " it by Dig, pour, cure (+4), and the estimate is 500 EUR more."
+    )
 
 
 def rows_of(view: changed.Changes, end: str) -> list[list[str]]:
@@ -395,8 +494,8 @@ def test_ten_rows_of_a_bridge_and_the_others_together(tmp_path: Path) -> None:
     """A plan without any status, of fourteen tasks of which each lasts a day more."""
     old = deck_at(tmp_path, chain(2, range(14)), "old")
     found = gathered_of(deck_at(tmp_path, chain(3, range(14)), "new"), previous=old)
-    assert found.states is not None
-    view = changed.changes_view(found.states, book())
+    assert found.changes is not None
+    view = changed.changes_view(found.changes, DAYS)
     tasks, accounts = rows_of(view, "by task"), rows_of(view, "by account")
     assert [row[-1] for row in tasks] == ["+1"] * 10 + ["+4", "+14"]
     assert tasks[0] == ["Task 0 T0", "3 Mar 2026", "4 Mar 2026", "+1"]
@@ -409,8 +508,8 @@ def test_ten_rows_of_a_bridge_and_the_others_together(tmp_path: Path) -> None:
 def test_tasks_and_accounts_that_come_and_go_are_named(tmp_path: Path) -> None:
     old = deck_at(tmp_path, chain(2, range(3)), "old")
     found = gathered_of(deck_at(tmp_path, chain(2, range(1, 4)), "new"), previous=old)
-    assert found.states is not None
-    view = changed.changes_view(found.states, book())
+    assert found.changes is not None
+    view = changed.changes_view(found.changes, DAYS)
     assert rows_of(view, "by task") == [
         ["Task 0 T0 (dropped)", "3 Mar 2026", "\u2013", "\u22122"],
         ["Task 3 T3 (new)", "\u2013", "7 Mar 2026", "+2"],
@@ -425,11 +524,39 @@ def test_tasks_and_accounts_that_come_and_go_are_named(tmp_path: Path) -> None:
     ]
 
 
+def test_a_renamed_account_has_one_row(tmp_path: Path) -> None:
+    """Account 1 was called `Old`: its row has both amounts, and the bridge adds up."""
+    text = chain(2, range(2)).replace(b"ACCT,A1,", b"ACCT,Old,")
+    old = opened(deck_at(tmp_path, text, "old"))
+    new = opened(deck_at(tmp_path, chain(3, range(2)), "new"))
+    renames = Renames((Rename("Old", "A1"),))
+    new = replace(new, registers=replace(new.registers, renames=renames))
+    comparison = compare([old, new], None).comparisons[0]
+    moves = list(account_moves(comparison, 1))
+    rows = [(move.code, move.note, move.scope) for move in moves]
+    assert rows == [("A0", "", 100), ("A1", "", 100)]
+    total = sum(move.amounts[-1] for move in moves)
+    assert total == comparison.new.latest - comparison.old.latest
+
+
+def test_accounts_that_became_one_add_up(tmp_path: Path) -> None:
+    """A part of the budget of A0 had an account of its own: nothing has moved."""
+    text = chain(2, range(2)).replace(
+        b"ACCT,A0,W0,200,Account 0", b"ACCT,X,W0,50,Part\nACCT,A0,W0,150,Account 0"
+    )
+    old = opened(deck_at(tmp_path, text, "old"))
+    new = opened(deck_at(tmp_path, chain(2, range(2)), "new"))
+    renames = Renames((Rename("X", "A0"),))
+    new = replace(new, registers=replace(new.registers, renames=renames))
+    comparison = compare([old, new], None).comparisons[0]
+    assert not list(account_moves(comparison, 1))
+
+
 def test_a_report_like_the_last_one_has_no_rows_by_task(tmp_path: Path) -> None:
     deck = deck_at(tmp_path, chain(2, range(3)))
     found = gathered_of(deck, previous=deck)
-    assert found.states is not None
-    view = changed.changes_view(found.states, book())
+    assert found.changes is not None
+    view = changed.changes_view(found.changes, DAYS)
     assert (len(view.tables), view.order) == (3, "")
     assert rows_of(view, "by account")[1:-1] == [["All accounts", "0", "0", "0", "0"]]
 
@@ -441,8 +568,8 @@ def test_links_and_finished_tasks_in_the_bridge_by_task(tmp_path: Path) -> None:
     text = text.replace(b"ACCT,A0", b"STATUS,T0,S,2026-03-02\nSTATUS,T0,F,2026-03-04\nACCT,A0")
     text = text.replace(b"WBS,W,,", b"ASOF,2026-03-04\nWBS,W,,")
     found = gathered_of(deck_at(tmp_path, text, "new"), previous=old)
-    assert found.states is not None
-    assert rows_of(changed.changes_view(found.states, book()), "by task") == [
+    assert found.changes is not None
+    assert rows_of(changed.changes_view(found.changes, DAYS), "by task") == [
         ["Task 0 T0", "4 Mar 2026", "3 Mar 2026, finished", "\u22121"],
         ["Links, waits and calendar", "", "", "\u22123"],
         ["All together", "10 Mar 2026", "6 Mar 2026", "\u22124"],
@@ -468,15 +595,17 @@ def rigid() -> bytes:
 
 def test_a_plan_that_cannot_be_shortened(tmp_path: Path) -> None:
     found = gathered_of(deck_at(tmp_path, rigid()))
-    screen = first.first_screen(found, book())
-    assert [text_of(sentence) for sentence in screen.sentences] == [
-        "The work is forecast to end on 4 Jan 2024, on time against the planned end 4 Jan 2024.",
+    screen = first.first_screen(found, DAYS)
+    assert sentences(found)[:1] + sentences(found)[2:] == [
+        "The work ends on 4 Jan 2024 by normal durations, on time against the planned end"
+        " 4 Jan 2024.",
         "The work costs 0 EUR; the deck has no accounts.",
         "There is nothing to decide: no task of what is left can be shortened.",
     ]
     assert [tile.name for tile in screen.tiles[3:]] == ["Cost of the work", "Budget", "Decision"]
     assert text_of(screen.tiles[5].value) == "none"
     page = page_of(found)
-    assert (page.summary, page.earned, page.changes, page.money_chart) == (None, None, None, None)
+    shown = page.money
+    assert (shown.summary, shown.earned, page.changes, shown.chart) == (None, None, None, None)
     assert len(page.left_out) == 5
     assert [tick.label for tick in page.chooser.chart.x_ticks] == ["4|4 Jan 2024"]

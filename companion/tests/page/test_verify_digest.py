@@ -3,11 +3,11 @@
 from hashlib import sha256
 from pathlib import Path
 
-from pert_companion.page.verify import build_verify_page
+from pert_companion.page.verify import verify_page
 
 
 def test_readme_has_the_digest_of_the_page() -> None:
     """Whoever gets `pert-verify.html` can compare it with the release."""
     readme = Path(__file__).resolve().parents[3] / "README.md"
-    digest = sha256(build_verify_page().encode()).hexdigest()
+    digest = sha256(verify_page()).hexdigest()
     assert digest in readme.read_text(encoding="utf-8")

@@ -8,8 +8,8 @@ from typing import Any
 
 import pytest
 
-from pert_companion.errors import InputError
-from pert_companion.plan import (
+from pert_companion.model.errors import InputError
+from pert_companion.model.plan import (
     Baseline,
     Constraint,
     ConstraintKind,
@@ -18,8 +18,9 @@ from pert_companion.plan import (
     ResourceKind,
     Task,
 )
+from pert_companion.model.source import Source
 from pert_companion.readers import gan, gnome_planner
-from pert_companion.readers.base import Reading, ReaderOptions, Source
+from pert_companion.readers.base import ReaderOptions, Reading
 
 
 def first(reading: Reading) -> Task:
@@ -53,7 +54,10 @@ def test_gan_dates() -> None:
     """The finish is the last day of work; the first day is the earliest start."""
     reading = read_gan(gan_task(1, duration=6) + gan_task(2, start="2026-02-27"))
     task = first(reading)
-    assert (task.listed_start, task.listed_finish) == (date(2026, 3, 2), date(2026, 3, 9))
+    assert (task.listed_start, task.listed_finish) == (
+        date(2026, 3, 2),
+        date(2026, 3, 9),
+    )
     assert reading.plan.start == date(2026, 2, 27)
     assert read_gan(gan_task(1), start=date(2026, 1, 5)).plan.start == date(2026, 1, 5)
     with pytest.raises(InputError, match="--start"):
@@ -118,7 +122,7 @@ def test_gan_links_baselines_and_columns() -> None:
     assert [(each.kind, each.lag.minutes) for each in plan.links] == [
         (LinkKind.FINISH_FINISH, -480)
     ]
-    assert kinds(reading) == ["crash", "link", "link"]
+    assert kinds(reading) == ["baseline", "crash", "link", "link"]
     assert list(plan.tasks())[1].crash == Crash(480, slope=Decimal(30))
     assert first(reading).baselines == (
         Baseline(0, date(2026, 3, 2), date(2026, 3, 6), 2400, None),
@@ -187,7 +191,10 @@ def test_planner_constraints() -> None:
         ("as-soon-as-possible", None),
         ("as-late-as-possible", Constraint(ConstraintKind.AS_LATE_AS_POSSIBLE, None)),
         ("must-start-on", Constraint(ConstraintKind.MUST_START, date(2026, 3, 9))),
-        ("finish-no-later-than", Constraint(ConstraintKind.FINISH_NO_LATER, date(2026, 3, 6))),
+        (
+            "finish-no-later-than",
+            Constraint(ConstraintKind.FINISH_NO_LATER, date(2026, 3, 6)),
+        ),
     ):
         inside = f'<constraint type="{text}" time="20260309T000000Z"/>'
         assert first(read_planner(planner_task(1, inside))).constraint == constraint
@@ -254,7 +261,10 @@ def test_planner_dates() -> None:
         "percent_complete": 30,
     }
     task = first(read_planner(planner_task(1, **words)))
-    assert (task.listed_start, task.listed_finish) == (date(2026, 3, 9), date(2026, 3, 9))
+    assert (task.listed_start, task.listed_finish) == (
+        date(2026, 3, 9),
+        date(2026, 3, 9),
+    )
     assert task.progress.percent == 30
     moment = planner_task(1, type="milestone", start="20260306T170000Z", end="20260306T170000Z")
     assert first(read_planner(moment)).listed_start == date(2026, 3, 6)

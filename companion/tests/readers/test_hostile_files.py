@@ -10,11 +10,13 @@ import pytest
 
 from pert_companion import readers
 from pert_companion.carry import carry
-from pert_companion.errors import InputError
-from pert_companion.plan import Plan
-from pert_companion.readers.base import Reading, ReaderOptions, Source
+from pert_companion.model.errors import InputError
+from pert_companion.model.plan import Plan
+from pert_companion.model.source import Source
+from pert_companion.readers.base import ReaderOptions, Reading
 from planner_files import gan_bytes, mspdi_bytes, planner_bytes, pmxml_bytes, xer_bytes
 from sample_plan import sample_plan
+from timing import within
 
 CASES = Path(__file__).parent.parent / "cases"
 WRITERS: dict[str, Callable[..., bytes]] = {
@@ -129,9 +131,8 @@ def test_entities(name: str) -> None:
         '<!ENTITY a11 SYSTEM "file:///etc/passwd">',
     ):
         forged = f"{head}?><!DOCTYPE x [{inside}]>{body.replace('Dig', '&a11;', 1)}"
-        begun = time.process_time()
-        assert "document types and entities are not read" in fault(forged.encode())
-        assert time.process_time() - begun < SECONDS
+        with within(SECONDS):
+            assert "document types and entities are not read" in fault(forged.encode())
 
 
 @pytest.mark.parametrize("name", XML)
@@ -176,13 +177,19 @@ ROWS = {
         "<Task><UID>{n}</UID><Name>Dig</Name><OutlineLevel>1</OutlineLevel>"
         "<Duration>PT8H0M0S</Duration></Task>",
     ),
-    "xer": ("%R\t2\t1\t1\t7\t", "%R\t{n}\t1\ttop\t7\tA{n}\tDig\tTT_Task\tTK_NotStart\t\t8\t8\r\n"),
+    "xer": (
+        "%R\t2\t1\t1\t7\t",
+        "%R\t{n}\t1\ttop\t7\tA{n}\tDig\tTT_Task\tTK_NotStart\t\t8\t8\r\n",
+    ),
     "pmxml": (
         "<Activity>",
         "<Activity><ObjectId>{n}</ObjectId><Name>Dig</Name><PlannedDuration>8</PlannedDuration>"
         "</Activity>",
     ),
-    "gan": ('<task id="1"', '<task id="{n}" name="Dig" start="2026-03-02" duration="1"/>'),
+    "gan": (
+        '<task id="1"',
+        '<task id="{n}" name="Dig" start="2026-03-02" duration="1"/>',
+    ),
     "gnome_planner": ('<task id="1"', '<task id="{n}" name="Dig" work="28800"/>'),
 }
 

@@ -8,9 +8,10 @@ from pathlib import Path
 
 import pytest
 
-from pert_companion.calendar import Calendar
-from pert_companion.errors import InputError
-from pert_companion.plan import (
+from pert_companion.model import moments
+from pert_companion.model.calendar import Calendar
+from pert_companion.model.errors import InputError
+from pert_companion.model.plan import (
     Constraint,
     ConstraintKind,
     Crash,
@@ -20,8 +21,9 @@ from pert_companion.plan import (
     ResourceKind,
     Task,
 )
-from pert_companion.readers import moments, mspdi
-from pert_companion.readers.base import Reading, ReaderOptions, Source
+from pert_companion.model.source import Source
+from pert_companion.readers import mspdi, mspdi_tasks
+from pert_companion.readers.base import ReaderOptions, Reading
 
 NAMESPACE = "http://schemas.microsoft.com/project"
 START = "<StartDate>2026-03-02T08:00:00</StartDate>"
@@ -77,7 +79,7 @@ def link(*parts: str) -> str:
 )
 def test_durations(text: str, minutes: int | None) -> None:
     """Durations in all the forms that programs write."""
-    assert mspdi.duration(text) == minutes
+    assert mspdi_tasks.duration(text) == minutes
 
 
 def test_lags() -> None:
@@ -174,7 +176,10 @@ def test_evenings_and_mornings() -> None:
     """A finish before the first shift is of the day before, a start after the last of the next."""
     dates = "<Start>2026-03-06T17:00:00</Start><Finish>2026-03-10T00:00:00</Finish>"
     found = first(read(task(1, DAY, dates)))
-    assert (found.listed_start, found.listed_finish) == (date(2026, 3, 9), date(2026, 3, 9))
+    assert (found.listed_start, found.listed_finish) == (
+        date(2026, 3, 9),
+        date(2026, 3, 9),
+    )
     calendar = Calendar()
     assert moments.finish_day(calendar, "2026-03-09T08:00:00") == date(2026, 3, 6)
     assert moments.finish_day(calendar, "2026-03-09T08:01:00") == date(2026, 3, 9)
@@ -194,7 +199,11 @@ def test_progress() -> None:
     parts += "<ActualFinish>2026-03-03T17:00:00</ActualFinish><ActualCost>12345</ActualCost>"
     parts += "<RemainingDuration>PT4H0M0S</RemainingDuration><RemainingCost>500</RemainingCost>"
     found = first(read(task(1, DAY, parts))).progress
-    assert (found.percent, found.actual_finish, found.remaining) == (Decimal(40), None, 240)
+    assert (found.percent, found.actual_finish, found.remaining) == (
+        Decimal(40),
+        None,
+        240,
+    )
     assert (found.actual_cost, found.remaining_cost) == (Decimal("123.45"), Decimal(5))
     started = "<PercentComplete>0</PercentComplete><ActualStart>2026-03-02T08:00:00</ActualStart>"
     assert first(read(task(1, DAY, started))).progress.actual_start == date(2026, 3, 2)
@@ -294,22 +303,40 @@ def free_days(plan: Plan, days: int = 40) -> list[date]:
     (
         (exception("1", "2026-03-03", "2026-03-04"), [3, 4]),
         (
-            exception("2", "2026-01-01", "2028-12-31", "<Month>2</Month><MonthDay>5</MonthDay>"),
+            exception(
+                "2",
+                "2026-01-01",
+                "2028-12-31",
+                "<Month>2</Month><MonthDay>5</MonthDay>",
+            ),
             [5],
         ),
         (
             exception(
-                "6", "2026-03-02", "2026-03-20", "<DaysOfWeek>2</DaysOfWeek><Period>2</Period>"
+                "6",
+                "2026-03-02",
+                "2026-03-20",
+                "<DaysOfWeek>2</DaysOfWeek><Period>2</Period>",
             ),
             [2, 16],
         ),
         (exception("4", "2026-03-02", "2026-12-31", "<MonthDay>5</MonthDay>"), [5]),
         (
-            exception("4", "2026-01-05", "2027-01-05", "<MonthDay>5</MonthDay><Period>2</Period>"),
+            exception(
+                "4",
+                "2026-01-05",
+                "2027-01-05",
+                "<MonthDay>5</MonthDay><Period>2</Period>",
+            ),
             [5],
         ),
         (
-            exception("4", "2026-02-05", "2027-01-05", "<MonthDay>5</MonthDay><Period>2</Period>"),
+            exception(
+                "4",
+                "2026-02-05",
+                "2027-01-05",
+                "<MonthDay>5</MonthDay><Period>2</Period>",
+            ),
             [],
         ),
     ),
@@ -435,3 +462,63 @@ def test_taskjuggler_fixes_tasks() -> None:
         Constraint(ConstraintKind.START_NO_EARLIER, date(2026, 3, 9)),
         None,
     ]
+
+
+@pytest.mark.parametrize("form", (4, 6, 8, 10, 12, 20, 36, 38, 40, 42, 44, 52))
+def test_formats_of_elapsed_time(form: int) -> None:
+    """MS Project's codes of durations and lags by the clock, estimated ones and shares too."""
+    start = "<Start>2026-03-02T08:00:00</Start>"
+    form_tag = f"<DurationFormat>{form}</DurationFormat>"
+    reading = read(task(1, "<Duration>PT168H0M0S</Duration>", start, form_tag))
+    assert kinds(reading) == ["elapsed"] and first(reading).minutes == 5 * 480
+    lag_tags = f"<LinkLag>14400</LinkLag><LagFormat>{form}</LagFormat><Type>1</Type>"
+    reading = read(task(1, DAY) + task(2, DAY, link(lag_tags)))
+    (found,) = reading.plan.links
+    assert found.lag.elapsed or found.lag.share is not None
+
+
+@pytest.mark.parametrize("form", (3, 5, 7, 9, 11, 19, 21, 35, 37, 39, 41, 43, 51, 53))
+def test_formats_of_working_time(form: int) -> None:
+    """The other codes count working time."""
+    form_tag = f"<DurationFormat>{form}</DurationFormat>"
+    reading = read(task(1, "<Duration>PT168H0M0S</Duration>", form_tag))
+    assert kinds(reading) == [] and first(reading).minutes == 168 * 60
+    lag_tags = f"<LinkLag>14400</LinkLag><LagFormat>{form}</LagFormat><Type>1</Type>"
+    (found,) = read(task(1, DAY) + task(2, DAY, link(lag_tags))).plan.links
+    assert not found.lag.elapsed
+
+
+def level_zero(uid: int, *parts: str) -> str:
+    """Returns a row as TaskJuggler writes its top tasks."""
+    return task(uid, *parts, level=0)
+
+
+def test_several_tasks_at_the_top_of_taskjuggler() -> None:
+    """One row of level 0 is the project itself; several are its groups and tasks."""
+    rows = level_zero(1) + task(2, DAY) + level_zero(3, DAY) + level_zero(4) + task(5, DAY)
+    plan = read(rows).plan
+    assert [group.uid for group in plan.groups()] == ["1", "4"]
+    assert [(each.uid, each.parent) for each in plan.tasks()] == [
+        ("2", "1"),
+        ("3", None),
+        ("5", "4"),
+    ]
+    only = read(level_zero(1) + task(2, DAY) + task(3, DAY)).plan
+    assert list(only.groups()) == [] and [each.uid for each in only.tasks()] == [
+        "2",
+        "3",
+    ]
+
+
+def test_work_by_day_of_taskjuggler() -> None:
+    """An assignment without a sum has the work of each day."""
+    daily = "<TimephasedData><Type>1</Type><Value>PT{}H0M0S</Value></TimephasedData>"
+    actual = "<TimephasedData><Type>2</Type><Value>PT4H0M0S</Value></TimephasedData>"
+    head = START + (
+        "<Resources><Resource><UID>1</UID><Name>Crew</Name><Type>1</Type></Resource></Resources>"
+        "<Assignments><Assignment><UID>0</UID><TaskUID>1</TaskUID><ResourceUID>1</ResourceUID>"
+        f"<Units>1.0</Units>{daily.format(8)}{daily.format(0)}{daily.format(6)}{actual}"
+        "</Assignment></Assignments>"
+    )
+    plan = read(task(1, "<Duration>PT16H0M0S</Duration>"), head).plan
+    assert [(each.resource, int(each.quantity)) for each in plan.assignments] == [("1", 14 * 60)]

@@ -7,13 +7,18 @@ from pathlib import Path
 
 import pytest
 
-from pert_companion.errors import InputError
-from pert_companion.plan import Baseline, Constraint, ConstraintKind, Crash, Task
+from pert_companion.model.errors import InputError
+from pert_companion.model.plan import Baseline, Constraint, ConstraintKind, Crash, Task
+from pert_companion.model.source import Source
 from pert_companion.readers import p6_calendars, pmxml, xer
-from pert_companion.readers.base import Reading, ReaderOptions, Source
+from pert_companion.readers.base import ReaderOptions, Reading
 from pert_companion.readers.p6_calendars import CalendarTextError, Lengths
 
-PROJECT = {"proj_id": "1", "proj_short_name": "P1", "plan_start_date": "2026-03-02 08:00"}
+PROJECT = {
+    "proj_id": "1",
+    "proj_short_name": "P1",
+    "plan_start_date": "2026-03-02 08:00",
+}
 TASK = {"task_id": "1", "proj_id": "1", "task_code": "A1", "task_name": "Dig"}
 TASK |= {"task_type": "TT_Task", "target_drtn_hr_cnt": "40", "remain_drtn_hr_cnt": "40"}
 
@@ -22,7 +27,11 @@ def file_of(*tables: tuple[str, dict[str, str]]) -> bytes:
     """Returns an XER file; each row is with its table."""
     lines = ["ERMHDR\t19.12"]
     for table, row in tables:
-        lines += [f"%T\t{table}", "%F\t" + "\t".join(row), "%R\t" + "\t".join(row.values())]
+        lines += [
+            f"%T\t{table}",
+            "%F\t" + "\t".join(row),
+            "%R\t" + "\t".join(row.values()),
+        ]
     return ("\n".join(lines) + "\n%E\n").encode()
 
 
@@ -74,11 +83,14 @@ def test_constraints() -> None:
         ({"complete_pct_type": "CP_Phys", "phys_complete_pct": "33"}, "33"),
         ({"complete_pct_type": "CP_Drtn", "remain_drtn_hr_cnt": "10"}, "75"),
         (
-            {"complete_pct_type": "CP_Units", "act_work_qty": "1", "remain_work_qty": "3"},
+            {
+                "complete_pct_type": "CP_Units",
+                "act_work_qty": "1",
+                "remain_work_qty": "3",
+            },
             "25",
         ),
         ({"complete_pct_type": "CP_Units", "remain_drtn_hr_cnt": "10"}, "75"),
-        ({"complete_pct_type": "CP_Phys", "phys_complete_pct": "120"}, "100"),
         ({"remain_drtn_hr_cnt": "60"}, "0"),
         ({"remain_drtn_hr_cnt": "x"}, "0"),
     ),
@@ -113,7 +125,12 @@ def test_costs() -> None:
     """Costs of resources and expenses add up; those without sense are losses."""
     work = {"task_id": "1", "rsrc_id": "5", "target_qty": "16", "target_cost": "100.5"}
     work |= {"act_reg_cost": "10", "act_ot_cost": "5", "remain_cost": "85"}
-    expense = {"task_id": "1", "target_cost": "50", "act_cost": "1", "remain_cost": "49"}
+    expense = {
+        "task_id": "1",
+        "target_cost": "50",
+        "act_cost": "1",
+        "remain_cost": "49",
+    }
     begun = {"status_code": "TK_Active", "act_start_date": "2026-03-02 08:00"}
     resource = {"rsrc_id": "5", "rsrc_name": "Crane", "rsrc_type": "RT_Equip"}
     rate = {"rsrc_id": "5", "cost_per_qty": "80", "start_date": "2026-01-01 00:00"}
@@ -129,7 +146,7 @@ def test_costs() -> None:
     )
     task = first(reading)
     assert (task.cost, task.progress.actual_cost) == (Decimal("150.5"), Decimal(16))
-    assert task.progress.remaining_cost == Decimal(134) and kinds(reading) == []
+    assert task.progress.remaining_cost == Decimal(134) and kinds(reading) == ["resource"]
     assert reading.plan.resources[0].rate == Decimal(70)
     assert any("rates that change" in note for note in reading.plan.notes)
     (used,) = reading.plan.assignments
@@ -158,7 +175,10 @@ def test_crash_durations() -> None:
 
     def crash_of(fields: dict[str, str], **options: str) -> tuple[Crash | None, list[str]]:
         values = [
-            ("UDFVALUE", {"udf_type_id": n, "fk_id": "1", "udf_number": "", "udf_text": text})
+            (
+                "UDFVALUE",
+                {"udf_type_id": n, "fk_id": "1", "udf_number": "", "udf_text": text},
+            )
             for n, text in fields.items()
         ]
         reading = read(("TASK", TASK), *rows, *values, **options)
@@ -183,7 +203,12 @@ def test_calendars() -> None:
     tasks = [("TASK", {**TASK, "task_id": str(n), "clndr_id": "7"}) for n in (1, 2)]
     other = {**TASK, "task_id": "3", "clndr_id": "8", "target_drtn_hr_cnt": "20"}
     link = {"task_id": "1", "pred_task_id": "3", "proj_id": "1", "lag_hr_cnt": "10"}
-    tables = [calendar("7", "Days"), calendar("8", "Long", "10"), *tasks, ("TASK", other)]
+    tables = [
+        calendar("7", "Days"),
+        calendar("8", "Long", "10"),
+        *tasks,
+        ("TASK", other),
+    ]
     reading = read(*tables, ("TASKPRED", link))
     plan = reading.plan
     assert plan.calendar.name == "Days" and [t.calendar for t in plan.tasks()][2] == "Long"
@@ -235,7 +260,10 @@ def test_calendar_texts_that_are_none(text: str) -> None:
 
 def test_lengths_and_times() -> None:
     """Hours of days, weeks and months; times of day in 12 and 24 hours."""
-    assert p6_calendars.lengths_of("7.5", "37.5", "150") == (Lengths(450, 2250, 20), True)
+    assert p6_calendars.lengths_of("7.5", "37.5", "150") == (
+        Lengths(450, 2250, 20),
+        True,
+    )
     assert p6_calendars.lengths_of("", "", "") == (Lengths(), True)
     assert p6_calendars.lengths_of("30", "", "") == (Lengths(), False)
     times = ("08:00", "8:00 AM", "12:00 AM", "12:30 PM", "17:30:00", "24:00")
@@ -358,3 +386,24 @@ def test_xml_of_p6() -> None:
     assert task.baselines[0] == Baseline(0, date(2026, 3, 2), date(2026, 3, 3), 960, Decimal(5))
     assert kinds(reading) == ["calendar"] and reading.plan.currency == "EUR"
     assert reading.plan.calendar.week[0] == ((420, 660),)
+
+
+def test_a_data_date_in_the_evening_of_the_first_day() -> None:
+    """The first day counts: its progress is as of its own evening."""
+    for text, day in (
+        ("2026-03-02 17:00", date(2026, 3, 2)),
+        ("2026-03-02 08:00", None),
+    ):
+        data = file_of(("PROJECT", {**PROJECT, "last_recalc_date": text}), ("TASK", TASK))
+        assert xer.read(Source(Path("plan.xer"), data), ReaderOptions()).plan.data_date == day
+
+
+def test_notes_of_several_lines() -> None:
+    """A table that is not read may have line breaks in its texts; in others they are named."""
+    memo = "%T\tTASKMEMO\n%F\tmemo_id\ttask_memo\n%R\t1\tFirst line\r\nsecond line\r\n\r\nthird\n"
+    data = file_of(("PROJECT", PROJECT), ("TASK", TASK)).replace(b"%E", memo.encode() + b"%E")
+    plan = xer.read(Source(Path("plan.xer"), data), ReaderOptions()).plan
+    assert [task.name for task in plan.tasks()] == ["Dig"]
+    broken = file_of(("PROJECT", PROJECT), ("TASK", {**TASK, "task_name": "Dig\nand drain"}))
+    with pytest.raises(InputError, match="may have a line break"):
+        xer.read(Source(Path("plan.xer"), broken), ReaderOptions())

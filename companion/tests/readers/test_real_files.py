@@ -8,8 +8,9 @@ from datetime import date
 from pathlib import Path
 
 from pert_companion import readers
-from pert_companion.plan import Constraint, ConstraintKind, LinkKind, Plan, Task
-from pert_companion.readers.base import Reading, ReaderOptions, Source
+from pert_companion.model.plan import Constraint, ConstraintKind, LinkKind, Plan, Task
+from pert_companion.model.source import Source
+from pert_companion.readers.base import ReaderOptions, Reading
 
 FILES = Path(__file__).parent.parent / "files"
 
@@ -61,6 +62,14 @@ def test_taskjuggler() -> None:
         ("9", "10"),
     ]
     assert [group.name for group in plan.groups()] == ["Ground", "Frame"]
+    names = {resource.uid: resource.name for resource in plan.resources}
+    work = {
+        (each.task, names[each.resource]): int(each.quantity / 480) for each in plan.assignments
+    }
+    assert work == {("3", "Crew"): 5, ("4", "Mason"): 3, ("7", "Crew"): 8} | {
+        ("8", "Crew"): 6,
+        ("9", "Mason"): 2,
+    }
 
 
 def test_gnome_planner() -> None:

@@ -8,9 +8,10 @@ from pathlib import Path
 from hypothesis import HealthCheck, given, settings
 
 from pert_companion import readers
-from pert_companion.calendar import Calendar
-from pert_companion.plan import Constraint, ConstraintKind, Plan, Progress, Task
-from pert_companion.readers.base import Reading, ReaderOptions, Source
+from pert_companion.model.calendar import Calendar
+from pert_companion.model.plan import Constraint, ConstraintKind, Plan, Progress, Task
+from pert_companion.model.source import Source
+from pert_companion.readers.base import ReaderOptions, Reading
 from examples import example_count
 from planner_files import (
     PLANNER_CONSTRAINTS,
@@ -69,7 +70,9 @@ IN_PLANNER = frozenset(
     )
 )
 FEW = settings(
-    max_examples=example_count(30), deadline=None, suppress_health_check=[HealthCheck.too_slow]
+    max_examples=example_count(30),
+    deadline=None,
+    suppress_health_check=[HealthCheck.too_slow],
 )
 DAYS = 420
 

@@ -9,8 +9,9 @@ import pytest
 from lists import US, csv_bytes, xlsx_bytes
 from pert_companion import readers
 from pert_companion.carry import carry
-from pert_companion.plan import Plan, Task
-from pert_companion.readers.base import ReaderOptions, Source
+from pert_companion.model.plan import Plan, Task
+from pert_companion.model.source import Source
+from pert_companion.readers.base import ReaderOptions
 from planner_files import gan_bytes, mspdi_bytes, planner_bytes, pmxml_bytes, xer_bytes
 from sample_plan import FIRST_DAY, sample_plan
 

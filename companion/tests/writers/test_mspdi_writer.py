@@ -1,6 +1,7 @@
 """MS Project's XML that is written shows the chosen schedule, by a CPM of the test's own."""
 
 from dataclasses import replace
+from decimal import Decimal
 from pathlib import Path
 from xml.etree import ElementTree
 
@@ -9,16 +10,23 @@ from hypothesis import HealthCheck, assume, given, settings
 
 from cpm import Dates, dates_of
 from examples import length_count
-from pert_companion.carry import Carried, carry
-from pert_companion.errors import InputError
-from pert_companion.plan import LinkKind, Plan, Task
-from pert_companion.predecessors import first_day_waits, real_links
-from pert_companion.programs import Programs
+from pert_companion.analysis.schedule import Schedule
+from pert_companion.analysis.lengths import LengthChoice
+from pert_companion.analysis.scheduling import rest_schedule
+from pert_companion.carry import Carried, CarryOptions, carry
+from pert_companion.model.amounts import measure_of
+from pert_companion.model.errors import InputError
+from pert_companion.model.plan import LinkKind, Plan, Task
+from pert_companion.model.predecessors import first_day_waits, real_links
+from pert_companion.model.source import Source
+from pert_companion.programs.client import Programs
+from pert_companion.programs.results import cost_at
 from pert_companion.readers import mspdi
-from pert_companion.readers.base import ReaderOptions, Source
-from pert_companion.schedule import Schedule
-from pert_companion.scheduling import normal_schedule, schedule_at
-from pert_companion.writers.mspdi import NAMESPACE, into_mspdi, to_mspdi
+from pert_companion.readers.base import ReaderOptions
+from pert_companion.writers.mspdi import to_mspdi
+from pert_companion.writers.mspdi_elements import NAMESPACE
+from pert_companion.writers.mspdi_into import into_mspdi
+from pert_companion.state.project import ProjectState
 from planner_files import mspdi_bytes
 from plans import FIRST_DAY, Feature, plans
 from sample_plan import sample_plan
@@ -38,7 +46,9 @@ FEATURES = frozenset(
     )
 )
 SLOW = settings(
-    max_examples=length_count(12), deadline=None, suppress_health_check=list(HealthCheck)
+    max_examples=length_count(12),
+    deadline=None,
+    suppress_health_check=list(HealthCheck),
 )
 
 
@@ -59,11 +69,18 @@ def in_one_piece(plan: Plan) -> Plan:
 
 def three_lengths(carried: Carried) -> list[Schedule]:
     """Returns the schedules of the normal, the shortest, and a length between them."""
-    deck, side = carried.deck, carried.side
-    curve = PROGRAMS.curve(PROGRAMS.network(deck))
-    first, last = curve[0].length, curve[-1].length
-    lengths = dict.fromkeys((min(first, last), (first + last) // 2, max(first, last)))
-    return [schedule_at(PROGRAMS, deck, side, length) for length in lengths]
+    state = state_of(carried)
+    measure = measure_of(state.side)
+    first, last = state.rest.shortest, state.rest.longest
+    return [
+        rest_schedule(state, LengthChoice(days=Decimal(measure.days(length))))
+        for length in dict.fromkeys((first, (first + last) // 2, last))
+    ]
+
+
+def state_of(carried: Carried) -> ProjectState:
+    """Returns the state of an import."""
+    return ProjectState(PROGRAMS, carried.deck, carried.side)
 
 
 def check_dates(data: bytes, schedule: Schedule) -> None:
@@ -93,7 +110,7 @@ def test_into_the_original(plan: Plan) -> None:
     data = mspdi_bytes(plan)
     carried = carry(read(data))
     for schedule in three_lengths(carried):
-        changed, missing = into_mspdi(data, "plan.xml", schedule, plan.calendar)
+        changed, missing = into_mspdi(data, "plan.xml", schedule, carried.side)
         assert missing == []
         check_dates(changed, schedule)
         check_rest(data, changed)
@@ -113,12 +130,17 @@ def test_new_file(plan: Plan) -> None:
         check_dates(data, schedule)
         names = [task.name for task in read(data).tasks()]
         assert names == [task.name for task in plan.tasks()]
+        costs = [task.cost or 0 for task in read(data).tasks()]
+        assert costs == [task.cost for task in schedule.tasks]
 
 
 CHANGED = frozenset(
     "Duration Start Finish EarlyStart EarlyFinish ManualStart ManualFinish ManualDuration"
-    " RemainingDuration FinishDate".split()
+    " RemainingDuration FinishDate PercentComplete Cost FixedCost RemainingCost Value Work"
+    " RegularWork RemainingWork Units LinkLag LagFormat Resume".split()
 )
+ADDED = frozenset("Cost FixedCost RemainingDuration".split())
+"""What a task gets if it has none."""
 
 
 def everything_else(data: bytes) -> list[tuple[str, str]]:
@@ -127,6 +149,8 @@ def everything_else(data: bytes) -> list[tuple[str, str]]:
     found = []
     for element in root.iter():
         name = element.tag.removeprefix(f"{{{NAMESPACE}}}")
+        if name in ADDED:
+            continue
         found.append((name, "" if name in CHANGED else element.text or ""))
     return found
 
@@ -134,6 +158,59 @@ def everything_else(data: bytes) -> list[tuple[str, str]]:
 def check_rest(before: bytes, after: bytes) -> None:
     """Checks that ids, links, resources, assignments and calendars are what they were."""
     assert everything_else(before) == everything_else(after)
+
+
+RUNNING = FEATURES | {Feature.PROGRESS, Feature.CRASH_COST}
+
+
+@SLOW
+@given(plans(features=RUNNING, least=2, most=9))
+def test_running_plans_come_back(plan: Plan) -> None:
+    """An export at any length, imported again, has the curve of what was left from there on."""
+    plan = in_one_piece(plan)
+    assume(any(isinstance(entry, Task) for entry in plan.outline))
+    data = mspdi_bytes(plan)
+    carried = carry(read(data))
+    unit = CarryOptions(unit=str(carried.side.unit_minutes))
+    before = state_of(carried).rest.curve
+    for schedule in three_lengths(carried):
+        changed, missing = into_mspdi(data, "plan.xml", schedule, carried.side)
+        assert missing == []
+        check_rest(data, changed)
+        after = state_of(carry(read(changed), unit)).rest.curve
+        assert (after[0].length, after[-1].length) == (schedule.length, before[-1].length)
+        for length in range(after[-1].length, schedule.length + 1):
+            assert cost_at(after, length)[0] == cost_at(before, length)[0]
+        if schedule.length == before[0].length:
+            check_durations(data, changed)
+
+
+def check_durations(before: bytes, after: bytes) -> None:
+    """Checks that a schedule at normal durations changes dates alone."""
+    kept = [
+        [element.text for element in ElementTree.fromstring(data).iter() if is_kept(element)]
+        for data in (before, after)
+    ]
+    assert kept[0] == kept[1]
+
+
+def is_kept(element: ElementTree.Element) -> bool:
+    """Says whether normal durations leave a field as it is; groups follow their tasks."""
+    name = element.tag.removeprefix(f"{{{NAMESPACE}}}")
+    return name in ("RemainingDuration", "PercentComplete", "Cost", "FixedCost", "Value", "Work")
+
+
+@SLOW
+@given(plans(features=FEATURES, least=2, most=9))
+def test_an_unstarted_plan_at_its_own_dates_stays(plan: Plan) -> None:
+    """Put into a file that has its dates already, a schedule changes no byte."""
+    plan = in_one_piece(plan)
+    assume(any(isinstance(entry, Task) for entry in plan.outline))
+    carried = carry(read(mspdi_bytes(plan)))
+    schedule = rest_schedule(state_of(carried))
+    dated, _ = into_mspdi(mspdi_bytes(plan), "plan.xml", schedule, carried.side)
+    again, _ = into_mspdi(dated, "plan.xml", schedule, carried.side)
+    assert again == dated
 
 
 TASKS = """
@@ -181,16 +258,19 @@ def test_tasks_with_progress() -> None:
     """Finished tasks stay, begun ones keep their start, elapsed ones their duration."""
     data = project(TASKS)
     carried = carry(read(data))
-    schedule = normal_schedule(PROGRAMS, carried.deck, carried.side)
-    changed, missing = into_mspdi(data, "plan.xml", schedule, carried.side.calendar)
+    schedule = rest_schedule(state_of(carried))
+    changed, missing = into_mspdi(data, "plan.xml", schedule, carried.side)
     assert missing == []
     assert task_texts(changed, "2") == task_texts(data, "2")
     assert task_texts(changed, "3") == task_texts(data, "3")
     assert task_texts(changed, "4")["Duration"] == "PT48H0M0S"
-    assert task_texts(changed, "4")["Start"] == "2026-03-02T08:00:00"
+    assert task_texts(changed, "4")["Start"] == "2026-03-04T08:00:00"
     assert task_texts(changed, "5") == task_texts(data, "5")
     group = task_texts(changed, "1")
-    assert (group["Start"], group["Finish"]) == ("2026-03-02T08:00:00", "2026-03-06T17:00:00")
+    assert (group["Start"], group["Finish"]) == (
+        "2026-03-02T08:00:00",
+        "2026-03-06T17:00:00",
+    )
     assert group["Duration"] == "PT40H0M0S"
 
 
@@ -198,12 +278,13 @@ def test_a_shortened_elapsed_task() -> None:
     """A task by the clock that is shortened counts working time from then on."""
     data = project(TASKS)
     carried = carry(read(data))
-    schedule = normal_schedule(PROGRAMS, carried.deck, carried.side)
+    schedule = rest_schedule(state_of(carried))
     shorter = [
-        replace(task, chosen_minutes=480) if task.uid == "4" else task for task in schedule.tasks
+        replace(task, chosen_minutes=480, shortened_minutes=480) if task.uid == "4" else task
+        for task in schedule.tasks
     ]
     schedule = replace(schedule, tasks=tuple(shorter))
-    changed, _ = into_mspdi(data, "plan.xml", schedule, carried.side.calendar)
+    changed, _ = into_mspdi(data, "plan.xml", schedule, carried.side)
     texts = task_texts(changed, "4")
     assert (texts["Duration"], texts["DurationFormat"]) == ("PT8H0M0S", "7")
 
@@ -211,9 +292,9 @@ def test_a_shortened_elapsed_task() -> None:
 def test_a_task_that_the_original_lacks() -> None:
     """It is named, and the others are changed."""
     carried = carry(read(project(TASKS)))
-    schedule = normal_schedule(PROGRAMS, carried.deck, carried.side)
+    schedule = rest_schedule(state_of(carried))
     data = project(TASKS.replace("<UID>4</UID>", "<UID>44</UID>"))
-    _, missing = into_mspdi(data, "plan.xml", schedule, carried.side.calendar)
+    _, missing = into_mspdi(data, "plan.xml", schedule, carried.side)
     assert missing == ["plan.xml: no task with UID 4 (Cure)"]
 
 
@@ -223,8 +304,8 @@ def test_levels_that_are_no_numbers() -> None:
         TASKS.replace("<OutlineLevel>2</OutlineLevel>", "<OutlineLevel>x</OutlineLevel>")
     )
     carried = carry(read(data))
-    schedule = normal_schedule(PROGRAMS, carried.deck, carried.side)
-    changed, _ = into_mspdi(data, "plan.xml", schedule, carried.side.calendar)
+    schedule = rest_schedule(state_of(carried))
+    changed, _ = into_mspdi(data, "plan.xml", schedule, carried.side)
     assert task_texts(changed, "3")["Duration"] == "PT32H0M0S"
 
 
@@ -242,9 +323,9 @@ def test_levels_that_are_no_numbers() -> None:
 def test_hostile_originals(data: bytes) -> None:
     """An original that is no file of MS Project is refused in one line."""
     carried = carry(read(project(TASKS)))
-    schedule = normal_schedule(PROGRAMS, carried.deck, carried.side)
+    schedule = rest_schedule(state_of(carried))
     with pytest.raises(InputError) as caught:
-        into_mspdi(data, "plan.xml", schedule, carried.side.calendar)
+        into_mspdi(data, "plan.xml", schedule, carried.side)
     assert str(caught.value).startswith("plan.xml: ") and "\n" not in str(caught.value)
 
 
@@ -257,7 +338,7 @@ def test_new_file_of_hostile_titles() -> None:
         for entry in plan.outline
     )
     carried = carry(replace(plan, outline=outline))
-    tasks = normal_schedule(PROGRAMS, carried.deck, carried.side)
+    tasks = rest_schedule(state_of(carried))
     names = [replace(task, name="a\x00b <&> \ud800\u202e\ufffe") for task in tasks.tasks]
     data = to_mspdi(replace(tasks, tasks=tuple(names)), carried.side.calendar, {}, {})
     assert next(read(data).tasks()).name == "a\ufffdb <&> \ufffd\u202e\ufffd"
@@ -266,7 +347,7 @@ def test_new_file_of_hostile_titles() -> None:
 def test_ids_of_a_new_file() -> None:
     """Ids of the source stay if all are numbers; else tasks are counted."""
     carried = carry(read(mspdi_bytes(sample_plan())))
-    schedule = normal_schedule(PROGRAMS, carried.deck, carried.side)
+    schedule = rest_schedule(state_of(carried))
     data = to_mspdi(schedule, carried.side.calendar, {}, {})
     assert [task.uid for task in read(data).tasks()] == [task.uid for task in schedule.tasks]
     renamed = tuple(replace(task, uid=f"x{task.uid}") for task in schedule.tasks)

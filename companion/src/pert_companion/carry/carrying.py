@@ -1,26 +1,35 @@
 """From a plan to its deck and side file."""
 
 from dataclasses import dataclass, replace
+from fractions import Fraction
 
-from pert_companion.cards import ProjectCard
 from pert_companion.carry import loads, outline, units
+from pert_companion.carry.arrows import network_of
 from pert_companion.carry.codes import Codes, one_line, shortened, task_codes, title
-from pert_companion.carry.kept import side_file, side_losses
+from pert_companion.carry.kept import constraint_notes, side_file, side_losses
 from pert_companion.carry.model import Node
 from pert_companion.carry.moments import resolve
 from pert_companion.carry.money import Money, accounts, charges
 from pert_companion.carry.network import Network
 from pert_companion.carry.order import find_early_dates, in_order
 from pert_companion.carry.progress import Statuses, Times, has_progress
+from pert_companion.carry.terms import Prices, terms_card
 from pert_companion.carry.ties import Ties
-from pert_companion.deck import Deck
-from pert_companion.errors import InputError
-from pert_companion.losses import Loss, LossKind
-from pert_companion.plan import Plan, Task
-from pert_companion.sidefile import SideFile
+from pert_companion.model.cards import ProjectCard, TermsCard
+from pert_companion.model.deck import Deck
+from pert_companion.model.errors import InputError
+from pert_companion.model.fitting import fitted_to
+from pert_companion.model.losses import Loss, LossKind
+from pert_companion.model.plan import Plan, Task
+from pert_companion.model.sidefile import SideFile
+from pert_companion.model.terms import NO_TERMS, Terms
 
-LIMITS = {"WBS": 9_999, "RES": 1_000, "LOAD": 40_000, "TASK": 4_000, "AFTER": 8_000}
-"""The most cards of each kind that a deck of tasks has."""
+LIMITS = {"WBS": 9_999, "RES": 1_000, "LOAD": 40_000, "STATUS": 40_000}
+"""The most cards of each kind that a deck has, next to those of its tasks."""
+TASK_LIMITS = {"TASK": 4_000, "AFTER": 8_000}
+"""The most cards of tasks and links that a deck of tasks has. A larger plan becomes a network."""
+NETWORK_LIMITS = {"EVENT": 10_000, "ACT": 20_000}
+"""The most events and activities that a network has."""
 MAX_BUDGET = 10**12
 
 
@@ -34,6 +43,8 @@ class CarryOptions:
     """Whether the deck has cents instead of whole units of the currency."""
     progress: bool = True
     """Whether progress is carried over."""
+    terms: Terms = NO_TERMS
+    """What time costs; the date of its contract comes before that of the plan."""
 
 
 @dataclass(frozen=True)
@@ -42,7 +53,7 @@ class Carried:
 
     deck: Deck
     data: bytes
-    """The bytes of the deck, which the side file has the checksum of."""
+    """The bytes of the deck."""
     side: SideFile
     losses: tuple[Loss, ...]
     side_losses: tuple[Loss, ...]
@@ -64,10 +75,10 @@ class _Carrier:
     """Takes the steps from a plan to its deck; each adds its losses and notes."""
 
     def __init__(self, plan: Plan, options: CarryOptions) -> None:
-        self.plan = plan
         self.options = options
         self.losses: list[Loss] = []
         self.notes: list[str] = []
+        self.plan = plan = self._since_the_start(_with_contract(plan, options.terms))
         self.codes = Codes()
         self.outline = outline.build(plan)
         self.losses += self.outline.losses
@@ -86,13 +97,29 @@ class _Carrier:
         calendar = self.plan.calendar
         network = Network(self.codes, self.unit_name, self.unit_minutes, calendar)
         network.build(self.all_nodes, self.plan.start)
-        deck = self._with_progress(self._deck(network), network)
-        _check_size(deck, network)
+        deck = _within_limits(self._with_progress(self._deck(network), network), network)
         data = deck.to_bytes()
         side = side_file(self.plan, self.nodes, network, self.outline.groups, self.unit_minutes)
-        side = replace(side, deck_name=deck_name, money_scale=self.money.scale).fitting(data)
-        kept, lost = side_losses(self.plan, self.nodes)
-        return Carried(deck, data, side, (*self.losses, *lost), kept, tuple(self.notes))
+        side = replace(side, deck_name=deck_name, money_scale=self.money.scale)
+        side = replace(side, terms=self.options.terms)
+        side = fitted_to(side, deck)
+        self.notes += constraint_notes(self.plan, self.nodes)
+        kept = side_losses(self.plan)
+        return Carried(deck, data, side, tuple(self.losses), kept, tuple(self.notes))
+
+    def _since_the_start(self, plan: Plan) -> Plan:
+        """Returns a plan whose data date is before its first day as one that has not begun.
+
+        Raises `InputError` if it says of progress: then one of the two days is wrong.
+        """
+        if plan.data_date is None or plan.data_date >= plan.start:
+            return plan
+        what = f"the data date {plan.data_date} is before the first day {plan.start}"
+        begun = next(filter(has_progress, plan.tasks()), None)
+        if begun is not None and self.options.progress:
+            raise InputError(f"{what}, and {begun.where}, task {begun.name!r}, has progress")
+        self.notes.append(f"{what}: the plan has not begun, and is as of its first day")
+        return replace(plan, data_date=None)
 
     def _nodes(self) -> dict[str, Node]:
         """Returns a node for each task by uid, with its code and item."""
@@ -151,14 +178,30 @@ class _Carrier:
         code = Codes().make(shortened(plan.name))
         name = title(plan.name)
         return Deck(
-            project=ProjectCard(code, "start", "end", plan.start, 1, None, name, 2),
+            project=ProjectCard(code, "start", "end", plan.start, 1, self._directed(), name, 2),
             items=tuple(self.outline.items),
             tasks=network.tasks(),
             afters=network.afters(),
             accounts=accounts(self.all_nodes),
             resources=used.resources,
             loads=used.loads,
+            terms=self._terms(),
         )
+
+    def _terms(self) -> TermsCard | None:
+        """Returns what a unit of time costs, or None if nobody said it."""
+        day_units = Fraction(self.plan.calendar.day_minutes, self.unit_minutes)
+        prices = Prices(day_units, self.money.scale, self.losses)
+        return terms_card(self.options.terms, self._directed(), prices)
+
+    def _directed(self) -> int | None:
+        """Returns the units until the evening of the contract's date, or None without one."""
+        day = self.plan.must_finish
+        if day is None:
+            return None
+        calendar = self.plan.calendar
+        minutes = calendar.between(calendar.morning(self.plan.start), calendar.evening(day))
+        return max(0, minutes // self.unit_minutes)
 
     def _with_progress(self, deck: Deck, network: Network) -> Deck:
         """Returns the deck with the cards of progress, if the plan has a data date."""
@@ -183,7 +226,11 @@ class _Carrier:
         if to_go and not charged:
             self.notes.append("there are no actual costs: reports take nothing to be spent")
         return replace(
-            deck, as_of=times.as_of, statuses=statuses.cards(), charges=charged, to_go=to_go
+            deck,
+            as_of=times.as_of,
+            statuses=statuses.cards(),
+            charges=charged,
+            to_go=to_go,
         )
 
     def _note_pace(self, tasks: list[tuple[Task, int]]) -> None:
@@ -201,6 +248,11 @@ class _Carrier:
         self.losses.append(Loss(kind, task.where, task.name, name, text, why))
 
 
+def _with_contract(plan: Plan, terms: Terms) -> Plan:
+    """Returns the plan with the contract's date as the day by which it must finish."""
+    return plan if terms.contract is None else replace(plan, must_finish=terms.contract)
+
+
 def _check_days(plan: Plan) -> None:
     """Refuses a plan without a task, and days that no deck has."""
     if not any(True for _ in plan.tasks()):
@@ -208,25 +260,36 @@ def _check_days(plan: Plan) -> None:
     for what, day in (("first day", plan.start), ("data date", plan.data_date)):
         if day is not None and not 1900 <= day.year <= 2198:
             raise InputError(f"the {what} {day} is not in the years 1900 to 2198")
-    if plan.data_date is not None and plan.data_date < plan.start:
-        raise InputError(f"the data date {plan.data_date} is before the first day {plan.start}")
 
 
-def _check_size(deck: Deck, network: Network) -> None:
-    """Raises `InputError` that says why a plan is more than a deck can have."""
+def _within_limits(deck: Deck, network: Network) -> Deck:
+    """Returns a deck of tasks, or its network if it has more tasks or links than such a deck may.
+
+    Raises `InputError` that says why a plan is more than any deck can have.
+    """
+    links, cards = len(deck.afters), len(deck.tasks)
+    if cards > TASK_LIMITS["TASK"] or links > TASK_LIMITS["AFTER"]:
+        deck = network_of(deck)
     counts = {
-        "WBS": len(deck.items),
+        "WBS": len(deck.items) - bool(deck.events),
+        "EVENT": len(deck.events),
+        "ACT": len(deck.activities),
         "RES": len(deck.resources),
         "LOAD": len(deck.loads),
-        "TASK": len(deck.tasks),
-        "AFTER": len(deck.afters),
+        "STATUS": len(deck.statuses),
     }
-    for kind, most in LIMITS.items():
+    for kind, most in {**LIMITS, **NETWORK_LIMITS}.items():
         if counts[kind] > most:
             raise InputError(
                 f"the plan needs {counts[kind]} {kind} cards, and a deck has at most {most}"
                 f" ({network.counts()}); carry over a part of the plan"
             )
+    _check_budgets(deck)
+    return deck
+
+
+def _check_budgets(deck: Deck) -> None:
+    """Raises `InputError` if the costs of an item are more than an account can have."""
     for account in deck.accounts:
         if account.budget > MAX_BUDGET:
             raise InputError(

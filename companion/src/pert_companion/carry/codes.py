@@ -11,7 +11,7 @@ from collections import Counter
 from collections.abc import Iterable, Mapping, Sequence
 from hashlib import sha256
 
-from pert_companion.plan import Group, Plan, Task
+from pert_companion.model.plan import Group, Plan, Task
 
 MAX_LENGTH = 16
 CODE = re.compile(r"[A-Za-z0-9.-][A-Za-z0-9._-]{0,15}")
@@ -75,17 +75,30 @@ def shortened(text: str) -> str:
     Words are joined by hyphens. If they are too long, the longest one (the last of several) loses
     its last letter until they fit; words with digits stay as long as others have letters to lose.
     """
-    words = words_of(text)[:8]
-    while sum(map(len, words)) + len(words) - 1 > MAX_LENGTH:
-        at = max(range(len(words)), key=lambda index: (_letters_to_lose(words[index]), index))
-        words[at] = words[at][:-1]
-        words = [word for word in words if word]
-    return "-".join(words).rstrip(".")
+    words = [_Word(word) for word in words_of(text)[:8]]
+    while sum(word.length for word in words) + len(words) - 1 > MAX_LENGTH:
+        at = max(range(len(words)), key=lambda index: (words[index].letters_to_lose, index))
+        words[at].length -= 1
+        words = [word for word in words if word.length]
+    return "-".join(word.text[: word.length] for word in words).rstrip(".")
 
 
-def _letters_to_lose(word: str) -> int:
-    has_digit = any(character.isdigit() for character in word)
-    return len(word) - (100 if has_digit else 0)
+class _Word:
+    """A word of a code that loses letters at its end."""
+
+    def __init__(self, text: str) -> None:
+        self.text = text
+        digits = (at for at, character in enumerate(text) if character.isdigit())
+        self._first_digit = next(digits, None)
+        self.length = len(text)
+        if self._first_digit is None:  # such a word never keeps more
+            self.length = min(self.length, MAX_LENGTH)
+
+    @property
+    def letters_to_lose(self) -> int:
+        """Returns how ready the word is to lose a letter; one with digits comes last."""
+        has_digit = self._first_digit is not None and self._first_digit < self.length
+        return self.length - (100 if has_digit else 0)
 
 
 def task_codes(plan: Plan, codes: Codes) -> tuple[dict[str, str], list[str]]:
@@ -175,4 +188,6 @@ def title(text: str) -> str:
 
 def one_line(text: str) -> str:
     """Returns a text with single spaces for all that is not printable."""
+    if text.isprintable():
+        return " ".join(text.split())
     return " ".join("".join(c if c.isprintable() else " " for c in text).split())

@@ -4,18 +4,19 @@ from collections.abc import Mapping, Sequence
 from dataclasses import dataclass
 from datetime import date
 
-from pert_companion.calendar import Calendar
 from pert_companion.carry.codes import one_line, path_of, title
 from pert_companion.carry.model import Node
 from pert_companion.carry.network import Network
 from pert_companion.carry.progress import remaining_minutes
 from pert_companion.carry.ties import effective_constraint
-from pert_companion.losses import Loss, LossKind
-from pert_companion.plan import Constraint, ConstraintKind, Plan, Task
-from pert_companion.sidefile import SideFile, SideGroup, SideTask
+from pert_companion.model.calendar import Calendar
+from pert_companion.model.losses import Loss, LossKind
+from pert_companion.model.plan import Constraint, ConstraintKind, Plan, Task
+from pert_companion.model.sidefile import SideFile, SideGroup, SideTask
 
 _NO_LATER_START = (ConstraintKind.START_NO_LATER, ConstraintKind.MUST_START)
 _NO_LATER_FINISH = (ConstraintKind.FINISH_NO_LATER, ConstraintKind.MUST_FINISH)
+_KEPT = (*_NO_LATER_START, *_NO_LATER_FINISH, ConstraintKind.AS_LATE_AS_POSSIBLE)
 
 
 def side_file(
@@ -25,7 +26,7 @@ def side_file(
     groups: Sequence[SideGroup],
     unit_minutes: int,
 ) -> SideFile:
-    """Returns the side file of a plan, without the checksum of its deck."""
+    """Returns the side file of a plan, which belongs to no deck yet."""
     waits = [wait.code for wait in network.waits.values()]
     for node, made in network.of.items():
         if node.task is None:
@@ -83,20 +84,37 @@ class _SideTasks:
         )
 
 
-def side_losses(plan: Plan, nodes: Mapping[str, Node]) -> tuple[tuple[Loss, ...], tuple[Loss, ...]]:
-    """Returns what only the side file says, and the constraints that the plan does not hold."""
+def side_losses(plan: Plan) -> tuple[Loss, ...]:
+    """Returns what only the side file says: lost if none is written."""
     kept: list[Loss] = []
-    broken: list[Loss] = []
-    origin = plan.calendar.position(plan.calendar.morning(plan.start))
     for group in plan.groups():
         if title(group.name) != one_line(group.name):
             why = "a title of the deck has at most 80 bytes; the rest is cut off"
             kept.append(Loss(LossKind.TITLE, group.where, group.name, "", "", why))
     for task in plan.tasks():
         kept.extend(_kept(task))
-        start = origin + nodes[task.uid].early
-        broken.extend(_Dates(plan.calendar, task, start).broken())
-    return tuple(kept), tuple(broken)
+    return tuple(kept)
+
+
+def constraint_notes(plan: Plan, nodes: Mapping[str, Node]) -> list[str]:
+    """Returns a note on each constraint that the early dates of the plan do not hold.
+
+    These are the latest dates that links break at normal durations, the date by which the project
+    must finish too, and each task that is to be done as late as possible.
+    """
+    origin = plan.calendar.position(plan.calendar.morning(plan.start))
+    notes = []
+    last = plan.start
+    for task in plan.tasks():
+        dates = _Dates(plan.calendar, task, origin + nodes[task.uid].early)
+        last = max(last, dates.last_day())
+        why = dates.broken()
+        if why:
+            notes.append(f"{task.where}, task {task.name!r}: {why}")
+        notes.extend(_begun_early(task))
+    if plan.must_finish is not None and last > plan.must_finish:
+        notes.append(f"the plan must finish by {plan.must_finish}: by its links it ends on {last}")
+    return notes
 
 
 def _kept(task: Task) -> list[Loss]:
@@ -113,8 +131,8 @@ def _kept(task: Task) -> list[Loss]:
         numbers = ", ".join(str(baseline.number) for baseline in task.baselines)
         why = "a deck has no baselines"
         found.append(Loss(LossKind.BASELINE, task.where, task.name, "baseline", numbers, why))
-    if task.constraint is not None and task.constraint.kind in _NO_LATER_START + _NO_LATER_FINISH:
-        why = "a deck has no latest dates"
+    if task.constraint is not None and task.constraint.kind in _KEPT:
+        why = "a deck has no latest dates, and begins each task as early as it can"
         text = _shown(task.constraint)
         found.append(Loss(LossKind.CONSTRAINT, task.where, task.name, "constraint", text, why))
     if task.progress.remaining is not None and task.progress.actual_finish is None:
@@ -122,6 +140,17 @@ def _kept(task: Task) -> list[Loss]:
         why = "a deck has no remaining durations"
         found.append(Loss(LossKind.PROGRESS, task.where, task.name, "remaining", text, why))
     return found
+
+
+def _begun_early(task: Task) -> list[str]:
+    """Returns a note on a task that is to be done as late as possible and has not begun."""
+    constraint = effective_constraint(task)
+    if constraint is None or constraint.kind is not ConstraintKind.AS_LATE_AS_POSSIBLE:
+        return []
+    if task.progress.percent or task.progress.actual_start is not None:
+        return []
+    why = "it is to be done as late as possible, and a deck begins each task as early as it can"
+    return [f"{task.where}, task {task.name!r}: {why}"]
 
 
 def _shown(constraint: Constraint) -> str:
@@ -137,28 +166,23 @@ class _Dates:
     task: Task
     start: int
 
-    def broken(self) -> list[Loss]:
-        """Returns a loss if the early dates do not hold the constraint of the task."""
+    def broken(self) -> str:
+        """Returns how the early dates break the constraint of the task; empty if they hold it."""
         constraint = effective_constraint(self.task)
-        if constraint is None:
-            return []
-        why = ""
-        if constraint.kind is ConstraintKind.AS_LATE_AS_POSSIBLE:
-            why = "it is scheduled as early as possible"
-        elif constraint.day is not None and constraint.kind in _NO_LATER_START:
+        if constraint is None or constraint.day is None:
+            return ""
+        if constraint.kind in _NO_LATER_START:
             day = self.calendar.at(self.start).date()
             if day > self.calendar.morning(constraint.day).date():
-                why = f"by its links it starts on {day}"
-        elif constraint.day is not None and constraint.kind in _NO_LATER_FINISH:
-            day = self._last_day()
+                return f"{_shown(constraint)} is broken: by its links it starts on {day}"
+        elif constraint.kind in _NO_LATER_FINISH:
+            day = self.last_day()
             if day > constraint.day:
-                why = f"by its links it finishes on {day}"
-        if not why:
-            return []
-        where, name, text = self.task.where, self.task.name, _shown(constraint)
-        return [Loss(LossKind.CONSTRAINT, where, name, "constraint", text, why)]
+                return f"{_shown(constraint)} is broken: by its links it finishes on {day}"
+        return ""
 
-    def _last_day(self) -> date:
+    def last_day(self) -> date:
+        """Returns the last day of work; of a milestone the day of its moment."""
         if self.task.minutes == 0:
             return self.calendar.at(self.start).date()
         return self.calendar.end_at(self.start + self.task.minutes).date()

@@ -6,12 +6,12 @@ from dataclasses import dataclass
 from decimal import Decimal
 from fractions import Fraction
 
-from pert_companion.cards import LoadCard, ResourceCard
 from pert_companion.carry.codes import CODE, Codes, shortened, title
 from pert_companion.carry.model import Node
 from pert_companion.carry.network import Network
-from pert_companion.losses import Loss, LossKind
-from pert_companion.plan import Assignment, Plan, Resource, ResourceKind
+from pert_companion.model.cards import LoadCard, ResourceCard
+from pert_companion.model.losses import Loss, LossKind
+from pert_companion.model.plan import Assignment, Plan, Resource, ResourceKind
 
 MAX_QUANTITY = 10**12
 MAX_DECIMALS = 3

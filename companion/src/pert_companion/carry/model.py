@@ -3,7 +3,7 @@
 from dataclasses import dataclass, field
 from enum import Enum
 
-from pert_companion.plan import Link, Task
+from pert_companion.model.plan import Link, Task
 
 
 class End(Enum):

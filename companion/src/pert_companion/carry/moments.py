@@ -10,11 +10,13 @@ from collections.abc import Iterable, Sequence
 from heapq import heappop, heappush
 
 from pert_companion.carry.model import End, Moment, Node, Tie
-from pert_companion.losses import Loss, LossKind
+from pert_companion.model.errors import InputError
+from pert_companion.model.losses import Loss, LossKind
 
-
-MAX_STEPS = 300
+MAX_PASSED = 300
 """How many tasks a lead may reach back over."""
+MAX_MOMENTS = 200_000
+"""How many moments the tasks of a plan may wait for: many times what a deck has links for."""
 
 
 class CannotCarry(Exception):
@@ -24,9 +26,11 @@ class CannotCarry(Exception):
 def resolve(order: Sequence[Node]) -> list[Loss]:
     """Gives each node the moments that its start and its finish come after.
 
-    Ties without equivalent are taken out, each with a loss. Lags and durations are in units.
+    Ties without equivalent are taken out, each with a loss. Lags and durations are in units. Raises
+    `InputError` if leads of groups make more moments than any deck can have.
     """
     losses: list[Loss] = []
+    moments = 0
     begins_others = {
         tie.before
         for node in order
@@ -44,6 +48,12 @@ def resolve(order: Sequence[Node]) -> list[Loss]:
             _tie_start_to_finish(node, losses)
         node.after_start = moments_of(node.starts)
         node.after_finish = moments_of(node.finishes)
+        moments += len(node.after_start) + len(node.after_finish)
+        if moments > MAX_MOMENTS:
+            raise InputError(
+                f"the links of groups with leads are more than {MAX_MOMENTS} links of their tasks;"
+                " link milestones at the ends of the groups instead"
+            )
     for node in order:
         for moment in node.after_start + node.after_finish:
             _note_need(moment)
@@ -116,12 +126,36 @@ def moments_of(ties: Iterable[Tie]) -> list[Moment]:
 
     There is at most one for each end of a task.
 
-    Raises `CannotCarry` if a lead is longer than a task that can be shortened.
+    Raises `CannotCarry` if a lead is longer than a task that can be shortened, or reaches back over
+    too many tasks.
     """
+    listed = list(ties)
+    try:
+        found = _search(listed)
+    except CannotCarry:
+        if len(listed) < 2:
+            raise
+        found = longest(moment for tie in listed for moment in _search([tie]))
+    return sorted(found, key=lambda moment: moment.order)
+
+
+def _search(ties: Iterable[Tie]) -> list[Moment]:
     search = _Search()
     for tie in ties:
         search.add(tie, 0)
-    return sorted(search.moments(), key=lambda moment: moment.order)
+    return search.moments()
+
+
+def longest(moments: Iterable[Moment]) -> list[Moment]:
+    """Returns one moment for each end of a task: the latest, which all others come before."""
+    found: dict[tuple[Node | None, End], Moment] = {}
+    for moment in moments:
+        key = (moment.node, moment.end)
+        known = found.setdefault(key, moment)
+        is_later = moment.lag < known.lag if moment.end is End.CUT else moment.lag > known.lag
+        if is_later:
+            found[key] = moment
+    return list(found.values())
 
 
 class _Search:
@@ -135,6 +169,7 @@ class _Search:
         self._waiting: list[int] = []
         self._by_index: dict[int, Node] = {}
         self._first_day = 0
+        self._passed = 0
 
     def add(self, tie: Tie, lag: int) -> None:
         """Adds the end of a tie, with a lag (or lead, if negative) after the tie's own."""
@@ -156,11 +191,7 @@ class _Search:
     def moments(self) -> list[Moment]:
         """Returns the moments of all ties that were added."""
         found: list[Moment] = []
-        steps = 0
         while self._waiting:
-            steps += 1
-            if steps > MAX_STEPS:
-                raise CannotCarry(f"its leads reach back over more than {MAX_STEPS} tasks")
             node = self._by_index[-heappop(self._waiting)]
             finish = self._lags.pop((node, End.FINISH), None)
             if finish is not None:
@@ -175,8 +206,7 @@ class _Search:
     def _at_finish(self, node: Node, lag: int) -> list[Moment]:
         if lag >= 0:
             return [Moment(node, End.FINISH, lag)]
-        for tie in node.finishes:
-            self.add(tie, lag)
+        self._pass_over(node, node.finishes, lag)
         if node.is_fixed and -lag >= node.normal:
             self._add(node, End.START, node.normal + lag)
             return []
@@ -188,6 +218,17 @@ class _Search:
         if lag >= 0:
             end = End.FINISH if node.is_milestone else End.START
             return [Moment(node, end, lag)]
-        for tie in node.starts:
-            self.add(tie, lag)
+        self._pass_over(node, node.starts, lag)
         return []
+
+    def _pass_over(self, node: Node, ties: Sequence[Tie], lag: int) -> None:
+        """Adds what an end of a node waits for, with a lead before it.
+
+        The end of a group is no task that a lead passes over.
+        """
+        if ties and node.task is not None:
+            self._passed += 1
+            if self._passed > MAX_PASSED:
+                raise CannotCarry(f"its leads reach back over more than {MAX_PASSED} tasks")
+        for tie in ties:
+            self.add(tie, lag)

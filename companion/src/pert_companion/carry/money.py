@@ -7,12 +7,12 @@ from datetime import date
 from decimal import Decimal
 from fractions import Fraction
 
-from pert_companion.calendar import Calendar
-from pert_companion.cards import AccountCard, ChargeCard, ToGoCard
 from pert_companion.carry.model import Node
 from pert_companion.carry.units import Rounding
-from pert_companion.losses import Loss, LossKind
-from pert_companion.plan import Crash, Task
+from pert_companion.model.calendar import Calendar
+from pert_companion.model.cards import AccountCard, ChargeCard, ToGoCard
+from pert_companion.model.losses import Loss, LossKind
+from pert_companion.model.plan import Crash, Task
 
 MAX_AMOUNT = 10**12
 MAX_SLOPE = 10**8
@@ -80,7 +80,12 @@ class Money:
         self.losses.append(Loss(LossKind.CRASH, task.where, task.name, "crash", text, why))
 
     def _lose(
-        self, kind: LossKind, task: Task, field: str, amount: Decimal | Fraction, why: str
+        self,
+        kind: LossKind,
+        task: Task,
+        field: str,
+        amount: Decimal | Fraction,
+        why: str,
     ) -> None:
         text = f"{float(amount):.10g}" if isinstance(amount, Fraction) else f"{amount:f}"
         self.losses.append(Loss(kind, task.where, task.name, field, text, why))

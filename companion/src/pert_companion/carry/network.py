@@ -10,10 +10,10 @@ from dataclasses import dataclass, field
 from datetime import date
 from itertools import chain
 
-from pert_companion.calendar import Calendar
-from pert_companion.cards import AfterCard, TaskCard
 from pert_companion.carry.codes import Codes, title
 from pert_companion.carry.model import End, Moment, Node
+from pert_companion.model.calendar import Calendar
+from pert_companion.model.cards import AfterCard, TaskCard
 
 
 @dataclass(frozen=True)

@@ -3,9 +3,9 @@
 from collections.abc import Sequence
 from graphlib import CycleError, TopologicalSorter
 
-from pert_companion.calendar import Calendar
 from pert_companion.carry.model import End, Node, Tie
-from pert_companion.errors import InputError
+from pert_companion.model.calendar import Calendar
+from pert_companion.model.errors import InputError
 
 MAX_NAMES = 8
 """How many tasks of a circle are named."""

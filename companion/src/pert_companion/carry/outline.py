@@ -5,12 +5,12 @@ A deck has 16 levels of items, and tasks belong only to items with none below th
 
 from dataclasses import dataclass, field
 
-from pert_companion.cards import ItemCard
 from pert_companion.carry.codes import CODE, Codes, one_line, shortened, title
-from pert_companion.errors import InputError
-from pert_companion.losses import Loss, LossKind
-from pert_companion.plan import Group, Plan
-from pert_companion.sidefile import SideGroup
+from pert_companion.model.cards import ItemCard
+from pert_companion.model.errors import InputError
+from pert_companion.model.losses import Loss, LossKind
+from pert_companion.model.plan import Group, Plan
+from pert_companion.model.sidefile import SideGroup
 
 MAX_LEVEL = 16
 

@@ -15,13 +15,13 @@ from datetime import date, datetime, timedelta
 from decimal import Decimal
 from fractions import Fraction
 
-from pert_companion.calendar import Calendar
-from pert_companion.cards import StatusCard
 from pert_companion.carry.model import End, Node, Tie
 from pert_companion.carry.money import done_percent
 from pert_companion.carry.network import Network, Part, Wait
-from pert_companion.losses import Loss, LossKind
-from pert_companion.plan import Task
+from pert_companion.model.calendar import Calendar
+from pert_companion.model.cards import StatusCard
+from pert_companion.model.losses import Loss, LossKind
+from pert_companion.model.plan import Task
 
 ONE_DAY = timedelta(days=1)
 
@@ -174,7 +174,10 @@ class Statuses:
             started = finished
         if started is None and (percent > 0 or finished is not None):
             self._lose(
-                task, "percent", f"{percent:f}", "there is no date on which the task started"
+                task,
+                "percent",
+                f"{percent:f}",
+                "there is no date on which the task started",
             )
             return None, None
         if started is not None and not self._is_so_far(task, "start", started, self._times.start):

@@ -9,8 +9,16 @@ from collections.abc import Mapping
 
 from pert_companion.carry.codes import Codes
 from pert_companion.carry.model import End, Node, Tie
-from pert_companion.losses import Loss, LossKind
-from pert_companion.plan import Constraint, ConstraintKind, Group, Lag, Link, Plan, Task
+from pert_companion.model.losses import Loss, LossKind
+from pert_companion.model.plan import (
+    Constraint,
+    ConstraintKind,
+    Group,
+    Lag,
+    Link,
+    Plan,
+    Task,
+)
 
 _START_KINDS = (ConstraintKind.START_NO_EARLIER, ConstraintKind.MUST_START)
 _FINISH_KINDS = (ConstraintKind.FINISH_NO_EARLIER, ConstraintKind.MUST_FINISH)
@@ -20,7 +28,11 @@ class Ties:
     """The ties of a plan's tasks, which are put into their nodes."""
 
     def __init__(
-        self, plan: Plan, nodes: Mapping[str, Node], codes: Codes, items: Mapping[str, str]
+        self,
+        plan: Plan,
+        nodes: Mapping[str, Node],
+        codes: Codes,
+        items: Mapping[str, str],
     ) -> None:
         """Takes the node of each task and the item of each group by uid, and the codes of tasks."""
         self.losses: list[Loss] = []
@@ -94,7 +106,10 @@ class Ties:
         if lag.share is None:
             return lag.minutes, lag.elapsed
         if link.predecessor not in self._nodes:
-            self._lose(link, "its lag is a share of the duration of a group; it is taken as none")
+            self._lose(
+                link,
+                "its lag is a share of the duration of a group; it is taken as none",
+            )
             return 0, False
         minutes = lag.share * source.minutes
         if source.task is not None and source.task.crash is not None:

@@ -4,11 +4,11 @@ import math
 from collections.abc import Iterable, Sequence
 from dataclasses import dataclass
 
-from pert_companion.calendar import Calendar
 from pert_companion.carry.model import Node, Tie
-from pert_companion.errors import UsageError
-from pert_companion.losses import Loss, LossKind
-from pert_companion.plan import Task
+from pert_companion.model.calendar import Calendar
+from pert_companion.model.errors import UsageError
+from pert_companion.model.losses import Loss, LossKind
+from pert_companion.model.plan import Task
 
 MAX_UNITS = 100_000
 """The longest duration of a deck, in units."""

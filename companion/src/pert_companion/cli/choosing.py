@@ -1,16 +1,24 @@
 """The options with which commands choose a length and find the programs."""
 
 import argparse
+from decimal import Decimal
 from pathlib import Path
 
-from pert_companion import scheduling
-from pert_companion.opening import OpenPlan
-from pert_companion.programs import Programs
-from pert_companion.schedule import Schedule
+from pert_companion.analysis.lengths import LengthChoice
+from pert_companion.analysis.schedule import Schedule
+from pert_companion.analysis.scheduling import plan_schedule, rest_schedule
+from pert_companion.cli.words import day_word
+from pert_companion.model.source import read_bytes, shown_name
+from pert_companion.programs.client import Programs
+from pert_companion.state.project import ProjectState
+from pert_companion.state.remaining import Said, read_left
+
+MOST_LEFT = 16 * 1024 * 1024
+"""The bytes that a list of what is left may have."""
 
 
 def add_length_options(command: argparse.ArgumentParser, prefers_optimum: bool = False) -> None:
-    """Adds `--length`, `--optimum`, `--normal` and `--bin`.
+    """Adds `--length`, `--by`, `--optimum`, `--normal` and `--bin`.
 
     `prefers_optimum` says that, without any of them, the command takes the optimum if the deck has
     TERMS; other commands take normal durations.
@@ -21,24 +29,41 @@ def add_length_options(command: argparse.ArgumentParser, prefers_optimum: bool =
         cheapest = "cheapest with the price of time (the default if the deck has TERMS)"
         normal = "normal durations (the default if the deck has no TERMS)"
     which = command.add_mutually_exclusive_group()
-    which.add_argument("--length", metavar="N", type=length_word, help="cheapest for N units")
+    which.add_argument(
+        "--length", metavar="DAYS", type=length_word, help="cheapest for so many days, as 82.5"
+    )
+    which.add_argument(
+        "--by", metavar="DATE", type=day_word, help="cheapest that ends by this day, as 2026-09-30"
+    )
     which.add_argument("--optimum", action="store_true", help=cheapest)
     which.add_argument("--normal", action="store_true", help=normal)
     add_bin_option(command)
 
 
-def add_bin_option(command: argparse.ArgumentParser) -> None:
-    """Adds `--bin`."""
+def add_plan_option(command: argparse.ArgumentParser) -> None:
+    """Adds `--plan`."""
     command.add_argument(
-        "--bin", metavar="DIR", type=Path, help="folder of pert, pert_check and pert_whatif"
+        "--plan", action="store_true", help="the plan of the first day, not what is left of it"
     )
 
 
-def length_word(word: str) -> int:
-    """Returns a length in units."""
-    if not (word.isascii() and word.isdigit() and len(word) <= 13):
-        raise argparse.ArgumentTypeError(f"{word!r} is no length in whole units")
-    return int(word)
+def add_bin_option(command: argparse.ArgumentParser) -> None:
+    """Adds `--bin`."""
+    command.add_argument(
+        "--bin",
+        metavar="DIR",
+        type=Path,
+        help="folder of pert, pert_check and pert_whatif",
+    )
+
+
+def length_word(word: str) -> Decimal:
+    """Returns a length in days."""
+    whole, _, part = word.partition(".")
+    digits = whole + part
+    if not (digits.isascii() and digits.isdigit() and whole and len(digits) <= 15):
+        raise argparse.ArgumentTypeError(f"{word!r} is no length in days such as 76 or 82.5")
+    return Decimal(word)
 
 
 def programs_of(options: argparse.Namespace) -> Programs:
@@ -46,10 +71,20 @@ def programs_of(options: argparse.Namespace) -> Programs:
     return Programs(options.bin)
 
 
-def chosen_schedule(plan: OpenPlan, options: argparse.Namespace, programs: Programs) -> Schedule:
-    """Returns the schedule of the length that the options choose."""
-    if options.length is not None:
-        return scheduling.schedule_at(programs, plan.deck, plan.side, options.length)
-    if options.optimum:
-        return scheduling.cheapest_schedule(programs, plan.deck, plan.side)
-    return scheduling.normal_schedule(programs, plan.deck, plan.side)
+def said_left(path: Path | None) -> dict[str, Said]:
+    """Returns what a list of what is left says, or nothing if there is none."""
+    if path is None:
+        return {}
+    return read_left(read_bytes(path, MOST_LEFT), shown_name(path))
+
+
+def length_choice(options: argparse.Namespace) -> LengthChoice:
+    """Returns the length that the options choose."""
+    return LengthChoice(options.length, options.by, options.optimum)
+
+
+def schedule_of_options(state: ProjectState, options: argparse.Namespace) -> Schedule:
+    """Returns the schedule that the options choose: of what is left, or of the plan."""
+    if options.plan:
+        return plan_schedule(state, length_choice(options))
+    return rest_schedule(state, length_choice(options))

@@ -1,13 +1,16 @@
 """What all commands share: `--help` and `--version`, statuses, and errors as one line each."""
 
 import argparse
+import errno
 import os
 import sys
 from collections.abc import Callable, Sequence
+from signal import Signals
 from typing import IO, NoReturn
 
 from pert_companion import VERSION
-from pert_companion.errors import CompanionError, UsageError
+from pert_companion.model.errors import CompanionError, EndedError, UsageError
+from pert_companion.model.lines import one_line
 
 PACKAGES = {
     "openpyxl": "python3-openpyxl",
@@ -15,6 +18,7 @@ PACKAGES = {
     "icalendar": "python3-icalendar",
     "jinja2": "python3-jinja2",
     "markupsafe": "python3-markupsafe",
+    "numpy": "python3-numpy",
 }
 """The Debian package of each library that the package imports."""
 
@@ -46,15 +50,22 @@ def run_command(
 ) -> int:
     """Returns the status of a command that parses `words` and calls `function` with the result.
 
-    The status is that of `function`, or 1 or 2 with one line on standard error if it raised an
-    error of the package, of the system, or of a missing library. `words` are those of the process
-    if they are None. The output is flushed, so that a full disk is an error too.
+    `words` are those of the process if they are None. Errors are those of `run_safely`.
+    """
+    return run_safely(name, lambda: function(parser.parse_args(words)))
+
+
+def run_safely(name: str, function: Callable[[], int]) -> int:
+    """Returns the status of a function, or 1 or 2 with one line on standard error if it raised.
+
+    Errors are those of the package, of the system, of a missing library, or a signal. The output is
+    flushed, so that a full disk is an error too.
     """
     _use_utf8(sys.stdout)
     _use_utf8(sys.stderr)
     try:
         try:
-            status = function(parser.parse_args(words))
+            status = function()
             sys.stdout.flush()
             return status
         except SystemExit as stop:  # from --help and --version
@@ -67,7 +78,7 @@ def run_command(
         _drop_output()
         say(name, "standard output was closed before all was written")
         return 1
-    except (KeyboardInterrupt, OSError, ImportError, MemoryError, RecursionError) as error:
+    except _ONE_LINE as error:
         _drop_output()
         status, line = _line_of(error)
         say(name, line)
@@ -82,37 +93,40 @@ def say(name: str, text: str) -> None:
         pass  # there is nobody left to tell
 
 
-def one_line(text: str) -> str:
-    """Returns a text with each control character, line end and direction mark escaped."""
-    if text.isprintable():
-        return text
-    return "".join(_shown(character) for character in text)
-
-
-def _shown(character: str) -> str:
-    if character.isprintable() or character == "\u00a0":
-        return character
-    return character.encode("unicode_escape").decode("ascii")
-
-
 def _line_of(error: BaseException) -> tuple[int, str]:
     """Returns the status and the line for an error that is not one of the package."""
-    if isinstance(error, KeyboardInterrupt):
-        return 1, "interrupted"
     if isinstance(error, ModuleNotFoundError):
         module = (error.name or "").partition(".")[0]
         if module in PACKAGES:
             return 2, f"the library {module} is missing: apt install {PACKAGES[module]}"
         return 2, f"the Python module {module} is missing"
-    if isinstance(error, MemoryError):
-        return 1, "out of memory"
-    if isinstance(error, RecursionError):
-        return 1, "the input is nested too deeply"
-    if isinstance(error, OSError) and error.filename is not None:
-        return 1, f"{error.filename}: {error.strerror}"
-    if isinstance(error, OSError) and error.strerror:
-        return 1, error.strerror
+    if isinstance(error, OSError):
+        return 1, _system_line(error)
+    if isinstance(error, EndedError) and error.number != Signals.SIGINT:
+        return 1, f"ended by {error.number.name}"
+    for kind, line in _LINES.items():
+        if isinstance(error, kind):
+            return 1, line
     return 1, str(error)
+
+
+_LINES: dict[type[BaseException], str] = {
+    KeyboardInterrupt: "interrupted",
+    EndedError: "interrupted",
+    MemoryError: "out of memory",
+    RecursionError: "the input is nested too deeply",
+    UnicodeEncodeError: "a name or a text has bytes that are not UTF-8",
+}
+_ONE_LINE: tuple[type[BaseException], ...] = (OSError, ImportError, *_LINES)
+
+
+def _system_line(error: OSError) -> str:
+    """Returns what the system says, with the file if there is one."""
+    if error.filename is not None:
+        return f"{os.fsdecode(error.filename)}: {error.strerror}"
+    if error.errno == errno.EBADF:
+        return "standard input or standard output is closed"
+    return error.strerror or str(error)
 
 
 def _use_utf8(stream: IO[str]) -> None:

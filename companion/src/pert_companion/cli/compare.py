@@ -2,20 +2,24 @@
 
 import argparse
 import sys
-from datetime import date
 from pathlib import Path
 
-from pert_companion.cli.choosing import add_bin_option, programs_of
-from pert_companion.cli.common import CommandParser, run_command, say
-from pert_companion.compare import History, compare
-from pert_companion.earned_value import earned_value
-from pert_companion.errors import UsageError
-from pert_companion.money import money_over_time
-from pert_companion.opening import OpenPlan, open_plan
-from pert_companion.remaining import Said, read_left
-from pert_companion.states import open_states
-from pert_companion.strict import parse_day
-from pert_companion.writers import compare_csv, compare_text, earned_text, money_text
+from pert_companion.analysis.compare import baselines_of, compare, in_force
+from pert_companion.analysis.money import money
+from pert_companion.cli.choosing import add_bin_option, programs_of, said_left
+from pert_companion.cli.common import CommandParser, say
+from pert_companion.cli.earned import (
+    add_earned_options,
+    check_earned_options,
+    show_earned,
+)
+from pert_companion.cli.opening import opened
+from pert_companion.cli.words import day_word
+from pert_companion.model.errors import UsageError
+from pert_companion.state.project import ProjectState
+from pert_companion.writers import compare_csv, compare_text, money_text
+from pert_companion.writers.compare_json import summary_of
+from pert_companion.writers.json_file import Document, to_json
 from pert_companion.writers.text import shown
 
 NAME = "pert-compare"
@@ -24,6 +28,10 @@ EXAMPLES = """\
   pert-compare months                       a folder of decks, one for each data date
   pert-compare months --by 2026-06-10       and what ending on this day costs
   pert-compare months --earned              earned value of the last state, by package
+  pert-compare months --earned --lines accounts  by account; or structure, managers, totals, months
+  pert-compare months --earned -o value.xlsx    all of it as a workbook
+  pert-compare months --earned --threshold 10%,50000 -o report.xlsx
+                                            the contract reports: formats 1, 3 and 5
   pert-compare april.csv --money --csv      planned, spent and forecast money by day
   pert-compare april.csv may.csv --baseline plan.csv"""
 
@@ -41,10 +49,18 @@ def parser() -> CommandParser:
         help="decks in the order of their as-of dates, or a folder of decks",
     )
     command.add_argument(
-        "--baseline", type=Path, metavar="DECK", help="the plan to measure by (default: the first)"
+        "--baseline",
+        type=Path,
+        metavar="DECK",
+        action="append",
+        default=[],
+        help="the plan to measure by (default: the first state); further ones replaced it",
     )
     command.add_argument(
-        "--left", type=Path, metavar="FILE", help="rows activity,left[,crash] for the last state"
+        "--left",
+        type=Path,
+        metavar="FILE",
+        help="rows activity,left[,crash] for the last state",
     )
     command.add_argument(
         "--by",
@@ -52,82 +68,66 @@ def parser() -> CommandParser:
         metavar="DATE",
         help="the last day to end on, and what that costs (default: the directed end of the deck)",
     )
-    what = command.add_mutually_exclusive_group()
-    what.add_argument("--earned", action="store_true", help="earned value of the last state")
-    what.add_argument("--money", action="store_true", help="money over time of the last state")
-    command.add_argument("--csv", action="store_true", help="print CSV instead of text")
+    _add_forms(command)
+    add_earned_options(command)
     add_bin_option(command)
     return command
 
 
-def day_word(word: str) -> date:
-    """Returns the day of a word such as `2026-06-10`."""
-    day = parse_day(word)
-    if day is None:
-        raise argparse.ArgumentTypeError(f"{word!r} is no day such as 2026-06-10")
-    return day
+def _add_forms(command: CommandParser) -> None:
+    """Adds the options for what is printed, and how."""
+    what = command.add_mutually_exclusive_group()
+    what.add_argument("--earned", action="store_true", help="earned value of the last state")
+    what.add_argument("--money", action="store_true", help="money over time of the last state")
+    form = command.add_mutually_exclusive_group()
+    form.add_argument("--csv", action="store_true", help="print CSV instead of text")
+    form.add_argument("--json", action="store_true", help="print JSON instead of text")
 
 
 def run(options: argparse.Namespace) -> int:
     """Prints what is asked for and returns the status."""
-    plans = open_states(options.states)
-    baseline = None if options.baseline is None else open_plan(options.baseline)
-    for plan in (*plans, *([baseline] if baseline else [])):
-        if plan.note:
-            say(NAME, plan.note)
+    check_earned_options(options)
+    programs = programs_of(options)
+    states = opened(options.states, programs)
+    states[-1] = states[-1].with_said(said_left(options.left))
+    named = opened(options.baseline, programs)
     if options.money:
-        sys.stdout.write(_money(options, plans, baseline))
+        sys.stdout.write(_money(options, states, named))
         return 0
-    if len(plans) == 1 and baseline is None and not options.earned:
+    if options.earned:
+        show_earned(options, states, baselines_of(states, None, named))
+        return 0
+    if len(states) == 1 and not named:
         raise UsageError("one state alone: name two, a folder, or --baseline")
-    sys.stdout.write(_history(options, plans, baseline))
+    sys.stdout.write(_history(options, states, named))
     return 0
 
 
-def _said(options: argparse.Namespace) -> dict[str, Said]:
-    """Returns what the list of what is left says."""
-    if options.left is None:
-        return {}
-    return read_left(options.left.read_bytes(), str(options.left))
-
-
-def _history(options: argparse.Namespace, plans: list[OpenPlan], baseline: OpenPlan | None) -> str:
-    history = compare(programs_of(options), plans, baseline, _said(options), options.by)
+def _history(
+    options: argparse.Namespace, states: list[ProjectState], named: list[ProjectState]
+) -> str:
+    history = compare(states, None, options.by, named)
     for note in history.states[-1].forecast.notes:
         say(NAME, note)
-    if options.earned:
-        return _earned(history, options)
     if options.csv:
         return compare_csv.to_csv(history).decode()
+    if options.json:
+        result = summary_of(history)
+        document = Document(NAME, history.money_scale, history.currency, result)
+        return to_json(document).decode()
     return compare_text.to_text(history)
 
 
-def _earned(history: History, options: argparse.Namespace) -> str:
-    """Returns the earned value of the last state, which may be its own baseline."""
-    last = history.states[-1]
-    earned = last.earned or earned_value(programs_of(options), last.plan, last.plan)
+def _money(
+    options: argparse.Namespace, states: list[ProjectState], named: list[ProjectState]
+) -> str:
+    last = states[-1]
+    first = in_force(last, baselines_of(states, None, named))
+    found = money(last, first, states[:-1])
     if options.csv:
-        return earned_text.to_csv(earned).decode()
-    code = last.plan.deck.project.code
-    heading = shown(f"EARNED VALUE {code} {last.data_day}, baseline {history.baseline.name}")
-    return earned_text.to_text(earned, heading, last.day_minutes, last.value)
-
-
-def _money(options: argparse.Namespace, plans: list[OpenPlan], baseline: OpenPlan | None) -> str:
-    first = baseline or plans[0]
-    money = money_over_time(programs_of(options), plans[-1], first, plans[:-1], _said(options))
-    if options.csv:
-        return money_text.to_csv(money).decode()
-    last = plans[-1]
-    day = last.side.data_date or last.deck.as_of_day
-    heading = shown(f"MONEY {last.deck.project.code} {day}, baseline {first.path.name}")
-    return money_text.to_text(money, heading)
-
-
-def main() -> None:
-    """Runs the command."""
-    sys.exit(run_command(NAME, parser(), run))
-
-
-if __name__ == "__main__":
-    main()
+        return money_text.to_csv(found).decode()
+    if options.json:
+        document = Document(f"{NAME} --money", found.money_scale, found.currency, found)
+        return to_json(document).decode()
+    heading = shown(f"MONEY {last.deck.project.code} {last.data_day}, baseline {first.name}")
+    return money_text.to_text(found, heading)

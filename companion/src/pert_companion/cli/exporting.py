@@ -1,30 +1,52 @@
 """`pert-export`: a schedule as a file for a planner, a spreadsheet or a calendar."""
 
 import argparse
-import sys
+from collections.abc import Iterator
 from datetime import date
 from pathlib import Path
 
-from pert_companion.cli.choosing import add_length_options, chosen_schedule, programs_of
-from pert_companion.cli.common import CommandParser, run_command, say
-from pert_companion.errors import InputError, UsageError
-from pert_companion.opening import OpenPlan, open_plan
-from pert_companion.output import write_whole
-from pert_companion.predecessors import first_day_waits, real_links
-from pert_companion.programs import Programs
-from pert_companion.schedule import Schedule
-from pert_companion.scheduling import in_one_piece
-from pert_companion.writers.csv_file import to_csv
+from pert_companion.analysis.performance import performance
+from pert_companion.analysis.schedule import Schedule
+from pert_companion.analysis.scheduling import in_one_piece, network_at
+from pert_companion.cli.choosing import (
+    add_length_options,
+    add_plan_option,
+    programs_of,
+    schedule_of_options,
+)
+from pert_companion.cli.common import CommandParser, say
+from pert_companion.cli.opening import with_tables
+from pert_companion.cli.writing import add_output_options, is_file, named, outputs_of
+from pert_companion.importing.conversion import MAX_BYTES
+from pert_companion.model.deck import Deck
+from pert_companion.model.errors import InputError, UsageError
+from pert_companion.model.lines import not_in_xml
+from pert_companion.model.output import CALENDAR_FILE, PLAN_XML, WORKBOOK, Output
+from pert_companion.model.predecessors import first_day_waits, real_links
+from pert_companion.model.source import read_bytes, shown_name
+from pert_companion.state.project import ProjectState, open_state
+from pert_companion.state.work import Work
+from pert_companion.writers.csv_file import SCHEDULE_TABLE, to_csv
 from pert_companion.writers.ics import to_ics
-from pert_companion.writers.mspdi import into_mspdi, to_mspdi
+from pert_companion.writers.mspdi import to_mspdi
+from pert_companion.writers.mspdi_into import into_mspdi
 from pert_companion.writers.xlsx import Workbooks, to_xlsx
 
 NAME = "pert-export"
-FORMATS = (".xml", ".xlsx", ".csv", ".ics")
+FORMATS = {
+    ".xml": PLAN_XML,
+    ".xlsx": WORKBOOK,
+    ".csv": SCHEDULE_TABLE,
+    ".ics": CALENDAR_FILE,
+}
+"""The kind of file of each ending."""
+MOST_PERIODS = 400
+"""The periods that `pert load` has at most."""
 EXAMPLES = """\
   pert-export wing.csv --length 76 -o wing-76.xlsx          a workbook: schedule, curve, reports
+  pert-export wing.csv --by 2026-09-30 -o wing.ics          what ends by a day, as a calendar
   pert-export wing.csv --optimum -o wing.xml                a file for MS Project
-  pert-export wing.csv --length 76 --into plan.xml -o new.xml   the plan it came from, in 76 units
+  pert-export wing.csv --length 76 --into state.xml -o new.xml   the plan it came from, in 76 days
   pert-export wing.csv --normal -o wing.ics                 a calendar file"""
 
 
@@ -37,8 +59,12 @@ def parser() -> CommandParser:
     )
     command.add_argument("deck", type=Path, help="a deck or a deck of tasks")
     add_length_options(command)
+    add_plan_option(command)
+    add_output_options(command, "FILE", "the file to write", required=True)
     command.add_argument(
-        "-o", "--output", metavar="FILE", type=Path, required=True, help="the file to write"
+        "--format",
+        choices=[ending.removeprefix(".") for ending in FORMATS],
+        help="what to write (default: by the ending of the name, and csv to standard output)",
     )
     command.add_argument(
         "--into",
@@ -51,74 +77,123 @@ def parser() -> CommandParser:
 
 def run(options: argparse.Namespace) -> int:
     """Writes the file and returns the status: 1 if a task of the deck is not in the original."""
-    ending = options.output.suffix.lower()
+    ending = _ending(options)
+    outputs = outputs_of(options, [options.deck], [options.into])
+    outputs.check(options.output, FORMATS[ending])
+    state = with_tables(open_state(options.deck, programs_of(options)))
+    schedule = schedule_of_options(state, options)
+    missing: list[str] = []
+    if options.into is not None:
+        data, missing = _into(state, options.into, schedule)
+    else:
+        data = _new_file(ending, state, schedule)
+    outputs.write(Output(options.output, FORMATS[ending], data))
+    if ending in (".xlsx", ".xml"):
+        for line in _replaced(state.deck, schedule):
+            say(NAME, line)
+    if ending == ".xml" and options.into is None:
+        missing_parts = ", ".join(_left_out(state, schedule))
+        if missing_parts:
+            say(NAME, f"not in this file, but in one written with --into: {missing_parts}")
+    for line in missing:
+        say(NAME, line)
+    say(
+        NAME,
+        f"{named(options.output)}: {len(schedule.tasks)} tasks, {schedule.start} to {schedule.end}",
+    )
+    return 1 if missing else 0
+
+
+def _left_out(state: ProjectState, schedule: Schedule) -> Iterator[str]:
+    """Yields what the state has and a new file of MS Project does not."""
+    if state.deck.loads:
+        yield "resources"
+    if any(task.shortest_minutes < task.left_minutes for task in schedule.tasks):
+        yield "shortest durations and their prices"
+    if any(task.baselines for task in state.side.tasks):
+        yield "baselines"
+    if schedule.rest_of is not None:
+        yield "actual dates"
+
+
+def _ending(options: argparse.Namespace) -> str:
+    """Returns the ending of the format to write: `.csv` for a spreadsheet."""
+    ending = str(options.output.suffix.lower())
+    if options.format is not None:
+        ending = f".{options.format}"
+    elif not is_file(options.output):
+        ending = ".csv" if options.into is None else ".xml"
     if ending not in FORMATS:
         raise UsageError(f"{options.output}: the name has to end with {', '.join(FORMATS)}")
     if options.into is not None and ending != ".xml":
         raise UsageError("--into writes .xml")
-    plan = open_plan(options.deck)
-    if plan.note:
-        say(NAME, plan.note)
-    programs = programs_of(options)
-    schedule = chosen_schedule(plan, options, programs)
-    missing: list[str] = []
-    if options.into is not None:
-        data, missing = _into(plan, options.into, schedule)
-    else:
-        data = _new_file(ending, plan, schedule, programs)
-    write_whole(options.output, data)
-    for line in missing:
-        say(NAME, line)
-    say(NAME, f"{options.output}: {len(schedule.tasks)} tasks, {schedule.start} to {schedule.end}")
-    return 1 if missing else 0
+    return ending
 
 
-def _into(plan: OpenPlan, original: Path, schedule: Schedule) -> tuple[bytes, list[str]]:
-    if not plan.has_side_file:
-        raise InputError(f"{plan.path}: without its side file, tasks of {original} are not known")
-    return into_mspdi(original.read_bytes(), str(original), schedule, plan.side.calendar)
+def _replaced(deck: Deck, schedule: Schedule) -> Iterator[str]:
+    """Yields a line for each title with characters that XML, and so a workbook, cannot hold."""
+    titles = {item.code: item.title for item in deck.items}
+    titles.update({card.code: card.title for card in deck.resources})
+    titles.update({task.code: task.name for task in schedule.tasks})
+    for code, title in titles.items():
+        characters = ", ".join(not_in_xml(title))
+        if characters:
+            yield f"{code}: its title has {characters}, which is U+FFFD in the file"
 
 
-def _new_file(ending: str, plan: OpenPlan, schedule: Schedule, programs: Programs) -> bytes:
+def _into(state: ProjectState, original: Path, schedule: Schedule) -> tuple[bytes, list[str]]:
+    if not state.has_side_file:
+        raise InputError(f"{state.path}: without its side file, tasks of {original} are not known")
+    data = read_bytes(original, MAX_BYTES)
+    return into_mspdi(data, shown_name(original), schedule, state.side)
+
+
+def _new_file(ending: str, state: ProjectState, schedule: Schedule) -> bytes:
     if ending == ".csv":
         return to_csv(schedule)
     if ending == ".ics":
         return to_ics(schedule)
     if ending == ".xml":
-        links = real_links(plan.deck, plan.side)
-        waits = first_day_waits(plan.deck, plan.side)
-        return to_mspdi(schedule, plan.side.calendar, links, waits)
-    return to_xlsx(_workbook(plan, schedule, programs))
+        links = real_links(state.deck, state.side)
+        waits = first_day_waits(state.deck, state.side)
+        return to_mspdi(schedule, state.side.calendar, links, waits, state.side.money_scale)
+    return to_xlsx(_workbook(state, schedule))
 
 
-def _workbook(plan: OpenPlan, schedule: Schedule, programs: Programs) -> Workbooks:
-    """Returns what the workbook shows; the load has periods of a week of work."""
-    network = programs.network(plan.counted)
-    week = max(1, plan.side.calendar.week_minutes // plan.side.unit_minutes)
-    load = programs.load(in_one_piece(network, plan.side, programs.normal(network)), week)
+def _workbook(state: ProjectState, schedule: Schedule) -> Workbooks:
+    """Returns what the workbook shows: curve and load are those of the work of the schedule."""
+    plan = state.plan
+    work = plan if schedule.is_past_plan else state.rest
+    is_normal = schedule.length == work.longest
+    point = work.normal if is_normal else work.point(schedule.length)
+    period = load_period(work, schedule.length)
+    network = network_at(work.counted_network, point)
+    load = work.load(in_one_piece(network, work.side, point), period)
+    is_measured = state.has_begun and bool(state.deck.accounts)
     return Workbooks(
         schedule,
-        programs.curve(network),
-        network,
-        programs.summary(network),
-        programs.value(network),
+        work.curve,
+        plan.counted_network,
+        plan.summary,
+        plan.value,
         load,
-        _period_days(plan, week, load.periods),
+        _period_days(work, period, load.periods),
+        state.side.accepted,
+        performance(state, state) if is_measured else None,
     )
 
 
-def _period_days(plan: OpenPlan, units: int, periods: int) -> list[date]:
+def load_period(work: Work, length: int) -> int:
+    """Returns the units of a period of the load: a week, or more if there would be too many."""
+    calendar = work.side.calendar
+    month = calendar.month_days * calendar.day_minutes
+    for minutes in (calendar.week_minutes, month, 3 * month):
+        units = max(1, minutes // work.side.unit_minutes)
+        if length // units < MOST_PERIODS:
+            return units
+    return length // MOST_PERIODS + 1
+
+
+def _period_days(plan: Work, units: int, periods: int) -> list[date]:
     """Returns the day on which each period of so many units begins."""
-    calendar = plan.side.calendar
-    origin = calendar.position(calendar.morning(plan.side.start))
-    step = units * plan.side.unit_minutes
-    return [calendar.at(origin + number * step).date() for number in range(periods)]
-
-
-def main() -> None:
-    """Runs the command."""
-    sys.exit(run_command(NAME, parser(), run))
-
-
-if __name__ == "__main__":
-    main()
+    return [plan.clock.begin_moment(number * units).date() for number in range(periods)]

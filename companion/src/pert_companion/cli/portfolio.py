@@ -7,13 +7,19 @@ from collections.abc import Sequence
 from pathlib import Path
 
 from pert_companion.cli.choosing import add_bin_option, programs_of
-from pert_companion.cli.common import CommandParser, one_line, run_command, say
-from pert_companion.errors import UsageError
-from pert_companion.output import write_together
-from pert_companion.portfolio.page import render, table_csv
+from pert_companion.cli.common import CommandParser, say
+from pert_companion.cli.writing import add_output_options, check_json, is_file, named, outputs_of
+from pert_companion.model.errors import UsageError
+from pert_companion.model.lines import one_line
+from pert_companion.model.output import PAGE, Output, Outputs
+from pert_companion.portfolio.hosts import Hosts
+from pert_companion.portfolio.job import Job
+from pert_companion.portfolio.page import render
 from pert_companion.portfolio.row import Row
 from pert_companion.portfolio.stored import Cache
-from pert_companion.portfolio.work import Hosts, Job, rows_of, serve
+from pert_companion.portfolio.table import PORTFOLIO_TABLE, table_csv
+from pert_companion.portfolio.work import rows_of, serve
+from pert_companion.writers.json_file import Document, to_json
 
 NAME = "pert-portfolio"
 EXAMPLES = """\
@@ -21,6 +27,7 @@ EXAMPLES = """\
   pert-portfolio now/*.csv --previous before -o page.html
                                                         with what moved since before/wing.csv ..
   pert-portfolio now/*.csv --csv -o page.html           page.csv too, for a spreadsheet
+  pert-portfolio now/*.csv --json                       the rows for other programs
   pert-portfolio now/*.csv --hosts hosts.txt -o page.html
                                                         decks are read on the hosts of the file
 
@@ -33,12 +40,17 @@ WIDTH = 30
 def parser() -> CommandParser:
     """Returns the parser of the command's words."""
     command = CommandParser(
-        NAME, "Writes a page with a row for each project, and what their resources share.", EXAMPLES
+        NAME,
+        "Writes a page with a row for each project, and what their resources share.",
+        EXAMPLES,
     )
     command.add_argument("deck", type=Path, nargs="*", help="a deck of one project each")
-    command.add_argument("-o", "--output", metavar="FILE", type=Path, help="the page to write")
+    add_output_options(command, "FILE", "the page to write")
     command.add_argument(
         "--csv", action="store_true", help="write the rows as CSV too, next to the page"
+    )
+    command.add_argument(
+        "--json", action="store_true", help="print the rows as JSON, with or without a page"
     )
     command.add_argument(
         "--previous",
@@ -54,11 +66,24 @@ def parser() -> CommandParser:
         help="flag figures that are so many days older than the newest (31)",
     )
     command.add_argument(
-        "--cache", metavar="DIR", type=Path, help="where rows are kept (the user's cache)"
+        "--cache",
+        metavar="DIR",
+        type=Path,
+        help="where rows are kept (the user's cache)",
     )
     command.add_argument("--no-cache", action="store_true", help="keep no rows, and use none")
+    _add_host_options(command)
+    add_bin_option(command)
+    return command
+
+
+def _add_host_options(command: CommandParser) -> None:
+    """Adds the options for rows that other hosts make."""
     command.add_argument(
-        "--hosts", metavar="FILE", type=Path, help="read decks on these hosts, by GNU parallel"
+        "--hosts",
+        metavar="FILE",
+        type=Path,
+        help="read decks on these hosts, by GNU parallel",
     )
     command.add_argument(
         "--remote",
@@ -69,8 +94,6 @@ def parser() -> CommandParser:
     command.add_argument(
         "--worker", action="store_true", help="what runs on a host: decks in, rows out"
     )
-    add_bin_option(command)
-    return command
 
 
 def days_word(word: str) -> int:
@@ -86,12 +109,12 @@ def run(options: argparse.Namespace) -> int:
     if options.worker:
         serve(programs, sys.stdin.buffer)
         return 0
-    if not options.deck or options.output is None:
-        raise UsageError("name decks and a page: pert-portfolio DECK.. -o PAGE")
+    _check_words(options)
+    jobs = [Job(path, _previous(path, options.previous), str(path)) for path in options.deck]
+    outputs = _outputs(options, jobs)
     for name in ("pert", "pert_check"):
         if options.hosts is None:
             programs.find(name)
-    jobs = [Job(path, _previous(path, options.previous), str(path)) for path in options.deck]
     folder = None if options.no_cache or options.hosts is not None else _cache_folder(options.cache)
     hosts = None if options.hosts is None else Hosts(options.hosts, options.remote)
     bar = Bar(sys.stderr.isatty())
@@ -99,8 +122,22 @@ def run(options: argparse.Namespace) -> int:
         rows = rows_of(programs, jobs, Cache(folder, programs), hosts, bar)
     finally:
         bar.clear()
-    _write(rows, options)
+    for line in [] if hosts is None else hosts.left_out:
+        say(NAME, f"left out: {line}")
+    if options.output is not None:
+        outputs.write(*_pages(rows, options))
+    if options.json:
+        sys.stdout.write(to_json(Document(NAME, 1, "", tuple(rows))).decode())
     return _tell(rows, options.output)
+
+
+def _check_words(options: argparse.Namespace) -> None:
+    """Raises `UsageError` if there are no decks, or no place for what is made of them."""
+    if not options.deck or (options.output is None and not options.json):
+        raise UsageError("name decks and a page: pert-portfolio DECK.. -o PAGE")
+    check_json(options, "the page")
+    if options.csv and not is_file(options.output):
+        raise UsageError("--csv needs a page with a name, since the table gets the same")
 
 
 def _previous(path: Path, folder: Path | None) -> Path | None:
@@ -121,24 +158,35 @@ def _cache_folder(chosen: Path | None) -> Path | None:
     return Path(home, ".cache", "pert-portfolio") if home else None
 
 
-def _write(rows: Sequence[Row], options: argparse.Namespace) -> None:
-    files = [(options.output, render(rows, options.output, options.stale))]
+def _outputs(options: argparse.Namespace, jobs: Sequence[Job]) -> Outputs:
+    """Returns what writes the page, which must be no deck."""
+    decks = [*options.deck, *(job.previous for job in jobs)]
+    outputs = outputs_of(options, decks, [options.hosts])
+    if options.output is not None:
+        outputs.check(options.output, PAGE)
     if options.csv:
-        files.append((options.output.with_suffix(".csv"), table_csv(rows, options.stale)))
-    names = {path.resolve() for path, _ in files}
-    for deck in options.deck:
-        if deck.resolve() in names:
-            raise UsageError(f"{deck}: the page would overwrite this deck")
-    write_together(files)
+        outputs.check(options.output.with_suffix(".csv"), PORTFOLIO_TABLE)
+    return outputs
 
 
-def _tell(rows: Sequence[Row], output: Path) -> int:
+def _pages(rows: Sequence[Row], options: argparse.Namespace) -> list[Output]:
+    """Returns the page, and the table if it is wanted."""
+    files = [Output(options.output, PAGE, render(rows, options.output, options.stale))]
+    if options.csv:
+        path = options.output.with_suffix(".csv")
+        files.append(Output(path, PORTFOLIO_TABLE, table_csv(rows, options.stale)))
+    return files
+
+
+def _tell(rows: Sequence[Row], output: Path | None) -> int:
     """Names refused decks and what was written, and returns the status."""
     refused = [row for row in rows if row.fault]
     for row in refused:
         line = row.fault if row.fault.startswith(row.path) else f"{row.path}: {row.fault}"
         say(NAME, line)
-    say(NAME, f"{output}: {len(rows)} decks, {len(refused)} refused")
+    place = "standard output" if output is None else named(output)
+    decks = "1 deck" if len(rows) == 1 else f"{len(rows)} decks"
+    say(NAME, f"{place}: {decks}, {len(refused)} refused")
     return 1 if refused else 0
 
 
@@ -163,12 +211,3 @@ class Bar:
         if self.is_shown:
             sys.stderr.write("\r\x1b[K")
             sys.stderr.flush()
-
-
-def main() -> None:
-    """Runs the command."""
-    sys.exit(run_command(NAME, parser(), run))
-
-
-if __name__ == "__main__":
-    main()

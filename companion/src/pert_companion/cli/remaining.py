@@ -6,22 +6,25 @@ from collections.abc import Mapping
 from dataclasses import replace
 from pathlib import Path
 
-from pert_companion.cli.choosing import add_bin_option, programs_of
-from pert_companion.cli.common import CommandParser, run_command, say
-from pert_companion.deck import checksum
-from pert_companion.errors import UsageError
-from pert_companion.opening import OpenPlan, open_plan
-from pert_companion.output import write_together, write_whole
-from pert_companion.remaining import (
-    Left,
-    Remaining,
-    State,
-    left_of_tasks,
-    read_left,
-    remaining,
+from pert_companion.cli.choosing import add_bin_option, programs_of, said_left
+from pert_companion.cli.common import CommandParser, say
+from pert_companion.cli.writing import (
+    add_output_options,
+    check_deck,
+    check_json,
+    deck_outputs,
+    is_file,
+    outputs_of,
 )
-from pert_companion.sidefile import SideTask, side_path, to_json
+from pert_companion.model.figures import money_text
+from pert_companion.model.fitting import fitted_to
+from pert_companion.model.output import Output
+from pert_companion.model.sidefile import SideTask
+from pert_companion.state.project import ProjectState, open_state
+from pert_companion.state.remaining import Left, Remaining, State, left_of_tasks
 from pert_companion.writers.aligned import aligned
+from pert_companion.writers.json_file import result_text
+from pert_companion.writers.remaining_json import summary_of
 
 NAME = "pert-remaining"
 EXAMPLES = """\
@@ -34,63 +37,74 @@ EXAMPLES = """\
 def parser() -> CommandParser:
     """Returns the parser of the command's words."""
     command = CommandParser(
-        NAME, "Makes the deck of the work that is left, from a deck with status.", EXAMPLES
+        NAME,
+        "Makes the deck of the work that is left, from a deck with status.",
+        EXAMPLES,
     )
     command.add_argument("deck", type=Path, help="a deck or a deck of tasks, with STATUS cards")
-    command.add_argument("-o", "--output", metavar="REST", type=Path, help="the deck to write")
+    add_output_options(command, "REST", "the deck to write")
     command.add_argument(
-        "--left", metavar="FILE", type=Path, help="rows activity,left[,crash] in units of the deck"
+        "--left",
+        metavar="FILE",
+        type=Path,
+        help="rows activity,left[,crash] in units of the deck",
     )
+    command.add_argument("--json", action="store_true", help="print JSON instead of a table")
     add_bin_option(command)
     return command
 
 
 def run(options: argparse.Namespace) -> int:
     """Prints what is left, writes the deck if one is asked for, and returns the status."""
-    plan = open_plan(options.deck)
-    if plan.note:
-        say(NAME, plan.note)
-    if options.output is not None and options.output.resolve() == options.deck.resolve():
-        raise UsageError(f"{options.output} is the deck itself, whose status would be lost")
-    said = {}
-    if options.left is not None:
-        said = read_left(options.left.read_bytes(), str(options.left))
-    rest = remaining(plan.deck, plan.side, said)
-    form = "arrows" if rest.deck.is_of_tasks else "check"
-    programs_of(options).pert(rest.deck.to_bytes(), form)
+    check_json(options, "the deck")
+    outputs = outputs_of(options, [options.deck], [options.left])
+    check_deck(outputs, options.output)
+    opened = open_state(options.deck, programs_of(options))
+    state = opened.with_said(said_left(options.left))
+    rest = state.remaining
+    state.rest.check()
     for note in rest.notes:
         say(NAME, note)
-    sys.stdout.write(table(rest, plan.has_side_file))
+    if options.output is None or is_file(options.output):
+        sys.stdout.write(_text(state, rest, options.json))
     if options.output is not None:
-        write_rest(plan, rest, options.output)
+        outputs.write(*rest_outputs(state, rest, options.output))
     return 0
 
 
-def write_rest(plan: OpenPlan, rest: Remaining, path: Path) -> None:
-    """Writes the deck, and its side file if the original has one."""
-    data = rest.deck.to_bytes()
-    if not plan.has_side_file:
-        write_whole(path, data)
-        return
-    side = replace(rest.side, deck_sha256=checksum(data), deck_name=path.name)
-    write_together([(path, data), (side_path(path), to_json(side))])
+def _text(state: ProjectState, rest: Remaining, is_json: bool) -> str:
+    if not is_json:
+        return table(rest, state.has_side_file)
+    return result_text(NAME, rest.side, summary_of(rest, rows_of(rest, state.has_side_file)))
+
+
+def rest_outputs(state: ProjectState, rest: Remaining, path: Path) -> list[Output]:
+    """Returns the deck, and its side file if the original has one, as files to write."""
+    side = None
+    if state.has_side_file:
+        side = fitted_to(replace(rest.side, deck_name=path.name), rest.deck)
+    return deck_outputs(path, rest.deck.to_bytes(), side)
+
+
+def rows_of(rest: Remaining, has_side_file: bool) -> list[tuple[Left, int]]:
+    """Returns each real task, or each activity of a deck without a side file, with its cost."""
+    costs = {card.code: card.cost for card in rest.deck.work}
+    if not has_side_file:
+        return [(left, costs[left.code]) for left in rest.left]
+    of_tasks = {task.code: _cost(task, costs) for task in rest.side.tasks}
+    return [(left, of_tasks[left.code]) for left in left_of_tasks(rest)]
 
 
 def table(rest: Remaining, has_side_file: bool) -> str:
-    """Returns a row for each real task, or for each activity of a deck without a side file.
-
-    It has the state, durations, costs, and what they rest on.
-    """
-    lefts = left_of_tasks(rest) if has_side_file else rest.left
-    costs = {card.code: card.cost for card in rest.deck.work}
-    total = sum(costs.values())
-    if has_side_file:
-        costs = {task.code: _cost(task, costs) for task in rest.side.tasks}
-    rows = [_row(left, costs[left.code]) for left in lefts]
-    done = sum(left.state is State.FINISHED for left in lefts)
+    """Returns a row for each task, with its state, durations, costs, and what they rest on."""
+    lefts = rows_of(rest, has_side_file)
+    total = sum(card.cost for card in rest.deck.work)
+    scale = rest.side.money_scale
+    rows = [_row(left, cost, scale) for left, cost in lefts]
+    done = sum(left.state is State.FINISHED for left, _ in lefts)
     sunk = sum(left.sunk for left in rest.left)
     state = f"{done} of {len(lefts)} finished"
-    rows.append(("TOTAL", state, "", "", str(total), str(sunk), ""))
+    rows.append(("TOTAL", state, "", "", money_text(total, scale), money_text(sunk, scale), ""))
     headings = ("ACTIVITY", "STATE", "LEFT", "CRASH", "COST", "SUNK", "BY")
     lines = [f"REMAINING {rest.deck.project.code} {rest.deck.as_of_day}"]
     lines.extend(aligned(headings, rows, "llrrrrl"))
@@ -102,15 +116,7 @@ def _cost(task: SideTask, costs: Mapping[str, int]) -> int:
     return sum(costs[part] for part in task.parts)
 
 
-def _row(left: Left, cost: int) -> tuple[str, ...]:
-    numbers = (str(left.normal), str(left.crash), str(cost), str(left.sunk))
+def _row(left: Left, cost: int, scale: int) -> tuple[str, ...]:
+    amounts = money_text(cost, scale), money_text(left.sunk, scale)
+    numbers = (str(left.normal), str(left.crash), *amounts)
     return (left.code, left.state.value, *numbers, left.basis.value)
-
-
-def main() -> None:
-    """Runs the command."""
-    sys.exit(run_command(NAME, parser(), run))
-
-
-if __name__ == "__main__":
-    main()

@@ -5,22 +5,32 @@ import sys
 import time
 from pathlib import Path
 
-from pert_companion.cli.choosing import add_length_options, programs_of
-from pert_companion.cli.common import CommandParser, one_line, run_command, say
-from pert_companion.errors import UsageError
-from pert_companion.output import write_whole
-from pert_companion.page.gathering import Wishes, gather
+from pert_companion.analysis.lengths import named_length
+from pert_companion.cli.choosing import add_length_options, length_choice, programs_of
+from pert_companion.cli.common import CommandParser, say
+from pert_companion.cli.writing import add_output_options, named, outputs_of
+from pert_companion.model.errors import UsageError
+from pert_companion.model.lines import one_line
+from pert_companion.model.output import PAGE, Output
+from pert_companion.model.source import read_bytes, shown_name
+from pert_companion.page.again import check_page
+from pert_companion.page.gathering import gather
 from pert_companion.page.render import render
 from pert_companion.page.report import page_of
-from pert_companion.page.verify import build_verify_page
+from pert_companion.page.source import Source, Wishes
+from pert_companion.page.verify import verify_page
+from pert_companion.state.project import open_state
 
 NAME = "pert-report"
 EXAMPLES = """\
   pert-report wing.csv -o wing.html                 the page of a project
-  pert-report wing.csv --length 76 -o wing.html     76 units are chosen when it opens
+  pert-report wing.csv --length 76 -o wing.html     76 days are chosen when it opens
   pert-report m3.csv --baseline m0.csv --previous m2.csv -o m3.html   with what changed
   pert-report wing.csv --brief -o wing.html         what fits on one sheet of paper
+  pert-report --check wing.html                     whether it is what its data make
   pert-report --verify-page pert-verify.html        the page that checks such pages"""
+MOST_BYTES = 256 * 1024 * 1024
+"""The longest page that `--check` reads."""
 PAUSE = 0.2
 """Seconds between two lines of progress."""
 
@@ -30,7 +40,7 @@ def parser() -> CommandParser:
     command = CommandParser(NAME, "Writes a page about a project as one HTML file.", EXAMPLES)
     command.add_argument("deck", type=Path, nargs="?", help="a deck or a deck of tasks")
     add_length_options(command, prefers_optimum=True)
-    command.add_argument("-o", "--output", metavar="PAGE", type=Path, help="the page to write")
+    add_output_options(command, "PAGE", "the page to write")
     command.add_argument(
         "--baseline", metavar="DECK", type=Path, help="the plan that progress is compared with"
     )
@@ -39,6 +49,9 @@ def parser() -> CommandParser:
     )
     command.add_argument("--currency", metavar="TEXT", help="what stands after amounts, as EUR")
     command.add_argument("--brief", action="store_true", help="only what fits on one sheet")
+    command.add_argument(
+        "--check", metavar="PAGE", type=Path, help="make a page again from its data, and compare"
+    )
     command.add_argument(
         "--verify-page", metavar="OUT", type=Path, help="write the page that checks such pages"
     )
@@ -74,7 +87,10 @@ class Meter:
         sys.stderr.write(f"\r\x1b[K{one_line(text)}")
         sys.stderr.flush()
 
-    def clear(self) -> None:
+    def __enter__(self) -> "Meter":
+        return self
+
+    def __exit__(self, *error: object) -> None:
         """Takes the last text away."""
         if self.is_shown and self.last:
             self.write("")
@@ -83,42 +99,46 @@ class Meter:
 
 def run(options: argparse.Namespace) -> int:
     """Writes the page and returns the status."""
+    outputs = outputs_of(options, [options.deck, options.baseline, options.previous])
     if options.verify_page is not None:
-        write_whole(options.verify_page, build_verify_page().encode())
-        say(NAME, f"{options.verify_page}: the page that checks a report or a certificate")
+        outputs.write(Output(options.verify_page, PAGE, verify_page()))
+        say(NAME, f"{named(options.verify_page)}: the page that checks a report or a certificate")
         if options.deck is None:
             return 0
+    if options.check is not None:
+        return check(options)
     if options.deck is None or options.output is None:
         raise UsageError("name a deck and a page: pert-report DECK -o PAGE")
+    outputs.check(options.output, PAGE)
+    state = open_state(options.deck, programs_of(options))
     wishes = Wishes(
-        options.length,
+        named_length(state.rest, length_choice(options)),
         options.optimum,
         options.normal,
-        options.baseline,
-        options.previous,
         options.currency,
         options.brief,
     )
-    meter = Meter(sys.stderr.isatty())
-    try:
-        gathered = gather(programs_of(options), options.deck, wishes, meter)
-    finally:
-        meter.clear()
-    plans = [gathered.status.plan, gathered.baseline]
-    plans.append(None if gathered.previous is None else gathered.previous.plan)
-    for plan in plans:
-        if plan is not None and plan.note:
-            say(NAME, plan.note)
+    programs = state.programs
+    source = Source(
+        wishes,
+        state,
+        None if options.baseline is None else open_state(options.baseline, programs),
+        None if options.previous is None else open_state(options.previous, programs),
+    )
+    with Meter(sys.stderr.isatty()) as meter:
+        gathered = gather(source, meter)
     page = render(page_of(gathered))
-    write_whole(options.output, page)
-    say(NAME, f"{options.output}: {len(page):,} bytes, {gathered.answer}")
+    outputs.write(Output(options.output, PAGE, page))
+    say(NAME, f"{named(options.output)}: {len(page):,} bytes, {gathered.answer}")
     return 0
 
 
-def main() -> None:
-    """Runs the command."""
-    sys.exit(run_command(NAME, parser(), run))
-
-
-if __name__ == "__main__":
-    main()
+def check(options: argparse.Namespace) -> int:
+    """Says whether a page is what this version makes of the data in it."""
+    if options.deck is not None or options.output is not None:
+        raise UsageError("--check takes a page alone: pert-report --check PAGE")
+    page = read_bytes(options.check, MOST_BYTES, "page")
+    with Meter(sys.stderr.isatty()) as meter:
+        verdict = check_page(page, shown_name(options.check), programs_of(options), meter)
+    print(verdict.text)
+    return 0 if verdict.is_right else 1

@@ -8,24 +8,38 @@ from dataclasses import replace
 from datetime import date, timedelta
 from pathlib import Path
 
-from pert_companion.cli.choosing import add_length_options, chosen_schedule, programs_of
-from pert_companion.cli.common import CommandParser, run_command, say
-from pert_companion.errors import UsageError
-from pert_companion.forecast import forecast
-from pert_companion.opening import OpenPlan, open_plan
-from pert_companion.remaining import read_left
-from pert_companion.schedule import Schedule, ScheduledTask
+from pert_companion.analysis.contract import contract_of
+from pert_companion.analysis.forecast import forecast
+from pert_companion.analysis.lengths import LengthChoice
+from pert_companion.analysis.schedule import Schedule, ScheduledTask
+from pert_companion.analysis.scheduling import rest_schedule
+from pert_companion.cli.choosing import (
+    add_length_options,
+    add_plan_option,
+    length_choice,
+    programs_of,
+    said_left,
+    schedule_of_options,
+)
+from pert_companion.cli.common import CommandParser, say
+from pert_companion.model.errors import UsageError
+from pert_companion.state.project import ProjectState, open_state
+from pert_companion.writers import forecast_json
 from pert_companion.writers import forecast_text as forecast_writer
 from pert_companion.writers.csv_file import to_csv
+from pert_companion.writers.json_file import result_text
 from pert_companion.writers.text import TableOptions, to_text
 
 NAME = "pert-schedule"
 EXAMPLES = """\
   pert-schedule wing.csv                     all tasks by start, at normal durations
-  pert-schedule wing.csv --length 76 --gantt the cheapest schedule of 76 units, with bars
+  pert-schedule wing.csv --length 76 --gantt the cheapest schedule of 76 days, with bars
+  pert-schedule wing.csv --by 2026-09-30     the cheapest schedule that ends by a day
+  pert-schedule wing.csv --plan              the plan of the first day, also when work has begun
   pert-schedule wing.csv --critical          the critical tasks alone
   pert-schedule wing.csv --next 30d          what is at work in the 30 days from the data date on
   pert-schedule wing.csv --resource Crane    the tasks of one resource
+  pert-schedule wing.csv --chance            the even chance, and that of the contract date
   pert-schedule wing.csv --forecast          unfinished tasks, by what is left of each"""
 
 
@@ -34,6 +48,7 @@ def parser() -> CommandParser:
     command = CommandParser(NAME, "Prints the tasks of a deck with their dates.", EXAMPLES)
     command.add_argument("deck", type=Path, help="a deck or a deck of tasks")
     add_length_options(command)
+    add_plan_option(command)
     command.add_argument("--gantt", action="store_true", help="draw bars, as wide as the terminal")
     command.add_argument("--critical", action="store_true", help="critical tasks alone")
     command.add_argument(
@@ -43,7 +58,12 @@ def parser() -> CommandParser:
     command.add_argument(
         "--order", choices=("start", "plan"), default="start", help="by start, or as in the plan"
     )
-    command.add_argument("--csv", action="store_true", help="print CSV instead of a table")
+    command.add_argument(
+        "--chance", action="store_true", help="how sure the end of what is left is (simulated)"
+    )
+    form = command.add_mutually_exclusive_group()
+    form.add_argument("--csv", action="store_true", help="print CSV instead of a table")
+    form.add_argument("--json", action="store_true", help="print JSON instead of a table")
     add_forecast_options(command)
     return command
 
@@ -70,29 +90,43 @@ def days_word(word: str) -> int:
 
 
 def selected(
-    schedule: Schedule, plan: OpenPlan, options: argparse.Namespace
+    schedule: Schedule, state: ProjectState, options: argparse.Namespace
 ) -> list[ScheduledTask]:
     """Returns the tasks that the options ask for, in their order."""
     tasks = list(schedule.tasks)
     if options.critical:
         tasks = [task for task in tasks if task.is_critical]
     if options.next is not None:
-        first = next_day(plan)
+        first = next_day(state)
         tasks = at_work(tasks, first, first + timedelta(days=options.next - 1))
     if options.resource is not None:
-        tasks = [task for task in tasks if options.resource in task.resources]
-        if not tasks:
-            raise UsageError(f"no task uses a resource named {options.resource!r}")
+        name = resource_name(schedule, options.resource)
+        tasks = [task for task in tasks if name in task.resources]
     if options.order == "start":
         tasks.sort(key=lambda task: (task.start, task.finish))
     return tasks
 
 
-def next_day(plan: OpenPlan) -> date:
+def resource_name(schedule: Schedule, wanted: str) -> str:
+    """Returns the name of a resource, which may be said without its unit: `Crew (hours)`.
+
+    Raises `UsageError` that offers the names there are if no task uses such a resource.
+    """
+    names: dict[str, None] = {}
+    for task in schedule.tasks:
+        names.update(dict.fromkeys(task.resources))
+    for name in names:
+        if wanted.casefold() in (name.casefold(), name.rpartition(" (")[0].casefold()):
+            return name
+    offered = f"there are {', '.join(sorted(names))}" if names else "no task uses any"
+    raise UsageError(f"no task uses a resource named {wanted!r}; {offered}")
+
+
+def next_day(state: ProjectState) -> date:
     """Returns the first day that is not past: the one after the data date, or the as-of day."""
-    if plan.side.data_date is not None:
-        return plan.side.data_date + timedelta(days=1)
-    return plan.deck.as_of_day
+    if state.side.data_date is not None:
+        return state.side.data_date + timedelta(days=1)
+    return state.as_of
 
 
 def at_work(tasks: list[ScheduledTask], first: date, last: date) -> list[ScheduledTask]:
@@ -102,40 +136,69 @@ def at_work(tasks: list[ScheduledTask], first: date, last: date) -> list[Schedul
 
 def run(options: argparse.Namespace) -> int:
     """Prints the schedule and returns the status."""
-    plan = open_plan(options.deck)
-    if plan.note:
-        say(NAME, plan.note)
+    state = open_state(options.deck, programs_of(options))
     if options.forecast:
-        sys.stdout.write(forecast_text(plan, options))
+        sys.stdout.write(forecast_text(state, options))
         return 0
     if options.baseline is not None or options.left is not None:
         raise UsageError("--baseline and --left go with --forecast")
-    schedule = chosen_schedule(plan, options, programs_of(options))
-    tasks = selected(schedule, plan, options)
-    if options.csv:
-        sys.stdout.write(to_csv(replace(schedule, tasks=tuple(tasks))).decode())
+    if options.chance:
+        sys.stdout.write(chances(state, options))
         return 0
-    sys.stdout.write(to_text(schedule, tasks, table_options(options.gantt)))
+    sys.stdout.write(schedule_text(state, options))
     return 0
 
 
-def forecast_text(plan: OpenPlan, options: argparse.Namespace) -> str:
+def schedule_text(state: ProjectState, options: argparse.Namespace) -> str:
+    """Returns the tasks that the options ask for, with their dates, as a table, CSV or JSON."""
+    schedule = schedule_of_options(state, options)
+    tasks = selected(schedule, state, options)
+    if options.csv:
+        return to_csv(replace(schedule, tasks=tuple(tasks))).decode()
+    if options.json:
+        return result_text(NAME, state.side, replace(schedule, tasks=tuple(tasks)))
+    return to_text(schedule, tasks, table_options(options.gantt))
+
+
+def forecast_text(state: ProjectState, options: argparse.Namespace) -> str:
     """Returns the forecast of the unfinished tasks that the options ask for."""
-    if options.length is not None or options.optimum or options.gantt:
-        raise UsageError("--forecast has no --length, --optimum or --gantt")
-    baseline = None if options.baseline is None else open_plan(options.baseline)
-    said = {}
-    if options.left is not None:
-        said = read_left(options.left.read_bytes(), str(options.left))
-    found = forecast(programs_of(options), plan, baseline, said)
+    if length_choice(options) != LengthChoice() or options.gantt or options.plan:
+        raise UsageError("--forecast has no --length, --by, --optimum, --plan or --gantt")
+    baseline = None
+    if options.baseline is not None:
+        baseline = open_state(options.baseline, state.programs)
+    found = forecast(state.with_said(said_left(options.left)), baseline)
     for note in found.notes:
         say(NAME, note)
     unfinished = {task.code: task for task in found.tasks}
-    chosen = [task.code for task in selected(found.schedule, plan, options)]
+    chosen = [task.code for task in selected(found.schedule, state, options)]
     tasks = [unfinished[code] for code in chosen if code in unfinished]
     if options.csv:
         return forecast_writer.to_csv(found, tasks).decode()
+    if options.json:
+        summary = forecast_json.summary_of(found, tasks)
+        return result_text(f"{NAME} --forecast", state.side, summary)
     return forecast_writer.to_text(found, tasks)
+
+
+def chances(state: ProjectState, options: argparse.Namespace) -> str:
+    """Returns how sure the end of what is left is, at the length that the options choose."""
+    if options.csv or options.gantt or options.critical:
+        raise UsageError("--chance has no --csv, --gantt or --critical")
+    # imported where it is wanted, since numpy takes its time
+    from pert_companion.analysis.sureness import sureness
+    from pert_companion.writers.chance_json import summary_of
+    from pert_companion.writers.chance_text import chance_text
+
+    rest = state.rest
+    schedule = rest_schedule(state, length_choice(options))
+    contract = contract_of(state, None)
+    found = sureness(rest, rest.point(schedule.length).durations)
+    day = None if contract is None else contract.day
+    if options.json:
+        summary = summary_of(found, schedule.end, day)
+        return result_text(f"{NAME} --chance", state.side, summary)
+    return chance_text(found, schedule.end, day)
 
 
 def table_options(gantt: bool) -> TableOptions:
@@ -144,12 +207,3 @@ def table_options(gantt: bool) -> TableOptions:
         return TableOptions(None, gantt, False)
     width = shutil.get_terminal_size().columns
     return TableOptions(width, gantt, not os.environ.get("NO_COLOR"))
-
-
-def main() -> None:
-    """Runs the command."""
-    sys.exit(run_command(NAME, parser(), run))
-
-
-if __name__ == "__main__":
-    main()

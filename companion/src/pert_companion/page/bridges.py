@@ -7,23 +7,17 @@ from collections.abc import Iterator, Sequence
 from dataclasses import dataclass, replace
 from datetime import date
 
-from pert_companion.changes import finish_day, status_days
-from pert_companion.compare import Comparison, History, ProjectState
-from pert_companion.end_moves import EndMoves, TaskMove
-from pert_companion.page.view import FigureBook, Line, Row, Table, plain, signed, title
-from pert_companion.page.words import day_text, number_text, shown
-from pert_companion.sidefile import SideTask
+from pert_companion.analysis.bridges import EndStep
+from pert_companion.analysis.changes import finish_day, status_days
+from pert_companion.analysis.compare import Comparison, History, StateFigures
+from pert_companion.analysis.end_moves import EndMoves, TaskMove
+from pert_companion.model.sidefile import SideTask
+from pert_companion.page.view import Line, Row, Table, plain, signed, title
+from pert_companion.page.words import Words, day_text, number_text, shown
+from pert_companion.state.matching import match_accounts
 
 MOST_ROWS = 10
 """Tasks or accounts that have a row of their own."""
-
-
-@dataclass(frozen=True)
-class EndStep:
-    """One step of the bridge of the end date by cause."""
-
-    cause: str
-    end: date
 
 
 @dataclass(frozen=True)
@@ -31,27 +25,30 @@ class StateMoney:
     """Writes amounts of a comparison, whose unit of money may be smaller than the page's."""
 
     history: History
-    book: FigureBook
+    words: Words
 
     def text(self, amount: int) -> Line:
         """Returns an amount."""
-        words = replace(self.book.words, money_scale=self.history.money_scale)
+        words = replace(self.words, money_scale=self.history.money_scale)
         return plain(words.digits(amount))
 
     def change(self, amount: int) -> Line:
         """Returns a difference of amounts with its sign."""
-        words = replace(self.book.words, money_scale=self.history.money_scale)
+        words = replace(self.words, money_scale=self.history.money_scale)
         return plain(signed(words.digits(amount)))
 
 
 def task_name(code: str, name: str) -> Line:
     """Returns the name of a task or account with its code, or the code alone."""
-    return (*title(shown(name or code)), *plain(f" {code}" if name and name != code else ""))
+    return (
+        *title(shown(name or code)),
+        *plain(f" {code}" if name and name != code else ""),
+    )
 
 
 def end_table(steps: Sequence[EndStep], comparison: Comparison) -> Table:
     """Returns the bridge of the end date by cause."""
-    calendar = comparison.new.plan.side.calendar
+    calendar = comparison.new.state.side.calendar
     rows = [Row(plain("Last report"), (plain(day_text(steps[0].end)), plain("")))]
     for before, step in zip(steps, steps[1:]):
         days = calendar.count_days(before.end, step.end)
@@ -97,10 +94,10 @@ def _days(days: int) -> Line:
 class _TaskEnds:
     """The last days of the tasks of a state."""
 
-    def __init__(self, state: ProjectState) -> None:
-        self._side = state.plan.side
+    def __init__(self, state: StateFigures) -> None:
+        self._side = state.state.side
         self._forecast = {task.code: task.last_day for task in state.forecast.tasks}
-        self._finished = status_days(state.plan.deck, "F")
+        self._finished = status_days(state.state.deck, "F")
 
     def text(self, task: SideTask | None) -> Line:
         """Returns the day on which a task ends or has ended, or a dash if there is no such task."""
@@ -133,9 +130,9 @@ class AccountMove:
 
 
 def estimate_table(comparison: Comparison, money: StateMoney) -> Table:
-    """Returns the bridge of the latest estimate by account, the greatest move first."""
+    """Returns the bridge of the latest estimate by account, the largest amount first."""
     moves = list(account_moves(comparison, money.history.money_scale))
-    moves.sort(key=lambda move: -abs(move.amounts[-1]))
+    moves.sort(key=lambda move: -max(abs(amount) for amount in move.amounts))
     rows = [Row(plain("Last report"), (*_blank(3), money.text(comparison.old.latest)))]
     for move in moves[:MOST_ROWS]:
         name = (*plain(f"{move.code} "), *title(shown(move.title)), *plain(move.note))
@@ -148,7 +145,11 @@ def estimate_table(comparison: Comparison, money: StateMoney) -> Table:
     now = (*_blank(3), money.text(comparison.new.latest))
     rows.append(Row(plain("Now"), now, is_sum=True))
     heads = ("Account", "Scope", "Restated past", "Re-estimate", "Latest estimate")
-    return Table("From the estimate of the last report to this one, by account", heads, tuple(rows))
+    return Table(
+        "From the estimate of the last report to this one, by account",
+        heads,
+        tuple(rows),
+    )
 
 
 def _changes(moves: Sequence[AccountMove], money: StateMoney) -> tuple[Line, ...]:
@@ -159,9 +160,14 @@ def _changes(moves: Sequence[AccountMove], money: StateMoney) -> tuple[Line, ...
 
 
 def account_moves(comparison: Comparison, money_scale: int) -> Iterator[AccountMove]:
-    """Yields the accounts whose latest estimate moved, by any cause, in the order of the decks."""
-    old, new = comparison.old.plan.deck, comparison.new.plan.deck
-    before, after = _accounts(comparison.old, money_scale), _accounts(comparison.new, money_scale)
+    """Yields the accounts whose latest estimate moved, by any cause, in the order of the decks.
+
+    A renamed account is one account, with the code that it has now; so are several that became one.
+    """
+    old, new = comparison.old.state.deck, comparison.new.state.deck
+    before, after = _accounts_by_now(comparison, money_scale), _accounts(
+        comparison.new, money_scale
+    )
     past = _restated_charges(comparison)
     titles = {card.code: card.title for card in (*old.accounts, *new.accounts)}
     for code in {**before, **after}:
@@ -175,14 +181,25 @@ def account_moves(comparison: Comparison, money_scale: int) -> Iterator[AccountM
             yield AccountMove(code, titles[code], scope, restated, rest, note)
 
 
+def _accounts_by_now(comparison: Comparison, money_scale: int) -> dict[str, tuple[int, int]]:
+    """Returns budget and latest estimate of each account of the last report, by its code now."""
+    old, new = comparison.old.state, comparison.new.state
+    names = match_accounts(old.deck, new.deck, new.registers.renames)
+    found: dict[str, tuple[int, int]] = {}
+    for code, (budget, latest) in _accounts(comparison.old, money_scale).items():
+        held = found.get(names.get(code, code), (0, 0))
+        found[names.get(code, code)] = held[0] + budget, held[1] + latest
+    return found
+
+
 def _blank(count: int) -> tuple[Line, ...]:
     return tuple(plain("") for _ in range(count))
 
 
-def _accounts(state: ProjectState, money_scale: int) -> dict[str, tuple[int, int]]:
+def _accounts(state: StateFigures, money_scale: int) -> dict[str, tuple[int, int]]:
     """Returns budget and latest estimate of each account, in units of the comparison."""
-    deck = state.plan.deck
-    factor = money_scale // state.plan.side.money_scale
+    deck = state.state.deck
+    factor = money_scale // state.state.side.money_scale
     spent: dict[str, int] = {}
     for charge in deck.charges:
         if charge.day <= deck.as_of_day:

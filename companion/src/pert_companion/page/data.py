@@ -1,6 +1,7 @@
-"""The data that a report page holds, so that anybody can check it: deck, certificate and figures.
+"""The data that a report page holds, so that anybody can check it and make the page again.
 
-A page has three elements, `<script type="application/json" id="..">`, whose text `embedded` makes:
+A page has four elements, `<script type="application/json" id="..">`, each once, whose text
+`embedded` makes. Their SHA-256 (`checksum_of_blocks`) is that of the data of the page:
 
 `pert-deck`
     `{"name": NAME, "text": TEXT}`: the name of the deck's file, and the text that the programs
@@ -8,8 +9,9 @@ A page has three elements, `<script type="application/json" id="..">`, whose tex
     the remaining work. TEXT has the same lines, line ends and byte order mark as the file.
 
 `pert-certificate`
-    The certificate in compact form, at most `MOST_BYTES`. A larger one is left out, and the page
-    says so. The form has changes from each segment to the next, not whole segments:
+    The certificate in compact form, at most `MOST_BYTES`. Instead of a larger one there is
+    `null`, and the page says so. The form has changes from each segment to the next, not whole
+    segments:
 
         {"form": 1,
          "head": "1 SHED 3 3",
@@ -32,18 +34,13 @@ A page has three elements, `<script type="application/json" id="..">`, whose tex
       the flows `0 0`. Its change is `PLACE DURATION` if the flows stay, else
       `PLACE DURATION FLOWS`.
 
-`pert-figures`
-    The figures shown on the page that follow from deck and certificate:
+`pert-side`
+    `{"sha256": DIGEST, "text": TEXT}`: what a deck cannot say of the one in `pert-deck`, whose
+    text has this SHA-256. TEXT is a side file as docs/side-file.md describes it, with the calendar,
+    the currency and the tasks.
 
-        {"form": 1, "rows": [["cost", "30", "", "13190"], ["duration", "30", "WALLS", "9"]]}
-
-    Each row has what the figure is, the length that it belongs to, a code, and its value in
-    digits, with `-` in front if it is below 0. `KINDS` lists what there is. An element of the page
-    with `data-figure="N"`, in double quotes, shows the figure of row N, counted from 0: its text,
-    or its `value` if that attribute follows, has the digits of the value and no others, in any
-    grouping, and a minus sign if and only if the value is below 0. There is no element in it. So
-    write `13,190.00` for 1319000 cents, and `13,190 EUR`, but not `13,190 for 30 days`. A row need
-    not be shown. The elements of the three ids are written exactly as above, with double quotes.
+`pert-source`
+    The states and options that the page is a function of (source.py).
 
 `certificate.js` reads the compact form in the page. `expand` there and here are the same.
 """
@@ -52,34 +49,20 @@ from __future__ import annotations
 
 import json
 import re
-from collections.abc import Iterator, Sequence
-from dataclasses import dataclass, field
+from collections.abc import Iterator, Mapping, Sequence
+from dataclasses import dataclass
+from hashlib import sha256
+from itertools import compress
+from operator import ne
 
-from pert_companion.errors import CompanionError
+from pert_companion.model.errors import CompanionError
+from pert_companion.programs.certificate import parts
 
 FORM = 1
 MOST_BYTES = 8_000_000
 
-#: What a figure can be. Costs are in the deck's money, lengths, durations and times in its units.
-KINDS = {
-    "segments": "how many segments the certificate has (no length, no code)",
-    "longest": "the all-normal length (no length, no code)",
-    "shortest": "the all-crash length (no length, no code)",
-    "optimum": "the least length with the least total (no length, no code)",
-    "cost": "the least cost of the work at the length",
-    "next": "how much more the work costs at one unit less; there is none at the shortest length",
-    "overhead": "overhead per unit, by the TERMS card, times the length",
-    "bonus": "bonus for the units by which the length is below the target, at least 0",
-    "penalty": "penalty for the units by which the length is above the target, at least 0",
-    "total": "cost plus overhead minus bonus plus penalty",
-    "cost-more": "cost at the length minus cost at the other length, which is the code",
-    "total-more": "total at the length minus total at the other length, which is the code",
-    "event": "the time of the event (the code) in the schedule of the length",
-    "duration": "the duration of the activity (the code) in this schedule",
-    "shortened": "its normal duration minus this duration",
-    "extra": "what the activity costs at this duration, minus its cost at the normal one",
-    "change": "the sum of `extra` over the activities of the item (the code) and of those below",
-}
+BLOCKS = ("pert-source", "pert-deck", "pert-side", "pert-certificate")
+"""The elements in their order, which is that of their checksum."""
 
 _NUMBER = "(?:0|[1-9][0-9]{0,17})"
 _CODE = "[A-Za-z0-9._-]{1,16}"
@@ -113,120 +96,164 @@ class _State:
             self.times[event] -= bit * span
 
 
-class _Lines:
-    """The lines of a certificate, taken one by one."""
+def _matched(form: re.Pattern[str], line: str) -> re.Match[str]:
+    """Returns the match of a line that must have a form."""
+    found = form.fullmatch(line)
+    if found is None:
+        raise DataError("a line of the certificate is not well-formed")
+    return found
 
-    def __init__(self, text: str) -> None:
-        if not text.endswith("\n"):
+
+class _Expected:
+    """The lines of events and activities that a segment has if nothing changes.
+
+    Most lines of a segment are as expected, so only the others are taken apart.
+    """
+
+    def __init__(self, lines: Sequence[str]) -> None:
+        """Takes the lines of the first segment, for their codes."""
+        is_event = [line.startswith("EVENT ") for line in lines]
+        count = sum(is_event)
+        if not all(is_event[:count]):
+            raise DataError("an event of the certificate follows an activity")
+        self.events = [_matched(_EVENT, line)[1] for line in lines[:count]]
+        self.activities = [_matched(_ACT, line)[1] for line in lines[count:]]
+        self._lines = [f"EVENT {code} 0 0" for code in self.events]
+        self._lines += [f"ACT {code} 0 0 0" for code in self.activities]
+        self._moving: dict[int, int] = {}
+        """The times of the events that move, by place."""
+
+    def changes(self, lines: Sequence[str]) -> tuple[str, str]:
+        """Returns the changes of events and of activities in the next segment, and takes them."""
+        if len(lines) != len(self._lines):
+            raise DataError(_DIFFERENT)
+        events, activities = [], []
+        for place in list(compress(range(len(lines)), map(ne, lines, self._lines))):
+            if place < len(self.events):
+                events.append(self._event_change(place, lines[place]))
+            else:
+                activities.append(self._activity_change(place, lines[place]))
+            self._lines[place] = lines[place]
+        return ";".join(events), ";".join(activities)
+
+    def _event_change(self, event: int, line: str) -> str:
+        found = _matched(_EVENT, line)
+        if found[1] != self.events[event]:
+            raise DataError(_DIFFERENT)
+        expected_time = self._lines[event].split(" ")[2]
+        if found[3] == "1":
+            self._moving[event] = int(found[2])
+        else:
+            self._moving.pop(event, None)
+        return str(event) if found[2] == expected_time else f"{event} {found[2]} {found[3]}"
+
+    def _activity_change(self, place: int, line: str) -> str:
+        found = _matched(_ACT, line)
+        activity = place - len(self.events)
+        if found[1] != self.activities[activity]:
+            raise DataError(_DIFFERENT)
+        expected_flows = self._lines[place].split(" ", 3)[3]
+        change = f"{activity} {found[2]}"
+        return change if found[3] == expected_flows else f"{change} {found[3]}"
+
+    def fall(self, span: int) -> None:
+        """Moves the events that move to the lower end of a segment."""
+        for event in self._moving:
+            self._moving[event] -= span
+            self._lines[event] = f"EVENT {self.events[event]} {self._moving[event]} 1"
+
+
+_DIFFERENT = "the segments of the certificate differ in their events or activities"
+
+
+class Compactor:
+    """Takes a certificate as its parts come and keeps its compact form.
+
+    Every certificate that `pert certify` writes has one. A malformed text has none, nor has one in
+    which events or activities differ from segment to segment: taking it raises `DataError`. What is
+    larger than a page may carry is not kept.
+    """
+
+    def __init__(self, most: int = MOST_BYTES) -> None:
+        """Takes the most bytes that the segments may have."""
+        self._most = most
+        self._head: dict[str, str] = {}
+        self._expected = _Expected([])
+        self._segments: list[str] = []
+        self._size = 0
+        self._has_ended = False
+
+    def take(self, part: bytes) -> None:
+        """Takes the next part, as `certificate.parts` has them."""
+        if self._size > self._most:
+            return
+        if not part.endswith(b"\n"):
             raise DataError("the last line of the certificate has no line feed")
-        self._lines = text[:-1].split("\n")
-        self._next = 0
+        if self._has_ended:
+            raise DataError("something follows the end of the certificate")
+        lines = part[:-1].decode("ascii").split("\n")
+        if not self._head:
+            lines = self._without_head(lines)
+        if lines[-1] == "CLOSE":
+            self._take_segment(lines[0], lines[1:-1])
+        elif lines == ["END"]:
+            self._has_ended = True
+        else:
+            raise DataError("a part of the certificate is neither a segment nor its end")
 
-    def take(self, form: re.Pattern[str]) -> re.Match[str]:
-        """Returns the next line, which must have this form."""
-        found = self.take_if(form)
-        if found is None:
-            raise DataError(f"line {self._next + 1} of the certificate is not well-formed")
-        return found
+    def _without_head(self, lines: list[str]) -> list[str]:
+        """Takes the lines before the first segment, and returns the others."""
+        count = 0
+        while not lines[count].startswith("SEGMENT ") and lines[count] != "END":
+            count += 1
+            if count == len(lines):
+                raise DataError("the certificate has no end")
+        walks = lines[1:count]
+        if "CRASH" not in walks or walks[0] != "NORMAL":
+            raise DataError("the certificate does not have its two walks")
+        middle = walks.index("CRASH")
+        self._head = {
+            "head": _matched(_HEAD, lines[0])[1],
+            "normal": " ".join(_matched(_STEP, line)[1] for line in walks[1:middle]),
+            "crash": " ".join(_matched(_STEP, line)[1] for line in walks[middle + 1 :]),
+        }
+        return lines[count:]
 
-    def take_if(self, form: re.Pattern[str]) -> re.Match[str] | None:
-        """Returns the next line if it has this form, else takes nothing."""
-        if self._next == len(self._lines):
+    def _take_segment(self, ends: str, lines: Sequence[str]) -> None:
+        segment = _matched(_SEGMENT, ends)[1]
+        if not self._segments:
+            self._expected = _Expected(lines)
+        self._segments.append("|".join([segment, *self._expected.changes(lines)]))
+        self._size += len(self._segments[-1])
+        upper, lower = _ends(segment)
+        self._expected.fall(upper - lower)
+
+    def data(self) -> dict[str, object]:
+        """Returns the compact form of a certificate that has ended."""
+        if not self._has_ended:
+            raise DataError("the certificate has no end")
+        return {
+            "form": FORM,
+            **self._head,
+            "events": " ".join(self._expected.events),
+            "activities": " ".join(self._expected.activities),
+            "segments": self._segments,
+        }
+
+    def text(self) -> str | None:
+        """Returns the text of the element `pert-certificate`, or None if it is too large."""
+        if self._size > self._most:
             return None
-        found = form.fullmatch(self._lines[self._next])
-        if found is not None:
-            self._next += 1
-        return found
-
-    def take_all(self, form: re.Pattern[str]) -> list[re.Match[str]]:
-        """Returns the next lines of this form, as many as there are."""
-        found = []
-        while (line := self.take_if(form)) is not None:
-            found.append(line)
-        return found
-
-    @property
-    def are_left(self) -> bool:
-        return self._next < len(self._lines)
-
-
-def _word(text: str) -> re.Pattern[str]:
-    return re.compile(re.escape(text))
-
-
-def _codes(lines: Sequence[re.Match[str]]) -> str:
-    return " ".join(line[1] for line in lines)
+        text = embedded(self.data())
+        return text if len(text) <= self._most else None
 
 
 def compact(certificate: str) -> dict[str, object]:
-    """Returns the compact form of a certificate.
-
-    Every certificate that `pert certify` writes has one. A malformed text has none, nor has one
-    in which events or activities differ from segment to segment.
-
-    Raises `DataError` if the text has no compact form.
-    """
-    lines = _Lines(certificate)
-    head = lines.take(_HEAD)[1]
-    lines.take(_word("NORMAL"))
-    normal = _codes(lines.take_all(_STEP))
-    lines.take(_word("CRASH"))
-    crash = _codes(lines.take_all(_STEP))
-    events, activities, segments = _compact_segments(lines)
-    lines.take(_word("END"))
-    if lines.are_left:
-        raise DataError("something follows the end of the certificate")
-    return {
-        "form": FORM,
-        "head": head,
-        "normal": normal,
-        "crash": crash,
-        "events": events,
-        "activities": activities,
-        "segments": segments,
-    }
-
-
-def _compact_segments(lines: _Lines) -> tuple[str, str, list[str]]:
-    """Returns the codes of events, those of activities, and the segments."""
-    events, activities = "", ""
-    segments: list[str] = []
-    state = _State([], [], [], [])
-    while (segment := lines.take_if(_SEGMENT)) is not None:
-        event_lines, act_lines = lines.take_all(_EVENT), lines.take_all(_ACT)
-        lines.take(_word("CLOSE"))
-        if not segments:
-            events, activities = _codes(event_lines), _codes(act_lines)
-            state = _State.initial(len(event_lines), len(act_lines))
-        if (_codes(event_lines), _codes(act_lines)) != (events, activities):
-            raise DataError("the segments of the certificate differ in their events or activities")
-        changes = [";".join(_event_changes(state, event_lines))]
-        changes.append(";".join(_activity_changes(state, act_lines)))
-        segments.append("|".join([segment[1], *changes]))
-        upper, lower, _, _ = map(int, segment[1].split(" "))
-        state.fall(upper - lower)
-    return events, activities, segments
-
-
-def _event_changes(state: _State, lines: Sequence[re.Match[str]]) -> Iterator[str]:
-    """Yields the changes of events in a segment, and puts them into the state."""
-    for event, line in enumerate(lines):
-        time, bit = int(line[2]), int(line[3])
-        if time != state.times[event]:
-            yield f"{event} {time} {bit}"
-        elif bit != state.bits[event]:
-            yield str(event)
-        state.times[event], state.bits[event] = time, bit
-
-
-def _activity_changes(state: _State, lines: Sequence[re.Match[str]]) -> Iterator[str]:
-    """Yields the changes of activities in a segment, and puts them into the state."""
-    for activity, line in enumerate(lines):
-        if line[3] != state.flows[activity]:
-            yield f"{activity} {line[2]} {line[3]}"
-        elif line[2] != state.durations[activity]:
-            yield f"{activity} {line[2]}"
-        state.durations[activity], state.flows[activity] = line[2], line[3]
+    """Returns the compact form of a certificate. Raises `DataError` if it has none."""
+    compactor = Compactor(len(certificate))
+    for part in parts([certificate.encode("ascii")]):
+        compactor.take(part)
+    return compactor.data()
 
 
 def expand(data: object) -> str:
@@ -236,27 +263,32 @@ def expand(data: object) -> str:
 
     Raises `DataError` if the data does not have the form that `compact` returns.
     """
+    return "".join(expanded(data))
+
+
+def expanded(data: object) -> Iterator[str]:
+    """Yields the text that `expand` returns, segment by segment."""
     texts = _texts(data)
     events, activities = _words(texts["events"]), _words(texts["activities"])
-    parts = [f"CERT {texts['head']}\nNORMAL\n"]
-    parts += [f"STEP {code}\n" for code in _words(texts["normal"])]
-    parts.append("CRASH\n")
-    parts += [f"STEP {code}\n" for code in _words(texts["crash"])]
+    yield f"CERT {texts['head']}\nNORMAL\n"
+    yield "".join(f"STEP {code}\n" for code in _words(texts["normal"]))
+    yield "CRASH\n"
+    yield "".join(f"STEP {code}\n" for code in _words(texts["crash"]))
     state = _State.initial(len(events), len(activities))
     for segment in _segments(data):
         ends, event_changes, activity_changes = _three_parts(segment)
-        parts.append(f"SEGMENT {ends}\n")
         _change_events(state, event_changes)
         _change_activities(state, activity_changes)
+        lines = [f"SEGMENT {ends}\n"]
         for code, time, bit in zip(events, state.times, state.bits):
-            parts.append(f"EVENT {code} {time} {bit}\n")
+            lines.append(f"EVENT {code} {time} {bit}\n")
         for code, duration, flows in zip(activities, state.durations, state.flows):
-            parts.append(f"ACT {code} {duration} {flows}\n")
-        parts.append("CLOSE\n")
+            lines.append(f"ACT {code} {duration} {flows}\n")
+        lines.append("CLOSE\n")
+        yield "".join(lines)
         upper, lower = _ends(ends)
         state.fall(upper - lower)
-    parts.append("END\n")
-    return "".join(parts)
+    yield "END\n"
 
 
 def _texts(data: object) -> dict[str, str]:
@@ -340,67 +372,27 @@ def embedded(data: object) -> str:
     return text
 
 
-def embedded_certificate(certificate: str) -> str | None:
-    """Returns the text of the element `pert-certificate`, or None if it is above `MOST_BYTES`."""
-    text = embedded(compact(certificate))
-    return text if len(text) <= MOST_BYTES else None
-
-
 def embedded_deck(name: str, text: str) -> str:
     """Returns the text of the element `pert-deck`."""
     return embedded({"name": name, "text": text})
 
 
-@dataclass(frozen=True)
-class Figure:
-    """A figure on the page: one of `KINDS`, its value, and length and code if the kind has them."""
-
-    what: str
-    value: int
-    length: int | None = None
-    code: str = ""
-
-    def row(self) -> list[str]:
-        """Returns the figure as it is in the element `pert-figures`."""
-        length = "" if self.length is None else str(self.length)
-        return [self.what, length, self.code, str(self.value)]
+def checksum_of_blocks(blocks: Mapping[str, str]) -> str:
+    """Returns the SHA-256 of the texts of all elements in their order, each with a line feed."""
+    return sha256("".join(f"{blocks[name]}\n" for name in BLOCKS).encode()).hexdigest()
 
 
-@dataclass
-class Figures:
-    """The figures of a page, in the order in which they were added; each is listed once.
+def block_of(page: str, name: str) -> str:
+    """Returns the text of the one element of a page with this id.
 
-        >>> figures = Figures()
-        >>> figures.add("cost", 13190, length=30)
-        0
-        >>> figures.add("duration", 9, length=30, code="WALLS")
-        1
-        >>> figures.add("cost", 13190, length=30)
-        0
-
-    The number returned is the one for `data-figure`.
+    Raises `DataError` if the page has none or more of them.
     """
-
-    _places: dict[Figure, int] = field(default_factory=dict)
-
-    def add(self, what: str, value: int, length: int | None = None, code: str = "") -> int:
-        """Lists a figure if it is not yet, and returns the number of its row.
-
-        Raises `DataError` if there is no such kind of figure.
-        """
-        if what not in KINDS:
-            raise DataError(f"there is no figure '{what}'")
-        return self._places.setdefault(Figure(what, value, length, code), len(self._places))
-
-    def figures(self) -> list[Figure]:
-        """Returns the figures in their order."""
-        return list(self._places)
-
-    def data(self) -> dict[str, object]:
-        """Returns what the element `pert-figures` holds."""
-        return figures_of(self.figures())
+    found = re.findall(f'<script type="application/json" id="{name}">([^<]*)</script>', page)
+    if len(found) != 1:
+        raise DataError(f"{'no' if not found else f'{len(found)} copies of'} {name}")
+    return str(found[0])
 
 
-def figures_of(figures: Sequence[Figure]) -> dict[str, object]:
-    """Returns what the element `pert-figures` holds, a row per figure in this order."""
-    return {"form": FORM, "rows": [figure.row() for figure in figures]}
+def checksum_of(page: str) -> str:
+    """Returns the SHA-256 of the data of a page."""
+    return checksum_of_blocks({name: block_of(page, name) for name in BLOCKS})

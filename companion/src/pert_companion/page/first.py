@@ -1,11 +1,28 @@
-"""The first screen: three sentences and six tiles, and the two ends of the curve below them."""
+"""The first screen: what a reader who has twenty seconds needs, in sentences and tiles."""
 
+from collections.abc import Iterator, Sequence
 from dataclasses import dataclass
 
-from pert_companion import results
-from pert_companion.page.gathering import Gathered, Status
-from pert_companion.page.view import FigureBook, Line, Tile, plain, strong
-from pert_companion.page.words import day_text
+from pert_companion.analysis.options import Reason
+from pert_companion.analysis.plausibility import DoubtKind, doubts
+from pert_companion.analysis.sureness import percent_text
+from pert_companion.model.losses import accepted_text
+from pert_companion.page.decision import decision_sentence, option_for
+from pert_companion.page.gathering import Gathered, project_amounts
+from pert_companion.page.sure import sure_sentence
+from pert_companion.page.view import Alert, Line, Tile, plain, signed, strong, title
+from pert_companion.page.words import Words, day_text, plural, shown
+from pert_companion.state.remaining import State
+
+MOST_NAMED = 3
+"""Tasks of an alert that are named."""
+OF_MONEY = {
+    DoubtKind.NOTHING_TO_GO,
+    DoubtKind.FINISHED_TO_GO,
+    DoubtKind.TO_GO_STAYS,
+    DoubtKind.SPENT_BEFORE,
+}
+"""The doubts about accounts; others are about tasks."""
 
 
 @dataclass(frozen=True)
@@ -13,220 +30,215 @@ class FirstScreen:
     """What a reader sees first."""
 
     sentences: tuple[Line, ...]
+    alerts: tuple[Alert, ...]
     tiles: tuple[Tile, ...]
-    ends: tuple[Tile, ...]
-    """All normal, all crash, and the cheapest length with the price of time."""
 
 
-@dataclass(frozen=True)
-class Decision:
-    """What keeping the contract date costs."""
-
-    target: int | None
-    """The length that ends on the contract date, None if no schedule does."""
-    late: int
-    """The units after the contract date; negative if the forecast is earlier."""
-
-
-def first_screen(gathered: Gathered, book: FigureBook) -> FirstScreen:
+def first_screen(gathered: Gathered, words: Words) -> FirstScreen:
     """Returns the first screen of a page."""
-    decision = decide(gathered)
-    sentences = (
-        when_sentence(gathered, book, decision),
-        money_sentence(gathered, book),
-        (*decision_sentence(gathered, book, decision), *optimum_words(gathered, book)),
-    )
-    tiles = (
-        *date_tiles(gathered, book, decision),
-        *money_tiles(gathered, book),
-        decision_tile(gathered, book, decision),
-    )
-    return FirstScreen(sentences, tiles, end_tiles(gathered, book))
+    sentences = [when_sentence(gathered, words), sure_sentence(gathered)]
+    sentences.append(money_sentence(gathered, words))
+    if gathered.previous is not None:
+        sentences.append(changed_sentence(gathered, words))
+    sentences.append(decision_sentence(gathered, words))
+    tiles = (*date_tiles(gathered, words), *money_tiles(gathered, words))
+    return FirstScreen(tuple(sentences), tuple(alerts(gathered)), tiles)
 
 
-def decide(gathered: Gathered) -> Decision:
-    """Returns how the forecast is to the contract date, and what length keeps it."""
-    status = gathered.status
+def lateness(gathered: Gathered) -> int:
+    """Returns the units by which today's plan ends after the date that it is held to."""
+    rest = gathered.state.rest
     if gathered.contract is None:
-        return Decision(None, 0)
-    units = status.clock.units_until(gathered.contract.day)
-    target = units if status.shortest <= units < status.longest else None
-    return Decision(target, status.longest - units)
+        return 0
+    return rest.longest - rest.clock.units_until(gathered.contract.day)
 
 
-def late_text(book: FigureBook, late: int) -> str:
+def late_text(words: Words, late: int) -> str:
     """Returns how many units something is late: `3 days late`."""
     if late == 0:
         return "on time"
-    return f"{book.words.units(abs(late))} {'late' if late > 0 else 'early'}"
+    return f"{words.units(abs(late))} {'late' if late > 0 else 'early'}"
 
 
-def contract_name(gathered: Gathered) -> str:
-    """Returns what the date is called: contract date, or the plan's end."""
-    contract = gathered.contract
-    return "contract date" if contract is not None and contract.is_binding else "planned end"
-
-
-def when_sentence(gathered: Gathered, book: FigureBook, decision: Decision) -> Line:
+def when_sentence(gathered: Gathered, words: Words) -> Line:
     """Returns the sentence about the end of the work."""
-    what = "What is left is" if gathered.status.rest is not None else "The work is"
-    line = (*plain(f"{what} forecast to end on "), *strong(day_text(gathered.status.forecast)))
-    if gathered.contract is not None:
-        day = day_text(gathered.contract.day)
-        name = contract_name(gathered)
-        line = (*line, *plain(f", {late_text(book, decision.late)} against the {name} {day}"))
-    if gathered.previous is not None:
-        line = (*line, *plain(f"; the report before said {day_text(gathered.previous.forecast)}"))
-    return (*line, *plain("."))
-
-
-def money_sentence(gathered: Gathered, book: FigureBook) -> Line:
-    """Returns the sentence about the money."""
-    top = gathered.status.top
-    if top is None:
-        cost = book.money("cost", gathered.normal.cost, gathered.status.longest)
-        return (*plain("The work costs "), *cost, *plain("; the deck has no accounts."))
-    money = book.words.money
-    over = f"{money(abs(top.overrun))} {'over' if top.overrun > 0 else 'under'} it"
-    line = (
-        *plain("The latest estimate is "),
-        *strong(money(top.latest)),
-        *plain(f" against a budget of {money(top.budget)}"),
-        *plain(f", {over}" if top.overrun else ", as budgeted"),
-    )
-    before = None if gathered.previous is None else gathered.previous.top
-    if before is not None:
-        line = (*line, *plain(f"; the report before said {money(before.latest)}"))
-    return (*line, *plain("."))
-
-
-def decision_sentence(gathered: Gathered, book: FigureBook, decision: Decision) -> Line:
-    """Returns the sentence about what there is to decide, with its price."""
-    status, contract = gathered.status, gathered.contract
-    if status.longest == status.shortest:
-        return plain("There is nothing to decide: no task of what is left can be shortened.")
-    first = first_price(gathered, book)
-    if contract is not None and decision.late > 0 and decision.target is not None:
-        more = more_than_normal(gathered, book, decision.target)
-        day = day_text(contract.day)
-        start = (*plain(f"Keeping {day} costs "), *more, *plain(" more"))
-        return (*start, *plain(f"; the first {book.words.unit} costs "), *first, *plain("."))
-    if contract is not None and decision.late > 0:
-        end = day_text(status.clock.end(status.shortest))
-        more = more_than_normal(gathered, book, status.shortest)
-        text = f"{day_text(contract.day)} cannot be kept: the earliest end is {end}, for "
-        start = (*plain(text), *more, *plain(" more"))
-        return (*start, *plain(f"; the first {book.words.unit} costs "), *first, *plain("."))
-    text = f"The date is kept. One {book.words.unit} less would cost "
-    return (*plain(text), *first, *plain("."))
-
-
-def optimum_words(gathered: Gathered, book: FigureBook) -> Line:
-    """Returns which length is cheapest with the price of time, if it is not today's plan."""
-    optimum = gathered.optimum
-    if optimum is None or optimum == gathered.status.longest:
-        return ()
-    day = day_text(gathered.status.clock.end(optimum))
-    length = book.units("optimum", optimum)
-    return (*plain(" With the price of time, "), *length, *plain(f" ({day}) cost least in all."))
-
-
-def first_price(gathered: Gathered, book: FigureBook) -> Line:
-    """Returns the price of one unit less than today's plan."""
-    status = gathered.status
-    _, slope = results.cost_at(status.curve, status.longest)
-    return book.money("next", slope or 0, status.longest)
-
-
-def more_than_normal(gathered: Gathered, book: FigureBook, length: int) -> Line:
-    """Returns what the work costs more at a length than in today's plan."""
-    status = gathered.status
-    cost, _ = results.cost_at(status.curve, length)
-    return book.money("cost-more", cost - gathered.normal.cost, length, str(status.longest))
-
-
-def date_tiles(gathered: Gathered, book: FigureBook, decision: Decision) -> tuple[Tile, ...]:
-    """Returns the tiles of the forecast, the contract date and last month's forecast."""
-    contract, previous = gathered.contract, gathered.previous
-    tone = "bad" if decision.late > 0 else ""
-    note = late_text(book, decision.late) if contract is not None else ""
-    forecast = Tile("Forecast end", plain(day_text(gathered.status.forecast)), plain(note), tone)
-    name = "Contract date" if contract is not None and contract.is_binding else "Planned end"
-    held = Tile(
-        name,
-        plain(day_text(None if contract is None else contract.day)),
-        plain("" if contract is None else contract.kind),
-    )
-    if previous is None:
-        before = Tile("Last report", plain("\u2013"), plain("no report before this one is given"))
-    else:
-        before = Tile(
-            "Last report",
-            plain(day_text(previous.forecast)),
-            plain(moved_text(gathered.status, previous, book)),
-        )
-    return forecast, held, before
-
-
-def moved_text(status: Status, previous: Status, book: FigureBook) -> str:
-    """Returns how the forecast has moved since the report before."""
-    before, now = previous.forecast, status.forecast
-    if before is None or now is None:
-        return "no date"
-    moved = previous.clock.units_until(now) - previous.clock.units_until(before)
-    as_of = day_text(previous.plan.deck.as_of_day)
-    if moved == 0:
-        return f"as of {as_of}; not moved since"
-    return (
-        f"as of {as_of}; {book.words.units(abs(moved))} {'later' if moved > 0 else 'earlier'} now"
-    )
-
-
-def money_tiles(gathered: Gathered, book: FigureBook) -> tuple[Tile, ...]:
-    """Returns the tiles of the latest estimate and the budget."""
-    top, money = gathered.status.top, book.words.money
-    if top is None:
-        cost = book.money("cost", gathered.normal.cost, gathered.status.longest)
-        none = Tile("Budget", plain("\u2013"), plain("the deck has no accounts"))
-        return Tile("Cost of the work", cost, plain("at normal durations")), none
-    over = money(abs(top.overrun))
-    note = "as budgeted"
-    if top.overrun:
-        note = f"{over} {'over' if top.overrun > 0 else 'under'} the budget"
-    latest = Tile(
-        "Latest estimate", plain(money(top.latest)), plain(note), "bad" if top.overrun > 0 else ""
-    )
-    return latest, Tile("Budget", plain(money(top.budget)), plain(f"spent {money(top.actual)}"))
-
-
-def decision_tile(gathered: Gathered, book: FigureBook, decision: Decision) -> Tile:
-    """Returns the tile of the decision that is due."""
-    status = gathered.status
-    if status.longest == status.shortest:
-        return Tile("Decision", plain("none"), plain("nothing can be shortened"))
-    first = (*plain(f"the first {book.words.unit} "), *first_price(gathered, book))
+    what = "What is left ends" if gathered.state.has_begun else "The work ends"
+    line = (*plain(f"{what} on "), *strong(day_text(gathered.state.rest.end)))
+    line = (*line, *plain(" by normal durations"))
     contract = gathered.contract
-    if decision.late <= 0 or contract is None:
-        return Tile(f"One {book.words.unit} less", first_price(gathered, book), plain("costs more"))
-    length = status.shortest if decision.target is None else decision.target
-    day = day_text(contract.day if decision.target is not None else status.clock.end(length))
-    name = f"To end on {day}" if decision.target is not None else f"Earliest end, {day}"
-    return Tile(name, more_than_normal(gathered, book, length), first)
+    if contract is not None:
+        late = late_text(words, lateness(gathered))
+        line = (*line, *plain(f", {late} against the {contract.name} {day_text(contract.day)}"))
+    return (*line, *plain("."))
 
 
-def end_tiles(gathered: Gathered, book: FigureBook) -> tuple[Tile, ...]:
-    """Returns the tiles of the two ends of the curve and of the cheapest length."""
-    status = gathered.status
-    tiles = []
-    for name, length in (("All normal", status.longest), ("All crash", status.shortest)):
-        kind = "longest" if length == status.longest else "shortest"
-        cost, _ = results.cost_at(status.curve, length)
-        ends = plain(f", ends {day_text(status.clock.end(length))}")
-        tiles.append(
-            Tile(name, book.units(kind, length), (*book.money("cost", cost, length), *ends))
-        )
-    if gathered.optimum is not None:
-        ends = plain(f"ends {day_text(status.clock.end(gathered.optimum))}")
-        length_text = book.units("optimum", gathered.optimum)
-        tiles.append(Tile("Cheapest with the price of time", length_text, ends))
-    return tuple(tiles)
+def money_sentence(gathered: Gathered, words: Words) -> Line:
+    """Returns the sentence about the money: the estimate against the last and the first budget."""
+    top, money = project_amounts(gathered.state), words.money
+    if top is None:
+        cost = money(gathered.state.rest.curve[0].cost)
+        return plain(f"The work costs {cost}; the deck has no accounts.")
+    line = (*plain("The latest estimate is "), *strong(money(top.latest)))
+    line = (
+        *line,
+        *plain(f" against a budget of {money(top.budget)}, {over_text(top.overrun, words)}"),
+    )
+    first = original_budget(gathered)
+    if first is not None and first != top.budget:
+        grown = over_text(top.latest - first, words)
+        line = (*line, *plain(f"; the first budget was {money(first)}, so that it is {grown}"))
+    return (*line, *plain("."))
+
+
+def over_text(overrun: int, words: Words) -> str:
+    """Returns how an estimate is to a budget: `217,934 over`."""
+    if overrun == 0:
+        return "as budgeted"
+    return f"{words.money(abs(overrun))} {'over' if overrun > 0 else 'under'} it"
+
+
+def original_budget(gathered: Gathered) -> int | None:
+    """Returns the budget of the baseline, if one is given and has accounts."""
+    baseline = gathered.baseline
+    amounts = None if baseline is None else project_amounts(baseline)
+    if amounts is None or baseline is None:
+        return None
+    scale, own = baseline.side.money_scale, gathered.state.side.money_scale
+    return amounts.budget * own // scale
+
+
+def changed_sentence(gathered: Gathered, words: Words) -> Line:
+    """Returns how end and estimate have moved since the report before."""
+    previous, state = gathered.previous, gathered.state
+    assert previous is not None
+    before, now = previous.rest.end, state.rest.end
+    line = plain(f"Since the report of {day_text(previous.data_day)} ")
+    if before is None or now is None or before == now:
+        line = (*line, *plain("the end has not moved"))
+    else:
+        days = state.side.calendar.count_days(min(before, now), max(before, now))
+        way = "later" if now > before else "earlier"
+        moved = f"the end is {plural(days, 'working day')} {way}, from {day_text(before)}"
+        line = (*line, *plain(moved), *main_cause(gathered))
+    amounts = project_amounts(previous), project_amounts(state)
+    if amounts[0] is not None and amounts[1] is not None:
+        scale = state.side.money_scale // previous.side.money_scale or 1
+        more = amounts[1].latest - amounts[0].latest * scale
+        text = "the estimate is as it was"
+        if more:
+            text = f"the estimate is {words.money(abs(more))} {'more' if more > 0 else 'less'}"
+        line = (*line, *plain(f", and {text}"))
+    return (*line, *plain("."))
+
+
+def main_cause(gathered: Gathered) -> Line:
+    """Returns the task that moved the end most: `, most of it by Roof (+3)`."""
+    moves = None if gathered.changes is None else gathered.changes.bridges.moves
+    if moves is None or not moves.tasks:
+        return ()
+    most = max(moves.tasks, key=lambda move: abs(move.days))
+    task = most.new or most.old
+    if task is None or not most.days:
+        return ()
+    name = title(shown(task.name or task.code))
+    return (*plain(", most of it by "), *name, *plain(f" ({signed(str(most.days))})"))
+
+
+def date_tiles(gathered: Gathered, words: Words) -> tuple[Tile, ...]:
+    """Returns the tiles of the end, of how sure it is, and of the date that it is held to."""
+    contract, found, late = gathered.contract, gathered.sureness, lateness(gathered)
+    note = "by normal durations"
+    if contract is not None:
+        note = f"{note}, {late_text(words, late)}"
+    end = Tile("End", plain(day_text(gathered.state.rest.end)), plain(note), tone(late))
+    even = Tile("Even chance (P50)", plain("\u2013"), plain("the deck has single estimates"))
+    if found is not None:
+        note = f"four in five (P80): {day_text(found.likely_end)}; simulated"
+        even = Tile("Even chance (P50)", plain(day_text(found.even_end)), plain(note))
+    if contract is None:
+        return end, even, Tile("Contract date", plain("\u2013"), plain("none"))
+    name = contract.name[0].upper() + contract.name[1:]
+    note = contract.kind
+    if found is not None and contract.is_binding:
+        note = f"chance {percent_text(found.chance_by(contract.day))} (simulated)"
+    return end, even, Tile(name, plain(day_text(contract.day)), plain(note))
+
+
+def tone(excess: int) -> str:
+    """Returns the tone of a tile with something that is more than agreed."""
+    return "bad" if excess > 0 else ""
+
+
+def money_tiles(gathered: Gathered, words: Words) -> tuple[Tile, ...]:
+    """Returns the tiles of the latest estimate, the budget and the decision."""
+    top, money = project_amounts(gathered.state), words.money
+    decision = decision_tile(gathered, words)
+    if top is None:
+        cost = plain(money(gathered.state.rest.curve[0].cost))
+        none = Tile("Budget", plain("\u2013"), plain("the deck has no accounts"))
+        return Tile("Cost of the work", cost, plain("at normal durations")), none, decision
+    note = over_text(top.overrun, words).replace(" it", " the budget")
+    latest = Tile("Latest estimate", plain(money(top.latest)), plain(note), tone(top.overrun))
+    budget = Tile("Budget", plain(money(top.budget)), plain(f"spent {money(top.actual)}"))
+    return latest, budget, decision
+
+
+def decision_tile(gathered: Gathered, words: Words) -> Tile:
+    """Returns the tile of the option that is best in all, or of the price of the first unit."""
+    cheapest = option_for(gathered.options, Reason.CHEAPEST)
+    if cheapest is not None:
+        note = "which is today’s plan"
+        if cheapest.against_today:
+            note = f"saves {words.money(-cheapest.against_today)} in all"
+        return Tile("Cheapest in all", plain(f"ends {day_text(cheapest.end)}"), plain(note))
+    today = gathered.options[0]
+    if today.next is None:
+        return Tile("Decision", plain("none"), plain("nothing can be shortened"))
+    return Tile(f"One {words.unit} less", plain(words.money(today.next)), plain("for the work"))
+
+
+def alerts(gathered: Gathered) -> Iterator[Alert]:
+    """Yields what to look at first: missed deadlines, what was left out, and what to check."""
+    late = missed_deadlines(gathered)
+    if late:
+        count = plural(len(late), "deadline")
+        yield Alert("schedule", (*plain(f"{count} missed by today’s plan: "), *some_of(late)))
+    side = gathered.state.side
+    if side.accepted:
+        text = (*plain("Not carried over from "), *title(shown(side.source_name)))
+        text = (*text, *plain(f", as accepted: {accepted_text(side.accepted)}"))
+        yield Alert("schedule", text)
+    yield from doubt_alerts(gathered)
+
+
+def doubt_alerts(gathered: Gathered) -> Iterator[Alert]:
+    """Yields what of the state is hard to believe, by kind, with the section that has the figures.
+
+    A page holds no log of changes, so budgets that moved are not judged here.
+    """
+    found = doubts(gathered.state, gathered.previous)
+    for kind in DoubtKind:
+        names = [doubt.name or doubt.code for doubt in found if doubt.kind is kind]
+        if names:
+            what = f"To check, {kind.value}: "
+            section = "cost" if kind in OF_MONEY else "schedule"
+            yield Alert(section, (*plain(what), *some_of(names)))
+
+
+def some_of(names: Sequence[str]) -> Line:
+    """Returns the first names, and how many there are more."""
+    listed = ", ".join(shown(name) for name in names[:MOST_NAMED])
+    more = f" and {len(names) - MOST_NAMED} more" if len(names) > MOST_NAMED else ""
+    return (*title(listed), *plain(more))
+
+
+def missed_deadlines(gathered: Gathered) -> list[str]:
+    """Returns the names of unfinished tasks that end after their deadline, in plan order."""
+    dates = {task.code: task.last_day for task in gathered.today}
+    late = []
+    for task in gathered.state.rest.side.tasks:
+        states = {gathered.progress.get(part) for part in task.parts}
+        if task.deadline is not None and states != {State.FINISHED}:
+            if dates[task.code] > task.deadline:
+                late.append(task.name or task.code)
+    return late

@@ -6,18 +6,19 @@ from datetime import date
 from fractions import Fraction
 from itertools import chain
 
-from pert_companion import results
-from pert_companion.earned_value import EarnedValue, Figures
-from pert_companion.money import MoneyPoint
+from pert_companion.analysis.contract import load_day_minutes
+from pert_companion.analysis.earned_value import EarnedValue, Figures
+from pert_companion.analysis.measured import packages_apart
+from pert_companion.analysis.money import ONE_DAY, MoneyPoint
+from pert_companion.model import figures
+from pert_companion.model.clock import Clock
 from pert_companion.page import charts
 from pert_companion.page.chooser import box_points
-from pert_companion.page.clock import Clock
-from pert_companion.page.gathering import Gathered, load_day_minutes
+from pert_companion.page.gathering import Gathered, item_amounts
 from pert_companion.page.view import (
     Chart,
     Column,
     Dot,
-    FigureBook,
     Line,
     Row,
     Series,
@@ -26,8 +27,8 @@ from pert_companion.page.view import (
     plain,
     title,
 )
-from pert_companion.page.words import MONTHS, day_text, number_text, shown
-from pert_companion.writers import figures
+from pert_companion.page.words import MONTHS, Words, day_text, number_text, shown
+from pert_companion.programs import results
 
 COLUMN_HEIGHT = 110
 MONEY_HEIGHT = 220
@@ -53,9 +54,38 @@ class Load:
     table: Table
 
 
+@dataclass(frozen=True)
+class Money:
+    """The tables and charts of all amounts; None where the deck does not have them."""
+
+    earned: Table | None
+    apart: Table | None
+    """The packages without tasks."""
+    forecasts: tuple[tuple[str, str], ...]
+    notes: tuple[str, ...]
+    """What is said of earned value."""
+    chart: Chart | None
+    summary: Table | None
+    load: Load | None
+
+
+def money(gathered: Gathered, words: Words) -> Money:
+    """Returns what the page shows of money."""
+    earned = gathered.earned
+    return Money(
+        earned=earned_table(gathered, words),
+        apart=apart_table(gathered, words),
+        forecasts=() if earned is None else earned_forecasts(earned, words),
+        notes=() if earned is None else tuple(map(shown, earned.notes[:20])),
+        chart=money_chart(gathered, words),
+        summary=summary_table(gathered, words),
+        load=load(gathered, words),
+    )
+
+
 def item_names(gathered: Gathered) -> dict[str, str]:
     """Returns the titles of items by code."""
-    return {item.code: item.title for item in gathered.status.plan.deck.items}
+    return {item.code: item.title for item in gathered.state.deck.items}
 
 
 def item_name(code: str, names: dict[str, str]) -> Line:
@@ -64,47 +94,43 @@ def item_name(code: str, names: dict[str, str]) -> Line:
     return (*plain(f"{code} "), *title(text)) if text else plain(code)
 
 
-def summary_table(gathered: Gathered, book: FigureBook) -> Table | None:
+def summary_table(gathered: Gathered, words: Words) -> Table | None:
     """Returns the cost by item, or None without accounts."""
-    summary = gathered.status.summary
+    summary = item_amounts(gathered.state)
     if summary is None:
         return None
     names = item_names(gathered)
     rows = []
     for code, row in summary.items():
         amounts = (row.budget, row.actual, row.to_go, row.latest, row.overrun)
-        cells = tuple(plain(book.words.digits(amount)) for amount in amounts)
+        cells = tuple(plain(words.digits(amount)) for amount in amounts)
         rows.append(Row(item_name(code, names), cells, row.level - 1, row.level == 1))
-    heads = ("Item", "Budget", "Spent", "To go", "Latest estimate", "Overrun")
+    heads = ("Item", "Budget", "Spent", "To go", "Latest estimate", "Over budget")
     return Table("Cost by item", heads, tuple(rows))
 
 
-def earned_table(gathered: Gathered, book: FigureBook) -> Table | None:
+def earned_table(gathered: Gathered, words: Words) -> Table | None:
     """Returns the earned value by package, or None without status."""
     earned = gathered.earned
     if earned is None:
         return None
     rows = []
     for package in earned.packages:
-        name = item_name(package.code, {package.code: package.title})
-        if not package.is_measured:
-            spent = plain(book.words.digits(package.figures.ac))
-            dash = plain("\u2013")
-            rows.append(Row(name, (dash, dash, spent, dash, dash, dash)))
-            continue
-        rows.append(Row(name, tuple(_earned_cells(package.figures, book))))
-    cells = tuple(_earned_cells(earned.total, book))
+        if package.is_measured:
+            name = item_name(package.code, {package.code: package.title})
+            rows.append(Row(name, tuple(_earned_cells(package.figures, words))))
+    cells = tuple(_earned_cells(earned.total, words))
     rows.append(Row(plain("All measured packages"), cells, is_sum=True))
     heads = ("Package", "Planned (PV)", "Earned (EV)", "Spent (AC)", "CPI", "SPI", "CV")
     return Table("Earned value by package", heads, tuple(rows))
 
 
-def _earned_cells(of: Figures, book: FigureBook) -> Iterator[Line]:
+def _earned_cells(of: Figures, words: Words) -> Iterator[Line]:
     for amount in (of.pv, of.ev, of.ac):
-        yield plain(book.words.digits(amount))
+        yield plain(words.digits(amount))
     yield plain(ratio_text(of.cpi))
     yield plain(ratio_text(of.spi))
-    yield plain(book.words.digits(of.ev - of.ac))
+    yield plain(words.digits(of.ev - of.ac))
 
 
 def ratio_text(ratio: Fraction | None) -> str:
@@ -112,9 +138,9 @@ def ratio_text(ratio: Fraction | None) -> str:
     return "\u2013" if ratio is None else figures.ratio_text(ratio, 2)
 
 
-def earned_forecasts(earned: EarnedValue, book: FigureBook) -> tuple[tuple[str, str], ...]:
+def earned_forecasts(earned: EarnedValue, words: Words) -> tuple[tuple[str, str], ...]:
     """Returns what the ratios say about the end, as names and texts."""
-    total, money = earned.total, book.words.money
+    total, money = earned.total, words.money
     found = [("BAC, budget at completion", money(round(total.bac)))]
     for name, amount in (
         ("EAC if the rest costs what was planned", total.eac_by_plan),
@@ -123,7 +149,7 @@ def earned_forecasts(earned: EarnedValue, book: FigureBook) -> tuple[tuple[str, 
     ):
         found.append((name, "\u2013" if amount is None else money(round(amount))))
     found.append(("TCPI, the CPI that the rest needs", ratio_text(total.tcpi)))
-    units = book.words.unit
+    units = words.unit
     variance = earned.schedule_variance
     tenths = round(variance * 10)
     sign = "\u2212" if tenths < 0 else ""
@@ -133,31 +159,28 @@ def earned_forecasts(earned: EarnedValue, book: FigureBook) -> tuple[tuple[str, 
     return tuple(found)
 
 
-def money_chart(gathered: Gathered, book: FigureBook) -> Chart | None:
-    """Returns planned, spent, earned and forecast money over time, or None without any."""
+def money_chart(gathered: Gathered, words: Words) -> Chart | None:
+    """Returns planned, earned, spent and forecast money of measured packages over time."""
     money = gathered.money
     if money is None:
         return None
     lines = [
-        ("planned", "planned", money.planned),
-        ("spent", "spent", money.spent),
-        ("forecast", "forecast to the latest estimate", money.forecast),
+        ("planned", "planned (PV)", money.planned),
+        ("earned", "earned (EV)", money.earned),
+        ("spent", "spent (AC)", money.spent),
+        ("forecast", "to the latest estimate", money.forecast),
     ]
     points = list(chain.from_iterable(line for _, _, line in lines))
     first = min(point.day for point in points)
     x = charts.Scale(0, max(1, max((point.day - first).days for point in points)))
-    earned = None if gathered.earned is None else gathered.earned.total.ev
-    amounts = [point.amount for point in points] + [earned or 0]
-    scale, ticks = charts.round_scale(0, max(amounts))
-    words = replace(book.words, money_scale=money.money_scale)
-    texts = [words.digits(tick) for tick in ticks]
-    now = x.share((gathered.status.plan.deck.as_of_day - first).days)
-    dots = [_spent_dot(point, first, x, scale) for point in money.spent]
-    if earned is not None:
-        height = charts.pixels(scale.share(earned), MONEY_HEIGHT)
-        dots.append(Dot("earned", charts.percent(now, 1), height, f"earned {words.digits(earned)}"))
+    scale, ticks = charts.round_scale(0, max(point.amount for point in points))
+    scaled = replace(words, money_scale=money.money_scale)
+    texts = [scaled.digits(tick) for tick in ticks]
+    now = x.share((gathered.state.as_of - ONE_DAY - first).days)
+    dots = [_dot("spent", point, first, x, scale) for point in money.spent]
+    dots += [_dot("earned", point, first, x, scale) for point in money.earned[1:]]
     return Chart(
-        "Planned, spent, earned and forecast money",
+        "Planned, earned and spent money of the packages with tasks",
         MONEY_HEIGHT,
         charts.margin_for(texts),
         tuple(_day_ticks(first, x)),
@@ -165,7 +188,24 @@ def money_chart(gathered: Gathered, book: FigureBook) -> Chart | None:
         tuple(_series(name, label, line, first, (x, scale)) for name, label, line in lines),
         tuple(dots),
         verticals=(Tick(charts.percent(now, 1), "as of", charts.anchor(now)),),
-        x_label="earned so far (a ring), by work done",
+        x_label="a point is a charge, or a state of the project",
+    )
+
+
+def apart_table(gathered: Gathered, words: Words) -> Table | None:
+    """Returns the packages without tasks, whose work has no measure, or None if there are none."""
+    if gathered.earned is None:
+        return None
+    rows = []
+    for package in packages_apart(gathered.state, gathered.earned):
+        name = item_name(package.code, {package.code: package.title})
+        amounts = (package.budget, package.spent, package.latest)
+        rows.append(Row(name, tuple(plain(words.digits(amount)) for amount in amounts)))
+    heads = ("Package", "Budget", "Spent", "Latest estimate")
+    return (
+        Table("Packages without a measure, in no line and no ratio", heads, tuple(rows))
+        if rows
+        else None
     )
 
 
@@ -180,9 +220,9 @@ def _series(
     return Series(name, label, box_points(points, *axes))
 
 
-def _spent_dot(point: MoneyPoint, first: date, x: charts.Scale, y: charts.Scale) -> Dot:
+def _dot(name: str, point: MoneyPoint, first: date, x: charts.Scale, y: charts.Scale) -> Dot:
     at = charts.percent(x.share((point.day - first).days), 1)
-    return Dot("spent", at, charts.pixels(y.share(point.amount), MONEY_HEIGHT))
+    return Dot(name, at, charts.pixels(y.share(point.amount), MONEY_HEIGHT))
 
 
 def _day_ticks(first: date, x: charts.Scale) -> Iterator[Tick]:
@@ -191,32 +231,32 @@ def _day_ticks(first: date, x: charts.Scale) -> Iterator[Tick]:
         yield Tick(charts.percent(share, 1), label, charts.anchor(share), is_minor)
 
 
-def load(gathered: Gathered, book: FigureBook) -> Load | None:
+def load(gathered: Gathered, words: Words) -> Load | None:
     """Returns the load by period, or None if there are too many periods."""
     found = gathered.load
     if found is None:
         return None
-    status = gathered.status
-    top = next(code for code, _ in results.preorder(status.network))
-    shown_resources = status.network.resources[:MOST_RESOURCES]
+    state = gathered.state
+    top = next(code for code, _ in results.preorder(state.rest.network))
+    shown_resources = state.rest.network.resources[:MOST_RESOURCES]
     starts = period_starts(gathered, found.periods)
     money = found.items[top]
-    named = [NamedChart(plain("Cost"), columns(money, found.periods, starts, book, True))]
+    named = [NamedChart(plain("Cost"), columns(money, found.periods, starts, words, True))]
     for card in shown_resources:
         amounts = found.resources[card.code]
-        chart = columns(amounts, found.periods, starts, book, False)
+        chart = columns(amounts, found.periods, starts, words, False)
         named.append(NamedChart(title(shown(card.title or card.code)), chart))
     rows = []
     listed = shown_resources[:6]
     for period in range(found.periods):
-        cells = [plain(book.words.digits(money.get(period, 0)))]
+        cells = [plain(words.digits(money.get(period, 0)))]
         cells.extend(plain(number_text(found.resources[c.code].get(period, 0))) for c in listed)
         rows.append(Row(plain(starts[period]), tuple(cells)))
     heads = ("Period from", "Cost", *(shown(card.title or card.code) for card in listed))
     table = Table("Load by period", heads, tuple(rows))
     return Load(
         tuple(named),
-        len(status.network.resources) - len(shown_resources),
+        len(state.rest.network.resources) - len(shown_resources),
         f"{gathered.period} days of the deck" if gathered.period > 1 else "one day of the deck",
         table,
     )
@@ -224,17 +264,17 @@ def load(gathered: Gathered, book: FigureBook) -> Load | None:
 
 def period_starts(gathered: Gathered, periods: int) -> list[str]:
     """Returns the day on which each period begins."""
-    status = gathered.status
-    minutes = load_day_minutes(status.side, status.deck)
-    clock = Clock(replace(status.side, unit_minutes=minutes))
+    state = gathered.state
+    minutes = load_day_minutes(state.rest.side, state.rest.deck)
+    clock = Clock(replace(state.rest.side, unit_minutes=minutes))
     return [day_text(clock.begin(period * gathered.period)) for period in range(periods)]
 
 
 def columns(
-    amounts: dict[int, int], periods: int, starts: list[str], book: FigureBook, is_money: bool
+    amounts: dict[int, int], periods: int, starts: list[str], words: Words, is_money: bool
 ) -> Chart:
     """Returns a chart with a column for each period."""
-    write = book.words.digits if is_money else number_text
+    write = words.digits if is_money else number_text
     scale, ticks = charts.round_scale(0, max([1, *amounts.values()]), 3)
     texts = [write(tick) for tick in ticks]
     width = Fraction(100, max(1, periods))

@@ -1,4 +1,4 @@
-// Sorts the table of projects by the column whose heading is pressed; pressed again, the other way round. Rows without a value stay at the end.
+// Sorts the table of projects by the column whose heading is pressed; pressed again, the other way round. Rows without a value stay at the end. Shows the projects with an alarm, or with a name.
 "use strict";
 
 (() => {
@@ -22,7 +22,7 @@
         rows.sort((one, other) => {
             const order = compare(one, other, column, isNumber);
             if (order !== null) return sign * order;
-            return (key(one, column) === "") - (key(other, column) === "");
+            return Number(key(one, column) === "") - Number(key(other, column) === "");
         });
         for (const it of table.tHead.rows[0].cells) it.removeAttribute("aria-sort");
         head.setAttribute("aria-sort", sign > 0 ? "ascending" : "descending");
@@ -36,4 +36,30 @@
         head.replaceChildren(button);
         button.addEventListener("click", () => sort(head));
     }
+
+    const filters = document.getElementById("filters");
+    const buttons = [...filters.querySelectorAll("button")];
+    const name = document.getElementById("named");
+    let only = "";
+
+    function show() {
+        const wanted = name.value.trim().toLowerCase();
+        let count = 0;
+        for (const row of body.rows) {
+            const hasAlarm = only === "" || row.dataset.alarms.split(" ").includes(only);
+            row.hidden = !(hasAlarm && row.cells[0].textContent.toLowerCase().includes(wanted));
+            count += row.hidden ? 0 : 1;
+        }
+        document.getElementById("count").textContent = `${count} of ${body.rows.length} shown`;
+    }
+
+    for (const button of buttons) {
+        button.addEventListener("click", () => {
+            only = button.dataset.only;
+            for (const it of buttons) it.setAttribute("aria-pressed", String(it === button));
+            show();
+        });
+    }
+    name.addEventListener("input", show);
+    filters.hidden = false;
 })();

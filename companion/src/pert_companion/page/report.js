@@ -1,67 +1,12 @@
-// Draws the chosen length of a report page, and says in its badge what check.js and figures.js found. Schedules, costs and prices are those of the
-// certificate in the page, read by certificate.js. Nothing is loaded or sent.
+// Draws the chosen length of a report page. Schedules, costs and prices are those of the certificate in the page, read by certificate.js. Nothing is
+// checked here, and nothing is loaded or sent.
 "use strict";
-
-// ---- The badge: checked with PertCheck and PertFigures alone
-(() => {
-    const $ = (id) => document.getElementById(id);
-    const dataOf = (id) => JSON.parse($(id).textContent);
-
-    function say(text, tone) {
-        $("verdict").textContent = text;
-        $("badge").className = `badge ${tone}`;
-    }
-
-    // Returns the figures that the page shows as it was written, before anything is drawn: [number, text].
-    function shownFigures() {
-        return [...document.querySelectorAll("[data-figure]")].map((element) => [element.dataset.figure, element.textContent]);
-    }
-
-    // Returns what is wrong with the listed and the shown figures, or null.
-    function wrongFigure(answers, rows, shown) {
-        const name = (row) => row.slice(0, 3).filter((word) => word !== "").join(" ");
-        const listed = answers.findIndex((answer) => answer !== null);
-        if (listed >= 0) return `figure ${name(rows[listed])} is ${rows[listed][3]}, the certificate says ${answers[listed]}`;
-        const other = shown.find(([number, text]) => rows[Number(number)] === undefined || !PertFigures.shows(text, rows[Number(number)][3]));
-        return other === undefined ? null : `a shown figure, ${other[1].slice(0, 40)}, is not the listed one`;
-    }
-
-    async function check() {
-        const shown = shownFigures();
-        const deck = PertCheck.readDeck(new TextEncoder().encode(dataOf("pert-deck").text));
-        const figures = dataOf("pert-figures");
-        const reader = new PertFigures.Reader(deck, figures);
-        const checker = new PertCheck.Checker(deck);
-        const data = dataOf("pert-certificate");
-        let pausedAt = performance.now();
-        let [done, all] = [0, data.segments?.length || 1];
-        for (const text of PertCertificate.chunks(data)) {
-            if (!checker.take(text)) break;
-            reader.take(text);
-            done += 1;
-            if (performance.now() - pausedAt < 12) continue;
-            say(`checking here: ${Math.min(100, Math.round((100 * done) / all))} %`, "");
-            await new Promise((resume) => setTimeout(resume));
-            pausedAt = performance.now();
-        }
-        const answer = checker.end();
-        if (!answer.startsWith("certified")) return say(answer, "wrong");
-        const wrong = wrongFigure(reader.end(), figures.rows, shown);
-        if (wrong !== null) return say(`not consistent: ${wrong}`, "wrong");
-        return say(`consistent (checked here): ${answer}`, "right");
-    }
-
-    if ($("pert-certificate") === null) {
-        say("not checked here: the certificate is larger than a page can hold", "");
-    } else {
-        check().catch((error) => say(`not consistent: ${error.message}`, "wrong"));
-    }
-})();
 
 // ---- The choice of a length
 (() => {
     const $ = (id) => document.getElementById(id);
-    if ($("pert-certificate") === null) return;
+    const form = JSON.parse($("pert-certificate").textContent);
+    if (form === null) return; // it is larger than a page can hold
     const view = JSON.parse($("pert-view").textContent);
     const MONTHS = "Jan Feb Mar Apr May Jun Jul Aug Sep Oct Nov Dec".split(" ");
     const DAY = 86400000;
@@ -71,10 +16,10 @@
     let plan; // today's plan: nothing is shortened
     try {
         deck = PertCertificate.readDeck(JSON.parse($("pert-deck").textContent).text);
-        curve = PertCertificate.open(JSON.parse($("pert-certificate").textContent), deck);
+        curve = PertCertificate.open(form, deck);
         plan = PertCertificate.readingAt(curve, curve.longest);
     } catch {
-        return; // the badge says what is wrong
+        return; // somebody changed the data; the page stays as it was written
     }
 
     // ---- Words, as words.py has them
@@ -82,12 +27,16 @@
         return digits.replace(/\B(?=(?:[0-9]{3})+$)/g, ",");
     }
 
-    function money(amount) {
-        const digits = String(amount < 0n ? -amount : amount).padStart(view.decimals + 1, "0");
-        const whole = grouped(digits.slice(0, digits.length - view.decimals));
-        const part = view.decimals > 0 ? `.${digits.slice(-view.decimals)}` : "";
-        return `${amount < 0n ? "\u2212" : ""}${whole}${part}${view.currency ? `\u00a0${view.currency}` : ""}`;
+    function digits(amount) {
+        const all = String(amount < 0n ? -amount : amount).padStart(view.decimals + 1, "0");
+        const whole = grouped(all.slice(0, all.length - view.decimals));
+        const part = view.decimals > 0 ? `.${all.slice(-view.decimals)}` : "";
+        return `${amount < 0n ? "\u2212" : ""}${whole}${part}`;
     }
+
+    const money = (amount) => `${digits(amount)}${view.currency ? `\u00a0${view.currency}` : ""}`;
+    const signed = (amount) => `${amount > 0n ? "+" : ""}${money(amount)}`;
+    const signedDigits = (amount) => `${amount > 0n ? "+" : ""}${digits(amount)}`;
 
     function units(count) {
         const number = grouped(String(count < 0n ? -count : count));
@@ -171,6 +120,10 @@
     }
 
     // ---- Costs
+    /**
+     * @param {number} place
+     * @param {bigint} duration
+     */
     function extraOf(place, duration) {
         const activity = deck.activities[place];
         let shorter = activity.normal - duration;
@@ -178,6 +131,7 @@
         for (const { units: each } of activity.pieces) first -= each;
         let cost = 0n;
         for (const { units: each, slope } of [{ units: first, slope: activity.slope }, ...activity.pieces]) {
+            /** @type {bigint} */
             const taken = shorter < each ? shorter : each;
             cost += taken * slope;
             shorter -= taken;
@@ -185,6 +139,7 @@
         return cost;
     }
 
+    /** @param {bigint} length */
     function timeCosts(length) {
         if (deck.terms === null) return null;
         const { overhead, target, bonus, penalty } = deck.terms;
@@ -195,7 +150,30 @@
         };
     }
 
+    /**
+     * Returns the least cost of the work at a length.
+     * @param {bigint} length
+     * @returns {bigint}
+     */
+    function workCost(length) {
+        let [low, high] = [0, curve.segments.length - 1];
+        while (low < high) {
+            const middle = (low + high) >> 1;
+            if (curve.segments[middle].lower <= length) high = middle;
+            else low = middle + 1;
+        }
+        const { upper, cost, slope } = curve.segments[low];
+        return cost + slope * (upper - length);
+    }
+
+    // Returns what a length costs in all: its work and its time.
+    function totalCost(length) {
+        const costs = timeCosts(length);
+        return workCost(length) + (costs === null ? 0n : costs.overhead - costs.bonus + costs.penalty);
+    }
+
     // ---- Tasks
+    let areGroupsDrawn = false; // since a task became critical, or is no more
     const tasks = view.tasks.map(([parts, start, finish, state, name], place) => {
         const row = $(`t${place}`);
         const of = (selector) => row?.querySelector(selector) ?? null;
@@ -212,6 +190,7 @@
             durationCell: of(".duration"),
             bar: of("rect.bar"),
             milestone: of("svg.milestone"),
+            isCritical: null,
         };
     });
 
@@ -281,12 +260,41 @@
         setText(task.finishCell, dayText(ends));
         setText(task.slackCell, grouped(String(slack)));
         setText(task.durationCell, grouped(String(chosen)));
-        task.row.classList.toggle("critical", slack <= 0);
+        const isCritical = slack <= 0;
+        if (isCritical !== task.isCritical) {
+            task.isCritical = isCritical;
+            task.row.classList.toggle("critical", isCritical);
+            areGroupsDrawn = false;
+        }
         if (begins === null || ends === null) return;
         const [left, right] = [(begins - drawnFrom) / DAY, (ends - drawnFrom) / DAY + 1];
         task.bar?.setAttribute("x", place(left));
         task.bar?.setAttribute("width", place(right - left));
         task.milestone?.setAttribute("x", place(right));
+    }
+
+    // ---- Groups: those with a task that is shown
+    const groups = [];
+    const above = []; // the groups of the row at hand, by level
+    /** @type {NodeListOf<HTMLTableRowElement>} */
+    const gantt = document.querySelectorAll(".gantt tbody tr");
+    for (const row of gantt) {
+        const level = Number(/level([0-9]+)/.exec(row.cells[0].className)[1]);
+        if (row.classList.contains("group")) {
+            above.splice(level, above.length, { row, rows: [] });
+            groups.push(above[level]);
+        } else {
+            for (const group of above.slice(0, level)) group?.rows.push(row);
+        }
+    }
+
+    function drawGroups() {
+        if (areGroupsDrawn) return;
+        areGroupsDrawn = true;
+        for (const { row, rows } of groups) {
+            const isOther = rows.every(({ classList }) => classList.contains("other") && !classList.contains("critical"));
+            if (row.classList.contains("other") !== isOther) row.classList.toggle("other", isOther);
+        }
     }
 
     // ---- What a schedule changes: a row for each task, made when it is first needed
@@ -362,7 +370,7 @@
     let chosen = BigInt(view.length);
     let isAsked = false;
 
-    // Draws the chosen length. What a changed certificate has may be no schedule: then there is nothing to choose, and the badge says what is wrong.
+    // Draws the chosen length. What a changed certificate has may be no schedule: then there is nothing to choose.
     function draw() {
         isAsked = false;
         try {
@@ -380,6 +388,7 @@
         holdTogether(durations, times);
         drawCosts(here);
         for (const task of tasks) drawTask(task, durations, times);
+        drawGroups();
         drawChanges(drawChangedRows(here, plan, stop), stop);
         drawMark(here);
         drawStretch();
@@ -396,14 +405,29 @@
         setText($("out-end"), end);
         setText($("out-late"), lateText);
         setText($("out-cost"), money(here.cost));
-        setText($("out-more"), money(here.cost - plan.cost));
-        setText($("out-next"), here.next === null ? "no length is shorter" : money(here.next));
+        const [total, against] = [totalCost(here.length), totalCost(here.length) - totalCost(curve.longest)];
+        const next = here.length === curve.shortest ? null : totalCost(here.length - 1n) - total;
+        setText($("out-more"), signed(against));
+        setText($("out-next"), next === null ? "no length is shorter" : signed(next));
         const costs = timeCosts(here.length);
         if (costs !== null) {
             for (const key of ["overhead", "bonus", "penalty"]) setText($(`out-${key}`), money(costs[key]));
-            setText($("out-total"), money(here.cost + costs.overhead - costs.bonus + costs.penalty));
+            setText($("out-total"), money(total));
         }
-        $("slider").setAttribute("aria-valuetext", `${units(here.length)}, ends on ${end}, costs ${money(here.cost)}`);
+        setText($("out-line"), `${units(here.length)}, ends on ${end}: ${signed(against)} against today\u2019s plan`);
+        drawOption({ length: here.length, end, work: here.cost, total, against, next });
+        $("slider").setAttribute("aria-valuetext", `${units(here.length)}, ends on ${end}, costs ${money(total)}`);
+    }
+
+    // Draws the row of the chosen length among the options, in the order of the heads that python wrote.
+    function drawOption({ length, end, work, total, against, next }) {
+        const row = $("option-chosen");
+        const time = deck.terms === null ? [] : [digits(total - work), digits(total)];
+        const same = view.chances.find(([each]) => BigInt(each) === length);
+        const chance = view.chances.length === 0 ? [] : [same === undefined ? "\u2013" : same[1]];
+        const texts = [end, digits(work), ...time, signedDigits(against), next === null ? "\u2013" : signedDigits(next), ...chance];
+        setText(row.cells[0], `${units(length)}: chosen`);
+        texts.forEach((text, at) => setText(row.cells[at + 1], text));
     }
 
     function drawMark(here) {

@@ -1,20 +1,20 @@
 """The schedule as rows: bars over thin baseline bars, with what is done, late or next."""
 
 from collections.abc import Iterator
-from dataclasses import dataclass
+from dataclasses import dataclass, replace
 from datetime import date, datetime, timedelta
 
-from pert_companion.errors import InputError
+from pert_companion.analysis.own_baseline import own_baseline
+from pert_companion.analysis.schedule import ScheduledTask
+from pert_companion.model.errors import InputError
 from pert_companion.page import charts
 from pert_companion.page.gathering import Gathered
-from pert_companion.page.view import Bar, FigureBook, Line, TaskRow, Tick, plain, title
-from pert_companion.page.words import day_text, shown
-from pert_companion.remaining import State
-from pert_companion.schedule import ScheduledTask
-from pert_companion.sidefile import SideTask
+from pert_companion.page.view import Bar, Line, TaskRow, Tick, plain, title
+from pert_companion.page.words import Words, day_text, plural, shown
+from pert_companion.state.remaining import State
 
 MOST_ROWS = 60
-"""Tasks above which the rest of the schedule is in an appendix."""
+"""Tasks above which those that are not urgent are shown only if all are."""
 SOON_DAYS = 30
 
 
@@ -32,8 +32,8 @@ class Timeline:
     """The schedule of the page."""
 
     rows: tuple[TaskRow, ...]
-    appendix: tuple[TaskRow, ...]
-    """The other rows if there are many."""
+    others: int
+    """Tasks that are shown only if all are: those that are neither critical nor late nor near."""
     ticks: tuple[Tick, ...]
     today: Tick | None
     contract: Tick | None
@@ -42,14 +42,14 @@ class Timeline:
     has_baseline: bool
 
 
-def timeline(gathered: Gathered, book: FigureBook) -> Timeline:
+def timeline(gathered: Gathered, words: Words) -> Timeline:
     """Returns the schedule at the length that is chosen at first."""
-    return _Builder(gathered, book).timeline()
+    return _Builder(gathered, words).timeline()
 
 
 def progress_of(gathered: Gathered) -> dict[str, Progress]:
     """Returns how far each real task is, by code."""
-    deck, side = gathered.status.plan.deck, gathered.status.plan.side
+    deck, side = gathered.state.deck, gathered.state.side
     dates = {(card.activity, card.letter): card.day for card in deck.statuses}
     found = {}
     for task in side.tasks:
@@ -67,7 +67,7 @@ def _evening(gathered: Gathered, day: date | None) -> date | None:
     """Returns the last day of work before the morning of a day."""
     if day is None:
         return None
-    calendar = gathered.status.plan.side.calendar
+    calendar = gathered.state.side.calendar
     try:
         moment = calendar.end_at(calendar.position(datetime(day.year, day.month, day.day)))
     except InputError:
@@ -75,29 +75,36 @@ def _evening(gathered: Gathered, day: date | None) -> date | None:
     return moment.date()
 
 
+def group_row(name: str, level: int, is_other: bool) -> TaskRow:
+    """Returns the heading of a group of tasks."""
+    line = title(shown(name))
+    return TaskRow("", line, level, "group", "", "", "", (), is_other=is_other)
+
+
 class _Builder:
     """Makes the rows of one schedule."""
 
-    def __init__(self, gathered: Gathered, book: FigureBook) -> None:
+    def __init__(self, gathered: Gathered, words: Words) -> None:
         self.gathered = gathered
-        self.book = book
-        self.side = gathered.status.side
-        self.tasks = {task.code: task for task in self.side.tasks}
+        self.words = words
+        self.side = gathered.state.rest.side
         self.places = {task.code: place for place, task in enumerate(self.side.tasks)}
         self.progress = progress_of(gathered)
-        self.as_of = gathered.status.plan.deck.as_of_day
-        self.has_status = gathered.status.rest is not None
+        self.as_of = gathered.state.as_of
+        self.has_status = gathered.state.has_begun
+        own = own_baseline(gathered.state.side)
+        self.moments = {task.code for task in gathered.state.side.tasks if own and not task.normal}
+        self.ends = {task.code: task.last_day for task in gathered.today}
         self.first, self.days = self.span()
-        self.per_part = {card.code: card.normal for card in gathered.status.network.activities}
 
     def span(self) -> tuple[date, int]:
         """Returns the first day of the drawing and the number of its days."""
         gathered = self.gathered
-        days = [gathered.status.plan.deck.project.start_date, self.as_of]
+        days = [gathered.state.deck.project.start_date, self.as_of]
         days.extend(task.first_day for task in gathered.planned.values())
         days.extend(p.start for p in self.progress.values() if p.start is not None)
         ends = [task.last_day for task in gathered.planned.values()]
-        ends.append(gathered.status.forecast or self.as_of)
+        ends.append(gathered.state.rest.end or self.as_of)
         if gathered.contract is not None:
             ends.append(gathered.contract.day)
         ends.extend(p.finish for p in self.progress.values() if p.finish is not None)
@@ -108,12 +115,9 @@ class _Builder:
         """Returns the rows, the axis and what else the drawing has."""
         tasks = self.gathered.schedule.tasks
         rows = {task.code: self.row(task) for task in tasks}
-        shown_first = tasks
-        rest: tuple[ScheduledTask, ...] = ()
+        others: set[str] = set()
         if len(tasks) > MOST_ROWS:
-            shown_first = tuple(t for t in tasks if self.is_urgent(t, rows[t.code]))
-            kept = {task.code for task in shown_first}
-            rest = tuple(task for task in tasks if task.code not in kept)
+            others = {task.code for task in tasks if not self.is_urgent(task, rows[task.code])}
         ticks = tuple(
             Tick(charts.percent(offset, self.days), label, "start", is_minor)
             for offset, label, is_minor in charts.date_ticks(self.first, self.days)
@@ -121,14 +125,14 @@ class _Builder:
         )
         contract = self.gathered.contract
         return Timeline(
-            tuple(self.with_groups(shown_first, rows)),
-            tuple(self.with_groups(rest, rows)),
+            tuple(self.with_groups(tasks, rows, others)),
+            len(others),
             ticks,
             self.line(self.as_of, day_text(self.as_of)) if self.has_status else None,
             None if contract is None else self.line(contract.day, day_text(contract.day), 1),
             self.first,
             self.days,
-            self.has_status or self.gathered.baseline is not None,
+            self.has_status or self.gathered.has_baseline,
         )
 
     def line(self, day: date, label: str, after: int = 0) -> Tick:
@@ -148,20 +152,27 @@ class _Builder:
         return task.is_critical or bool(row.flag) or (self.has_status and is_next)
 
     def with_groups(
-        self, tasks: tuple[ScheduledTask, ...], rows: dict[str, TaskRow]
+        self, tasks: tuple[ScheduledTask, ...], rows: dict[str, TaskRow], others: set[str]
     ) -> Iterator[TaskRow]:
         """Yields the rows with a heading before each group of tasks."""
+        urgent = {
+            task.outline[:level]
+            for task in tasks
+            for level in range(1, len(task.outline) + 1)
+            if task.code not in others
+        }
         before: tuple[str, ...] = ()
         for task in tasks:
             for level, name in enumerate(task.outline):
-                if before[: level + 1] != task.outline[: level + 1]:
-                    yield TaskRow("", title(shown(name)), level, "group", "", "", "", ())
+                group = task.outline[: level + 1]
+                if before[: level + 1] != group:
+                    yield group_row(name, level, group not in urgent)
             before = task.outline
-            yield rows[task.code]
+            yield replace(rows[task.code], is_other=task.code in others)
 
     def row(self, task: ScheduledTask) -> TaskRow:
         """Returns the row of a task."""
-        entry, progress = self.tasks[task.code], self.progress[task.code]
+        progress = self.progress[task.code]
         is_finished = progress.state is State.FINISHED
         start = progress.start or task.first_day
         finish = progress.finish if is_finished else task.last_day
@@ -175,7 +186,7 @@ class _Builder:
             day_text(start),
             day_text(finish),
             slack,
-            self.duration(task, entry, is_finished),
+            self.duration(task, is_finished),
             self.bars(task, progress, is_critical),
             is_critical,
             self.is_milestone(task.code),
@@ -184,16 +195,12 @@ class _Builder:
 
     def is_milestone(self, code: str) -> bool:
         """Says whether the plan gives a task no duration."""
-        return self.gathered.planned[code].is_milestone if code in self.gathered.planned else False
+        planned = self.gathered.planned.get(code)
+        return code in self.moments if planned is None else planned.is_milestone
 
-    def duration(self, task: ScheduledTask, entry: SideTask, is_finished: bool) -> Line:
+    def duration(self, task: ScheduledTask, is_finished: bool) -> Line:
         """Returns what is left to do of a task in this schedule, in units."""
-        if is_finished:
-            return plain("")
-        units = task.chosen_minutes // self.side.unit_minutes
-        if len(entry.parts) > 1:
-            return plain(str(units))
-        return self.book.number("duration", units, self.gathered.length, entry.parts[0])
+        return plain("" if is_finished else str(task.chosen_minutes // self.side.unit_minutes))
 
     def slack_text(self, task: ScheduledTask) -> str:
         """Returns the total float in units."""
@@ -202,19 +209,27 @@ class _Builder:
     def flag(self, task: ScheduledTask, progress: Progress) -> str:
         """Returns what is late about a task that is not finished."""
         planned = self.gathered.planned.get(task.code)
-        if not self.has_status or planned is None or progress.state is State.FINISHED:
+        if planned is None or progress.state is State.FINISHED:
             return ""
-        if progress.state is State.WAITING and planned.first_day < self.as_of:
+        is_waiting = progress.state is State.WAITING
+        if self.has_status and is_waiting and planned.first_day < self.as_of:
             return f"should have begun {day_text(planned.first_day)}"
-        if planned.last_day < self.as_of:
+        if self.has_status and planned.last_day < self.as_of:
             return f"should have finished {day_text(planned.last_day)}"
-        return ""
+        return self.behind(planned.last_day, task.code)
+
+    def behind(self, planned: date, code: str) -> str:
+        """Returns by how many working days today's plan ends a task after its baseline."""
+        days = self.side.calendar.count_days(planned, self.ends[code])
+        if days <= 0 or not self.gathered.has_baseline:
+            return ""
+        return f"{plural(days, 'working day')} behind its baseline"
 
     def bars(self, task: ScheduledTask, progress: Progress, is_critical: bool) -> tuple[Bar, ...]:
         """Returns the bars of a task: baseline, work done, what is left, and its slack."""
         bars = []
         planned = self.gathered.planned.get(task.code)
-        if planned is not None and (self.has_status or self.gathered.baseline is not None):
+        if planned is not None and (self.has_status or self.gathered.has_baseline):
             bars.append(self.bar("baseline", planned.first_day, planned.last_day))
         if progress.state is State.FINISHED:
             bars.append(self.bar("done", progress.start, progress.finish))

@@ -1,11 +1,14 @@
-// The page that checks a report page, or a deck and a certificate. Uses PertCheck, PertFigures, and PertCertificate for the compact form.
+// The page that checks a report page, or a deck and a certificate, and shows its own figures of them. Uses PertCheck for the fifteen conditions,
+// PertCertificate for the compact form, and PertSide and PertSchedule for what is shown. Of a report page it reads the data alone.
 "use strict";
 
 (() => {
     const MOST_PAGE = 64_000_000; // bytes
     const MOST_CERTIFICATE = 2_000_000_000; // bytes of a file, or characters of a compact one written out
+    const MOST_ROWS = 5000; // tasks of a schedule that are drawn
     const PART = 1 << 20;
-    const MOST_SHOWN = 50; // figures that differ
+    const BLOCKS = ["pert-source", "pert-deck", "pert-side", "pert-certificate"]; // as data.py describes them
+    const MONTHS = "Jan Feb Mar Apr May Jun Jul Aug Sep Oct Nov Dec".split(" ");
     const CONDITIONS = [
         "the line is malformed or missing",
         "version, code and the two numbers are the deck's",
@@ -25,17 +28,22 @@
         "the segments cover the range exactly once",
     ];
 
-    // Something that cannot be checked, with the reason.
-    class Unchecked extends Error {}
+    // Something that nothing is shown of, with the reason.
+    class Refusal extends Error {}
+    const REASONS = [Refusal, PertCheck.Refused, PertCertificate.DataError, PertSide.Refused, PertSchedule.Wrong];
 
     const $ = (id) => document.getElementById(id);
-    const given = { page: null, deck: null, certificate: null };
+    const given = { page: null, deck: null, certificate: null, side: null };
     let run = 0; // a later run ends an earlier one
+
+    function demand(holds, text) {
+        if (!holds) throw new Refusal(text);
+    }
 
     // ---- Files
 
     async function bytesOf(file, most) {
-        if (file.size > most) throw new Unchecked(`${file.name} has more than ${most} bytes`);
+        demand(file.size <= most, `${file.name} has more than ${most} bytes`);
         return new Uint8Array(await file.arrayBuffer());
     }
 
@@ -43,10 +51,11 @@
         return new TextDecoder("latin1").decode(bytes);
     }
 
-    // Returns `page`, `deck` or `certificate`. What is neither of the first two counts as a certificate, so that a changed first line is reported.
+    // Returns `page`, `side`, `deck` or `certificate`. What is none of the others counts as a certificate, so that a changed first line is reported.
     async function kindOf(file) {
         const head = latin(await file.slice(0, 4096).arrayBuffer());
         if (/\.html?$/i.test(file.name) || /^[\s\u00ef\u00bb\u00bf]*</.test(head)) return "page";
+        if (/\.json$/i.test(file.name) || /^[\s\u00ef\u00bb\u00bf]*\{/.test(head)) return "side";
         if (/\.csv$/i.test(file.name) || /^[\s,"\u00ef\u00bb\u00bf]*PROJECT/.test(head)) return "deck";
         return "certificate";
     }
@@ -57,7 +66,7 @@
             try {
                 kind = await kindOf(file);
             } catch {
-                show(`Not checked: ${file.name} cannot be read`, "wrong", [], []);
+                refuse(`${file.name} cannot be read`);
                 return;
             }
             given[kind] = file;
@@ -67,9 +76,9 @@
         await checkGiven();
     }
 
-    // Yields a certificate in parts, with how much of it was passed: from a file, or from the compact form in a page.
+    // Yields a certificate in parts, with how much of it was passed: from a file, or from the compact form.
     async function* partsOfFile(file) {
-        if (file.size > MOST_CERTIFICATE) throw new Unchecked(`${file.name} has more than ${MOST_CERTIFICATE} bytes`);
+        demand(file.size <= MOST_CERTIFICATE, `${file.name} has more than ${MOST_CERTIFICATE} bytes`);
         for (let at = 0; at < file.size; at += PART) {
             yield [latin(await file.slice(at, at + PART).arrayBuffer()), Math.min(1, (at + PART) / file.size)];
         }
@@ -81,164 +90,169 @@
         for (const text of PertCertificate.chunks(data)) {
             at += 1;
             size += text.length;
-            if (size > MOST_CERTIFICATE) throw new Unchecked(`the certificate has more than ${MOST_CERTIFICATE} characters`);
+            demand(size <= MOST_CERTIFICATE, `the certificate has more than ${MOST_CERTIFICATE} characters`);
             yield [text, at / count];
         }
     }
 
+    async function digestOf(bytes) {
+        demand(globalThis.crypto?.subtle !== undefined, "this browser computes no checksums here; open the page from a file");
+        const digest = new Uint8Array(await crypto.subtle.digest("SHA-256", bytes));
+        return [...digest].map((byte) => byte.toString(16).padStart(2, "0")).join("");
+    }
+
+    // ---- The data of a report page
+
+    // Returns the texts of the data blocks by their ids, as a browser finds them. No script of the page is run, and nothing of it is loaded.
+    function blocksOf(bytes) {
+        let text;
+        try {
+            text = new TextDecoder("utf-8", { fatal: true }).decode(bytes);
+        } catch {
+            throw new Refusal("the page is not UTF-8");
+        }
+        const page = new DOMParser().parseFromString(text, "text/html");
+        return new Map(BLOCKS.map((id) => [id, blockOf(page, id)]));
+    }
+
+    function blockOf(page, id) {
+        const found = elementsOf(page, id);
+        demand(found.length > 0, `the page has no ${id}`);
+        demand(found.length === 1, `the page has ${found.length} copies of ${id}`);
+        const [block] = found;
+        const isData = block.localName === "script" && block.namespaceURI === "http://www.w3.org/1999/xhtml" && block.getAttribute("type") === "application/json";
+        demand(isData, `${id} of the page is no data`);
+        return block.textContent;
+    }
+
+    // Returns all elements with an id, in templates too.
+    function elementsOf(root, id) {
+        const inside = [...root.querySelectorAll("template")].flatMap(({ content }) => elementsOf(content, id));
+        return [...[...root.querySelectorAll("[id]")].filter((element) => element.id.toLowerCase() === id), ...inside];
+    }
+
+    function parsed(text, id) {
+        try {
+            return JSON.parse(text);
+        } catch {
+            throw new Refusal(`${id} of the page is not JSON`);
+        }
+    }
+
+    // Returns what a page holds: the deck's bytes, the text of its side data, the compact form of its certificate, and the source as it was given.
+    async function contentsOfPage() {
+        const blocks = blocksOf(await bytesOf(given.page, MOST_PAGE));
+        const text = parsed(blocks.get("pert-deck"), "pert-deck")?.text;
+        const side = parsed(blocks.get("pert-side"), "pert-side");
+        demand(typeof text === "string" && typeof side?.text === "string", "the page has no text of a deck or of its side data");
+        const joined = BLOCKS.map((id) => `${blocks.get(id)}\n`).join("");
+        return {
+            bytes: new TextEncoder().encode(text),
+            side,
+            form: parsed(blocks.get("pert-certificate"), "pert-certificate"),
+            source: parsed(blocks.get("pert-source"), "pert-source"),
+            digest: await digestOf(new TextEncoder().encode(joined)),
+        };
+    }
+
     // ---- Checking
 
-    // Returns the answer of PertCheck, and gives `reader` what is certified so far.
-    async function check(deck, parts, reader, isCurrent) {
+    // Returns the answer of PertCheck, or null if another run has begun.
+    async function answerOf(deck, parts, isCurrent, keep) {
         const checker = new PertCheck.Checker(deck);
         let pausedAt = performance.now();
         for await (const [text, share] of parts) {
             if (!checker.take(text)) break;
-            reader.take(text);
-            if (performance.now() - pausedAt > 50) {
-                $("progress").hidden = false;
-                $("progress").value = share;
-                await new Promise((resume) => setTimeout(resume));
-                if (!isCurrent()) return null;
-                pausedAt = performance.now();
-            }
+            keep?.(text);
+            if (performance.now() - pausedAt < 50) continue;
+            $("progress").hidden = false;
+            $("progress").value = share;
+            await new Promise((resume) => setTimeout(resume));
+            if (!isCurrent()) return null;
+            pausedAt = performance.now();
         }
         return checker.end();
     }
 
     function explained(answer) {
         const found = /^not certified line (\d+) reason (\d+)$/.exec(answer);
-        if (found === null) return `${answer}: all fifteen conditions hold`;
         const reason = Number(found[2]);
         return `${answer}: ${reason === 0 ? CONDITIONS[0] : `this fails: ${CONDITIONS[reason]}`}`;
     }
 
-    async function digestOf(bytes) {
-        if (globalThis.crypto?.subtle === undefined) return null;
-        const digest = new Uint8Array(await crypto.subtle.digest("SHA-256", bytes));
-        return [...digest].map((byte) => byte.toString(16).padStart(2, "0")).join("");
+    async function checkPage(isCurrent) {
+        const { bytes, side, form, source, digest } = await contentsOfPage();
+        demand(form !== null, "the certificate is larger than a page can hold; use pert-report --check");
+        const deck = PertCheck.readDeck(bytes);
+        const details = [["SHA-256 of the data", digest]];
+        await compareGiven(details, source);
+        const answer = await answerOf(deck, partsOfData(form), isCurrent);
+        if (answer === null) return null;
+        if (!answer.startsWith("certified")) throw new Refusal(explained(answer));
+        demand(side.sha256 === (await digestOf(bytes)), "the side data belong to another deck");
+        return { answer, details, deck, side: PertSide.read(side.text, deck), plan: PertSchedule.open(form, deck) };
     }
 
-    function readDeck(source) {
-        try {
-            return PertCheck.readDeck(source);
-        } catch (error) {
-            if (error instanceof PertCheck.Refused) throw new Unchecked(`the deck is refused: ${error.message}`);
-            throw error;
+    // Refuses a page that was made of another deck or another side file than those chosen with it.
+    async function compareGiven(details, source) {
+        const { deck, side } = source?.state ?? {};
+        if (given.deck !== null) {
+            const [mine, other] = [new TextEncoder().encode(deck ?? ""), await bytesOf(given.deck, MOST_PAGE * 2)];
+            const isSame = mine.length === other.length && mine.every((byte, at) => byte === other[at]);
+            demand(isSame, `the page was made of another deck than ${given.deck.name}`);
+            details.push([given.deck.name, "the deck that the page was made of"]);
+        }
+        if (given.side !== null) {
+            const other = new TextDecoder().decode(await bytesOf(given.side, MOST_PAGE));
+            demand(typeof side === "string", `the page was made without a side file, and ${given.side.name} was chosen with it`);
+            demand(PertSide.meaning(side) === PertSide.meaning(other), `the page was made of another side file than ${given.side.name}`);
+            details.push([given.side.name, "the side file that the page was made of"]);
         }
     }
 
-    function addDeck(result, deck, digest) {
-        const { fields } = deck.cards[0];
-        result.add("Project", `${deck.code}${fields[7] ? `, ${fields[7]}` : ""}: ${deck.events.length} events, ${deck.activities.length} activities`);
-        if (digest !== null) result.add("SHA-256 of the deck", digest);
-    }
-
-    function addCurve(result, curve) {
-        const at = (length) => `${length} at ${curve.cost(length)}`;
-        result.add("Lengths and costs", `${at(curve.longest)} to ${at(curve.shortest)}`);
-    }
-
-    async function checkFiles(result, isCurrent) {
+    async function checkFiles(isCurrent) {
         const bytes = await bytesOf(given.deck, MOST_PAGE * 2);
-        const deck = readDeck(bytes);
-        addDeck(result, deck, await digestOf(bytes));
-        const reader = new PertFigures.Reader(deck, { form: 1, rows: [] });
-        const answer = await check(deck, partsOfFile(given.certificate), reader, isCurrent);
-        if (answer === null) return;
-        const isRight = answer.startsWith("certified");
-        result.add("Certificate", explained(answer), isRight);
-        if (isRight) addCurve(result, reader.curve);
+        const deck = PertCheck.readDeck(bytes);
+        const digest = await digestOf(bytes);
+        const form = new PertCompactor();
+        const answer = await answerOf(deck, partsOfFile(given.certificate), isCurrent, (text) => form.take(text));
+        if (answer === null) return null;
+        if (!answer.startsWith("certified")) throw new Refusal(explained(answer));
+        let side = PertSide.implied(deck);
+        if (given.side !== null) side = PertSide.read(new TextDecoder().decode(await bytesOf(given.side, MOST_PAGE)), deck);
+        const dates = given.side === null ? "every day counts, since no side file was chosen" : "by the calendar of the side file";
+        const details = [["SHA-256 of the deck", digest], ["Dates", dates]];
+        return { answer, details, deck, side, plan: PertSchedule.open(form.data(), deck) };
     }
 
-    // Returns the data of an element of a report page.
-    function dataOf(page, id) {
-        const found = page.data.get(id) ?? [];
-        if (found.length !== 1) throw new Unchecked(`the page has ${found.length === 0 ? "no" : "more than one"} ${id}, so it cannot be checked`);
+    async function checkGiven() {
+        run += 1;
+        const own = run;
+        showChosen();
+        $("figures").hidden = true;
+        if (given.page === null && (given.deck === null || given.certificate === null)) {
+            say(given.deck === null ? "Now add the deck." : "Now add the certificate.", "", []);
+            return;
+        }
+        say("Checking\u2026", "", []);
         try {
-            return JSON.parse(found[0]);
-        } catch {
-            throw new Unchecked(`what the page has as ${id} is not JSON`);
+            const found = await (given.page === null ? checkFiles : checkPage)(() => own === run);
+            if (found === null || own !== run) return;
+            showFigures(found);
+            say(`${found.answer}: these are the figures of the data in the file`, "right", found.details);
+        } catch (error) {
+            if (own !== run) return;
+            const isReason = REASONS.some((kind) => error instanceof kind);
+            refuse(isReason ? error.message : `it cannot be read (${error.name})`);
+            if (!isReason) throw error; // a file that cannot be read any more, or a mistake in here
         }
-    }
-
-    async function checkPage(result, isCurrent) {
-        const text = new TextDecoder().decode(await bytesOf(given.page, MOST_PAGE));
-        const page = PertFigures.readPage(text);
-        const source = dataOf(page, "pert-deck");
-        if (typeof source?.text !== "string") throw new Unchecked("the page has no text of a deck");
-        const bytes = new TextEncoder().encode(source.text);
-        const deck = readDeck(bytes);
-        addDeck(result, deck, await digestOf(bytes));
-        if (given.deck !== null) await compareDeck(result, bytes);
-        const figures = dataOf(page, "pert-figures");
-        const reader = new PertFigures.Reader(deck, figures);
-        const answer = await check(deck, partsOfData(dataOf(page, "pert-certificate")), reader, isCurrent);
-        if (answer === null) return;
-        const isRight = answer.startsWith("certified");
-        result.add("Certificate", explained(answer), isRight);
-        if (!isRight) return;
-        addCurve(result, reader.curve);
-        compareFigures(result, reader.end(), figures.rows);
-        compareShown(result, page.shown, figures.rows);
-    }
-
-    async function compareDeck(result, bytes) {
-        const other = await bytesOf(given.deck, MOST_PAGE * 2);
-        const isSame = other.length === bytes.length && other.every((byte, at) => byte === bytes[at]);
-        const text = isSame ? "the page holds the same deck" : "the page holds another deck; that of remaining work or of tasks differs from the file that it was made of";
-        result.add(given.deck.name, text, isSame);
-    }
-
-    function compareFigures(result, answers, rows) {
-        let wrong = 0;
-        answers.forEach((answer, row) => {
-            if (answer === null) return;
-            wrong += 1;
-            result.differ(rows[row].slice(0, 3).filter((word) => word !== "").join(" "), rows[row][3], answer);
-        });
-        const text = wrong === 0 ? `all ${rows.length} agree with the certificate` : `${wrong} of ${rows.length} differ from the certificate`;
-        result.add("Listed figures", text, wrong === 0);
-    }
-
-    function compareShown(result, shown, rows) {
-        let wrong = 0;
-        for (const [name, text] of shown) {
-            const row = /^[0-9]{1,6}$/.test(name) ? rows[Number(name)] : undefined;
-            if (row !== undefined && PertFigures.shows(text, row[3])) continue;
-            wrong += 1;
-            const what = row === undefined ? `shown figure ${name}` : `shown: ${row.slice(0, 3).filter((word) => word !== "").join(" ")}`;
-            result.differ(what, text.trim().slice(0, 80), row === undefined ? "it is not in the list" : row[3]);
-        }
-        const text = wrong === 0 ? `all ${shown.length} that the page marks are the listed ones` : `${wrong} of ${shown.length} are not the listed ones`;
-        result.add("Shown figures", text, wrong === 0);
     }
 
     // ---- What the page shows
 
-    class Result {
-        constructor() {
-            this.isRight = true;
-            this.checked = 0;
-            this.details = [];
-            this.differences = [];
-        }
-
-        // Adds a line. `isRight` is left out if nothing was checked for it.
-        add(name, text, isRight) {
-            this.details.push([name, text, isRight]);
-            if (isRight !== undefined) this.checked += 1;
-            if (isRight === false) this.isRight = false;
-        }
-
-        differ(what, shown, right) {
-            this.differences.push([what, shown, right]);
-        }
-    }
-
     // Returns a text with escapes for characters that are not seen, or that turn the direction of the others.
     function plain(text) {
-        const unseen = /[\u0000-\u001f\u007f-\u009f\u200b-\u200f\u2028-\u202e\u2060-\u2069\ufeff]/g;
+        const unseen = /[\u0000-\u001f\u007f-\u009f\u00ad\u061c\u180e\u200b-\u200f\u2028-\u202e\u2060-\u206f\ufeff\ufff9-\ufffb]/g;
         return text.replace(unseen, (mark) => `\\u${mark.charCodeAt(0).toString(16).padStart(4, "0")}`);
     }
 
@@ -250,66 +264,130 @@
         return made;
     }
 
-    function show(verdict, className, details, differences) {
+    function refuse(text) {
+        $("figures").hidden = true;
+        for (const id of ["curve", "schedule"]) $(id).tBodies[0].replaceChildren();
+        say(`Refused, so nothing is shown: ${plain(text)}`, "wrong", []);
+    }
+
+    function say(verdict, className, details) {
         $("verdict").textContent = verdict;
         $("verdict").className = `verdict ${className}`;
         $("progress").hidden = true;
-        $("details").replaceChildren(
-            ...details.flatMap(([name, text, isRight]) => [element("dt", name), element("dd", text, isRight === false ? "wrong" : "")]),
-        );
-        $("differences").hidden = differences.length === 0;
-        const rows = differences.slice(0, MOST_SHOWN).map((words) => {
-            const row = document.createElement("tr");
-            row.append(...words.map((word) => element("td", word)));
-            return row;
-        });
-        if (differences.length > MOST_SHOWN) {
-            const row = document.createElement("tr");
-            row.append(element("td", `and ${differences.length - MOST_SHOWN} more`));
-            rows.push(row);
-        }
-        $("differences").querySelector("tbody").replaceChildren(...rows);
+        fill($("details"), details);
+    }
+
+    function fill(list, pairs) {
+        list.replaceChildren(...pairs.flatMap(([name, text]) => [element("dt", name), element("dd", text)]));
     }
 
     function showChosen() {
-        const names = { page: "Report page", deck: "Deck", certificate: "Certificate" };
+        const names = { page: "Report page", deck: "Deck", certificate: "Certificate", side: "Side file" };
         const chosen = Object.keys(names).filter((kind) => given[kind] !== null);
         $("chosen").replaceChildren(...chosen.map((kind) => element("li", `${names[kind]}: ${given[kind].name}`)));
     }
 
-    async function checkGiven() {
-        run += 1;
-        const own = run;
-        showChosen();
-        if (given.page === null && (given.deck === null || given.certificate === null)) {
-            show(given.deck === null ? "Now add the deck." : "Now add the certificate.", "", [], []);
-            return;
-        }
-        show("Checking…", "", [], []);
-        const result = new Result();
-        try {
-            await (given.page === null ? checkFiles : checkPage)(result, () => own === run);
-        } catch (error) {
-            if (own === run) showFailure(error, result);
-            return;
-        }
-        if (own !== run) return;
-        const isRight = result.isRight && result.checked > 0;
-        show(isRight ? "Consistent (checked here)" : "Not consistent", isRight ? "right" : "wrong", result.details, result.differences);
+    // Returns a day as `8 Apr 2024`, or a dash.
+    function dayText(day) {
+        if (day === null) return "\u2013";
+        const [year, month, number] = day.split("-").map(Number);
+        return `${number} ${MONTHS[month - 1]} ${year}`;
     }
 
-    function showFailure(error, result) {
-        if (error instanceof PertCertificate.DataError || error instanceof PertFigures.Refused) {
-            result.add("Page", error.message, false);
-            show("Not consistent", "wrong", result.details, result.differences);
-        } else {
-            const text = error instanceof Unchecked ? error.message : `it cannot be read (${error.name})`;
-            show(`Not checked: ${text}`, "wrong", result.details, result.differences);
+    function row(cells, texts) {
+        const made = document.createElement("tr");
+        cells.forEach((text, at) => {
+            const cell = element(at === 0 ? "th" : "td", text, at === 0 || texts.includes(at) ? "" : "number");
+            if (at === 0) cell.scope = "row";
+            made.append(cell);
+        });
+        return made;
+    }
+
+    function heads(table, names, texts) {
+        const cells = names.map((name, at) => {
+            const cell = element("th", name, at === 0 || texts.includes(at) ? "" : "number");
+            cell.scope = "col";
+            return cell;
+        });
+        table.tHead.rows[0].replaceChildren(...cells);
+    }
+
+    function showFigures({ deck, side, plan }) {
+        const { fields } = deck.cards[0];
+        $("project").textContent = plain(`${deck.code}${fields[7] ? `, ${fields[7]}` : ""}`);
+        fill($("facts"), factsOf(deck, side, plan));
+        showCurve(side, plan);
+        const number = $("number");
+        [number.min, number.max, number.value] = [plan.shortest, plan.longest, plan.longest].map(String);
+        $("number-name").textContent = `Length in ${side.unit}s`;
+        $("range").textContent = `from ${plan.shortest} to ${plan.longest}`;
+        number.oninput = () => showLength(side, plan, number.value);
+        showLength(side, plan, number.value);
+        $("figures").hidden = false;
+    }
+
+    function factsOf(deck, side, plan) {
+        const asOf = deck.cards.find(({ fields }) => fields[0] === "ASOF");
+        const facts = [["First day", dayText(side.start)], ["As of", dayText(asOf?.fields[1] ?? side.start)]];
+        facts.push(["Longest", endText(side, plan.longest)], ["Shortest", endText(side, plan.shortest)]);
+        if (plan.optimum !== null) facts.push(["Cheapest with the price of time", endText(side, plan.optimum)]);
+        facts.push(["Tasks", String(side.tasks.length)], ["Currency", side.currency || "none is named"]);
+        return facts;
+    }
+
+    function endText(side, length) {
+        return `${side.units(length)}, ends on ${dayText(side.endDay(length))}`;
+    }
+
+    function showCurve(side, plan) {
+        const hasTotal = plan.terms !== null;
+        heads($("curve"), ["Length", "Ends on", "Cost of the work", ...(hasTotal ? ["In all"] : []), `One ${side.unit} less`], [1]);
+        const rows = plan.breakpoints.map(({ length, cost, next }) => {
+            const cells = [side.units(length), dayText(side.endDay(length)), side.money(cost)];
+            if (hasTotal) cells.push(side.money(plan.total(length)));
+            return row([...cells, next === null ? "\u2013" : side.money(next)], [1]);
+        });
+        $("curve").tBodies[0].replaceChildren(...rows);
+    }
+
+    function showLength(side, plan, text) {
+        const isLength = /^[0-9]{1,18}$/.test(text) && BigInt(text) >= plan.shortest && BigInt(text) <= plan.longest;
+        if (!isLength) {
+            fill($("chosen-length"), [["Length", `none between ${plan.shortest} and ${plan.longest} is chosen`]]);
+            $("schedule").tBodies[0].replaceChildren();
+            return;
         }
+        try {
+            drawLength(side, plan.at(BigInt(text), side.tasks));
+        } catch (error) {
+            refuse(error.message);
+        }
+    }
+
+    function drawLength(side, { length, cost, next, total, tasks }) {
+        const facts = [["Length", side.units(length)], ["Ends on", dayText(side.endDay(length))], ["Cost of the work", side.money(cost)]];
+        if (total !== null) facts.push(["In all, with the price of time", side.money(total)]);
+        facts.push([`One ${side.unit} less costs`, next === null ? "no length is shorter" : side.money(next)]);
+        fill($("chosen-length"), facts);
+        $("schedule").caption.textContent = `What is left of each task at ${side.units(length)}, with nothing begun later than it has to`;
+        heads($("schedule"), ["Task", "Start", "Finish", `${side.unit[0].toUpperCase()}${side.unit.slice(1)}s`, "Shortened by", "Costs more"], [1, 2]);
+        const rows = tasks.slice(0, MOST_ROWS).map((task, at) => scheduleRow(side, side.tasks[at], task));
+        if (tasks.length > MOST_ROWS) rows.push(row([`and ${tasks.length - MOST_ROWS} more tasks`], []));
+        $("schedule").tBodies[0].replaceChildren(...rows);
+    }
+
+    function scheduleRow(side, { name, outline }, { start, finish, duration, shortened, extra }) {
+        const first = duration > 0n ? side.beginDay(start) : side.endDay(start);
+        const last = duration > 0n ? side.endDay(finish) : first;
+        const made = row([name, dayText(first), dayText(last), String(duration), String(shortened), side.money(extra)], [1, 2]);
+        if (outline.length > 0) made.cells[0].append(element("small", outline.join(" \u203a ")));
+        return made;
     }
 
     // ---- Choosing and dropping
 
+    $("choose").addEventListener("submit", (event) => event.preventDefault());
     $("files").addEventListener("change", (event) => {
         const files = [...event.target.files];
         event.target.value = "";

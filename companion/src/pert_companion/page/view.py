@@ -1,17 +1,15 @@
 """What templates show: plain records of texts and places, without a decision left to make."""
 
-from dataclasses import dataclass, field
+from dataclasses import dataclass
 
-from pert_companion.page.data import Figures
-from pert_companion.page.words import MINUS, Words, number_text
+from pert_companion.page.words import MINUS
 
 
 @dataclass(frozen=True)
 class Piece:
-    """A part of a text. Parts with a figure are digits that the certificate gives."""
+    """A part of a text."""
 
     text: str
-    figure: int | None = None
     is_title: bool = False
     is_strong: bool = False
 
@@ -35,31 +33,6 @@ def title(text: str) -> Line:
     return (Piece(text, is_title=True),)
 
 
-@dataclass
-class FigureBook:
-    """The figures of the page that follow from the certificate, and how they are written."""
-
-    words: Words
-    figures: Figures = field(default_factory=Figures)
-
-    def money(self, what: str, value: int, length: int | None = None, code: str = "") -> Line:
-        """Returns an amount that is a figure of the certificate."""
-        row = self.figures.add(what, value, length, code)
-        number = Piece(self.words.digits(value), row)
-        if not self.words.currency:
-            return (number,)
-        return (number, Piece(f"\u00a0{self.words.currency}"))
-
-    def number(self, what: str, value: int, length: int | None = None, code: str = "") -> Line:
-        """Returns a number that is a figure of the certificate."""
-        return (Piece(number_text(value), self.figures.add(what, value, length, code)),)
-
-    def units(self, what: str, value: int, length: int | None = None, code: str = "") -> Line:
-        """Returns a length or duration with its unit."""
-        word = self.words.unit if abs(value) == 1 else f"{self.words.unit}s"
-        return (*self.number(what, value, length, code), Piece(f"\u00a0{word}"))
-
-
 @dataclass(frozen=True)
 class Tile:
     """A key figure with its name and a note."""
@@ -79,6 +52,8 @@ class Row:
     cells: tuple[Line, ...]
     level: int = 0
     is_sum: bool = False
+    key: str = ""
+    """The id of a row that the script draws."""
 
 
 @dataclass(frozen=True)
@@ -182,6 +157,8 @@ class TaskRow:
     is_milestone: bool = False
     flag: str = ""
     """What is wrong with it: `should have begun 3 Mar 2024`."""
+    is_other: bool = False
+    """Whether it is shown only if all tasks are, or if it becomes critical."""
 
 
 @dataclass(frozen=True)
@@ -195,3 +172,20 @@ class Section:
 def signed(text: str) -> str:
     """Returns a text of a number with its sign."""
     return text if text.startswith(MINUS) or text.strip("0.,") == "" else f"+{text}"
+
+
+@dataclass(frozen=True)
+class Alert:
+    """Something to look at first, and the section that has more of it."""
+
+    key: str
+    text: Line
+
+
+@dataclass(frozen=True)
+class Word:
+    """A term of the page with its definition."""
+
+    key: str
+    name: str
+    meaning: str

@@ -3,11 +3,24 @@
 from dataclasses import dataclass
 from datetime import date
 
-from pert_companion.calendar import Calendar
-from pert_companion.cli.common import one_line
-from pert_companion.sidefile import SideFile
+from pert_companion.model.calendar import works_daily
+from pert_companion.model.lines import one_line
+from pert_companion.model.sidefile import SideFile
 
-MONTHS = ("Jan", "Feb", "Mar", "Apr", "May", "Jun", "Jul", "Aug", "Sep", "Oct", "Nov", "Dec")
+MONTHS = (
+    "Jan",
+    "Feb",
+    "Mar",
+    "Apr",
+    "May",
+    "Jun",
+    "Jul",
+    "Aug",
+    "Sep",
+    "Oct",
+    "Nov",
+    "Dec",
+)
 MINUS = "\u2212"
 
 
@@ -56,7 +69,7 @@ class Words:
 
     def money(self, amount: int) -> str:
         """Returns an amount with its currency."""
-        return f"{self.digits(amount)} {self.currency}".rstrip()
+        return f"{self.digits(amount)}\u00a0{self.currency}".rstrip()
 
     def units(self, count: int) -> str:
         """Returns a length: `30 days`."""
@@ -78,8 +91,3 @@ def _unit_word(side: SideFile) -> str:
     if side.unit_minutes in (calendar.week_minutes, 7 * calendar.day_minutes):
         return "week"
     return "hour" if side.unit_minutes == 60 else "unit"
-
-
-def works_daily(calendar: Calendar) -> bool:
-    """Says whether every day of the calendar is worked."""
-    return all(calendar.week) and not any(not e.shifts for e in calendar.exceptions)

@@ -1,35 +1,50 @@
-"""The page of several projects as one HTML file, and the same rows as CSV."""
+"""The page of several projects as one HTML file, the most urgent project first."""
 
-import csv
-import io
 import os
 from collections.abc import Sequence
 from dataclasses import dataclass
 from datetime import date
-from importlib import resources
+from fractions import Fraction
 from pathlib import Path
 from urllib.parse import quote
-from itertools import chain
 
-from jinja2 import Environment, FunctionLoader, StrictUndefined
-from markupsafe import Markup
+from pert_companion.model.figures import day_words
+from pert_companion.page.html import html_file
+from pert_companion.page.words import Words, day_text, plural, shown
+from pert_companion.portfolio.row import Row
+from pert_companion.portfolio.shared import shared_of
+from pert_companion.portfolio.sums import sums_of
+from pert_companion.portfolio.urgency import (
+    Alarm,
+    Freshness,
+    alarms,
+    by_urgency,
+    freshness,
+)
 
-from pert_companion import VERSION
-from pert_companion.page.verify import policy
-from pert_companion.page.words import Words, day_text, number_text, plural, shown
-from pert_companion.portfolio.row import Row, is_stale
-from pert_companion.writers.formula import plain_text
+LEAST_SCALE = 10**6
+"""Amounts of all decks are sorted by counts of this part of their currency."""
+
+
+@dataclass(frozen=True)
+class Head:
+    """The heading of a column, and whether its cells are numbers."""
+
+    name: str
+    is_number: bool = False
+
 
 HEADS = (
-    "Project",
-    "As of",
-    "Forecast end",
-    "Contract date",
-    "Late",
-    "Moved",
-    "Overrun",
-    "Next unit costs",
-    "Next milestone",
+    Head("Project"),
+    Head("Late", True),
+    Head("Overrun", True),
+    Head("Forecast end"),
+    Head("80 % sure by"),
+    Head("Held to"),
+    Head("Moved", True),
+    Head("One day less costs", True),
+    Head("Next milestone"),
+    Head("As of"),
 )
 
 
@@ -44,6 +59,9 @@ class Cell:
     is_number: bool = False
 
 
+NOTHING, NO_NUMBER = Cell("\u2013", ""), Cell("\u2013", "", is_number=True)
+
+
 @dataclass(frozen=True)
 class Line:
     """A row of the page: the project with its link, and its cells or its fault."""
@@ -53,16 +71,17 @@ class Line:
     link: str
     cells: tuple[Cell, ...]
     fault: str
-    note: str
+    alarms: str
+    """The words that filters find it by."""
 
 
 @dataclass(frozen=True)
-class Shared:
-    """A resource that several projects use: its weeks, and amounts by project."""
+class Filter:
+    """A button that shows the projects with one alarm."""
 
-    title: str
-    weeks: tuple[str, ...]
-    rows: tuple[tuple[str, tuple[str, ...]], ...]
+    word: str
+    text: str
+    count: int
 
 
 def render(rows: Sequence[Row], output: Path, stale_days: int) -> bytes:
@@ -71,84 +90,111 @@ def render(rows: Sequence[Row], output: Path, stale_days: int) -> bytes:
     A project links the page next to its deck that has the deck's name, if there is one. An as-of
     date more than `stale_days` days before the newest one is flagged.
     """
-    newest = max((row.as_of for row in rows), default="")
-    style, script = _part("report.css") + _part("portfolio.css"), _part("portfolio.js")
-    environment = Environment(
-        loader=FunctionLoader(lambda name: _part(f"templates/{name}")),
-        autoescape=True,
-        undefined=StrictUndefined,
-        trim_blocks=True,
-        lstrip_blocks=True,
-    )
-    text = environment.get_template("portfolio.html").render(
-        lines=[line_of(row, output, newest, stale_days) for row in rows],
+    fresh = freshness(rows, stale_days)
+    newest = fresh.newest
+    return html_file(
+        "portfolio.html",
+        ["report.css", "portfolio.css"],
+        ["portfolio.js"],
+        lines=[line_of(row, output, fresh) for row in by_urgency(rows, fresh)],
         heads=HEADS,
+        filters=filters_of(rows, fresh),
+        sums=sums_of(rows),
         shared=shared_of(rows),
         newest=day_text(date.fromisoformat(newest)) if newest else "",
-        stale=sum(1 for row in rows if is_stale(row, newest, stale_days)),
-        faults=sum(1 for row in rows if row.fault),
         stale_days=stale_days,
-        version=VERSION,
-        policy=policy([script], [style]),
-        style=Markup(style),
-        script=Markup(script),
     )
-    return text.encode()
 
 
-def _part(name: str) -> str:
-    return resources.files("pert_companion.page").joinpath(name).read_text("utf-8")
+def filters_of(rows: Sequence[Row], fresh: Freshness) -> list[Filter]:
+    """Returns a filter for each alarm that there is, the most urgent first."""
+    found = [alarm for row in rows for alarm in alarms(row, fresh)]
+    return [
+        Filter(alarm.name.lower(), alarm.value, found.count(alarm))
+        for alarm in Alarm
+        if alarm in found
+    ]
 
 
-def line_of(row: Row, output: Path, newest: str, stale_days: int) -> Line:
+def line_of(row: Row, output: Path, fresh: Freshness) -> Line:
     """Returns the line of a row."""
     name = shown(row.title or row.code or Path(row.path).stem)
     path = shown(row.path)
+    found = alarms(row, fresh)
+    words = " ".join(alarm.name.lower() for alarm in found)
     if row.fault:
-        return Line(name, path, "", (), shown(row.fault), "")
-    words = Words(row.unit, shown(row.currency), row.money_scale)
-    stale = f"more than {stale_days} days old" if is_stale(row, newest, stale_days) else ""
+        return Line(name, path, "", (), shown(row.fault), words)
+    money = Words("", shown(row.currency), row.money_scale)
     cells = (
-        _day_cell(row.as_of, stale, "bad" if stale else ""),
+        _late_cell(row),
+        _money_cell(row.overrun, money, Alarm.OVERRUN in found),
         _day_cell(row.forecast),
-        _day_cell(row.contract, "" if row.is_binding else row.contract_kind.partition(";")[0]),
-        _moved_cell(row.late, row.unit, "late", "early", "on time"),
-        _moved_cell(row.moved, row.unit, "later", "earlier", "not moved"),
-        _money_cell(row.overrun, words, row.overrun is not None and row.overrun > 0),
-        _money_cell(row.next_price, words, False),
+        _day_cell(row.likely),
+        _day_cell(row.contract, row.contract_name),
+        _moved_cell(row),
+        _money_cell(row.day_price, money, False),
         _milestone_cell(row),
+        _as_of_cell(row, fresh),
     )
-    return Line(name, path, link_of(row, output), cells, "", shown(row.note))
+    return Line(name, path, link_of(row, output), cells, "", words)
 
 
-def _day_cell(day: str, note: str = "", tone: str = "") -> Cell:
-    if not day:
-        return Cell("\u2013", "", note, tone)
-    return Cell(day_text(date.fromisoformat(day)), day, note, tone)
+def _late_cell(row: Row) -> Cell:
+    """Returns how late a project is, with its missed deadlines."""
+    tone = "bad" if row.missed or (row.is_binding and (row.late or 0) > 0) else ""
+    return _days_cell(row.late, row, ("late", "early", "on time"), _missed_note(row), tone)
 
 
-def _moved_cell(units: int | None, unit: str, after: str, before: str, none: str) -> Cell:
-    """Returns a cell of units with a direction, such as `3 days late`."""
-    if units is None:
-        return Cell("\u2013", "", is_number=True)
-    if units == 0:
-        return Cell(none, "0", is_number=True)
-    word = after if units > 0 else before
-    tone = "bad" if units > 0 else ""
-    return Cell(f"{plural(abs(units), unit)} {word}", str(units), "", tone, True)
+def _missed_note(row: Row) -> str:
+    if not row.missed:
+        return ""
+    more = f" and {row.missed - 1} more" if row.missed > 1 else ""
+    return f"{plural(row.missed, 'deadline')} missed: {shown(row.missed_first)}{more}"
+
+
+def _moved_cell(row: Row) -> Cell:
+    tone = "bad" if (row.moved or 0) > 0 else ""
+    return _days_cell(row.moved, row, ("later", "earlier", "not moved"), "", tone)
+
+
+def _days_cell(
+    minutes: int | None, row: Row, words: tuple[str, str, str], note: str, tone: str
+) -> Cell:
+    """Returns a cell of working minutes with a word for more, for less and for none of them."""
+    if minutes is None:
+        return Cell("\u2013", "", note, tone, True)
+    after, before, none = words
+    text = none
+    if minutes:
+        text = f"{day_words(abs(minutes), row.day_minutes)} {after if minutes > 0 else before}"
+    return Cell(text, str(round(Fraction(minutes * 100, row.day_minutes))), note, tone, True)
 
 
 def _money_cell(amount: int | None, words: Words, is_bad: bool) -> Cell:
     if amount is None:
-        return Cell("\u2013", "", is_number=True)
-    return Cell(words.money(amount), str(amount), "", "bad" if is_bad else "", True)
+        return NO_NUMBER
+    key = amount * LEAST_SCALE // words.money_scale
+    return Cell(words.money(amount), str(key), "", "bad" if is_bad else "", True)
+
+
+def _day_cell(day: str, note: str = "", tone: str = "") -> Cell:
+    if not day:
+        return NOTHING
+    return Cell(day_text(date.fromisoformat(day)), day, note, tone)
+
+
+def _as_of_cell(row: Row, fresh: Freshness) -> Cell:
+    """Returns the as-of date, with how old it is and what the import left out."""
+    is_stale = fresh.is_stale(row)
+    age = f"more than {fresh.days} days old" if is_stale else ""
+    note = "; ".join(text for text in (age, shown(row.note)) if text)
+    return _day_cell(row.as_of, note, "bad" if is_stale else "")
 
 
 def _milestone_cell(row: Row) -> Cell:
     if row.milestone is None:
-        return Cell("\u2013", "")
-    day = day_text(date.fromisoformat(row.milestone.day))
-    return Cell(day, row.milestone.day, shown(row.milestone.name))
+        return NOTHING
+    return _day_cell(row.milestone.day, shown(row.milestone.name))
 
 
 def link_of(row: Row, output: Path) -> str:
@@ -156,63 +202,4 @@ def link_of(row: Row, output: Path) -> str:
     page = Path(row.path).with_suffix(".html")
     if not page.is_file() or page.resolve() == output.resolve():
         return ""
-    return quote(os.path.relpath(page.resolve(), output.resolve().parent))
-
-
-def shared_of(rows: Sequence[Row]) -> list[Shared]:
-    """Returns the resources that more than one project uses, matched by title, by title."""
-    amounts: dict[str, dict[int, dict[str, int]]] = {}
-    for number, row in enumerate(rows):
-        for load in row.loads:
-            weeks = amounts.setdefault(load.title, {}).setdefault(number, {})
-            weeks[load.week] = weeks.get(load.week, 0) + load.amount
-    return [
-        _shared(rows, title, users) for title, users in sorted(amounts.items()) if len(users) > 1
-    ]
-
-
-def _used_in(week: str, users: dict[int, dict[str, int]]) -> int:
-    """Returns what all projects use in a week."""
-    return sum(by_week.get(week, 0) for by_week in users.values())
-
-
-def _shared(rows: Sequence[Row], title: str, users: dict[int, dict[str, int]]) -> Shared:
-    weeks = sorted(set(chain.from_iterable(users.values())))
-    lines = []
-    for number, by_week in users.items():
-        name = shown(rows[number].title or rows[number].code)
-        lines.append((name, tuple(number_text(by_week.get(week, 0)) for week in weeks)))
-    lines.append(("All", tuple(number_text(_used_in(week, users)) for week in weeks)))
-    return Shared(shown(title), tuple(weeks), tuple(lines))
-
-
-def table_csv(rows: Sequence[Row], stale_days: int) -> bytes:
-    """Returns the rows as CSV in UTF-8, with amounts in units of money of each deck."""
-    newest = max((row.as_of for row in rows), default="")
-    text = io.StringIO(newline="")
-    writer = csv.writer(text, lineterminator="\n")
-    names: tuple[str, ...] = (
-        "path",
-        "code",
-        "title",
-        "as_of",
-        "forecast",
-        "contract",
-        "unit",
-        "late",
-        "moved",
-    )
-    names += ("latest", "budget", "overrun", "next_price", "currency", "money_scale", "fault")
-    writer.writerow((*names, "milestone", "milestone_day", "stale"))
-    for row in rows:
-        cells = [_csv_text(getattr(row, name)) for name in names]
-        mile = row.milestone
-        cells += ["", ""] if mile is None else [plain_text(shown(mile.name)), mile.day]
-        writer.writerow((*cells, "yes" if is_stale(row, newest, stale_days) else ""))
-    return text.getvalue().encode()
-
-
-def _csv_text(value: object) -> str:
-    if value is None:
-        return ""
-    return plain_text(shown(value)) if isinstance(value, str) else str(value)
+    return quote(os.fsencode(os.path.relpath(page.resolve(), output.resolve().parent)))

@@ -6,15 +6,21 @@ from datetime import date, datetime, timedelta
 from fractions import Fraction
 from pathlib import Path
 
-from pert_companion import results
-from pert_companion.errors import CompanionError
-from pert_companion.page.clock import Clock
-from pert_companion.page.gathering import Status, contract_of, planned_tasks, status_of
+from pert_companion.analysis.contract import PLANNED_END, contract_of
+from pert_companion.analysis.scheduling import TaskDates, normal_dates
+from pert_companion.analysis.sureness import sureness
+from pert_companion.model.amounts import measure_of
+from pert_companion.model.clock import Clock
+from pert_companion.model.errors import CompanionError
+from pert_companion.model.losses import accepted_text
+from pert_companion.model.sidefile import side_path
+from pert_companion.page.gathering import project_amounts
 from pert_companion.page.words import words_of
-from pert_companion.programs import Programs
-from pert_companion.remaining import State
-from pert_companion.scheduling import normal_tasks
-from pert_companion.sidefile import side_path
+from pert_companion.programs.client import Programs
+from pert_companion.programs.results import cost_at
+from pert_companion.state.project import ProjectState, open_state
+from pert_companion.state.remaining import State
+from pert_companion.state.work import Work
 
 
 @dataclass(frozen=True)
@@ -43,27 +49,41 @@ class Row:
     code: str = ""
     title: str = ""
     as_of: str = ""
-    unit: str = ""
+    day_minutes: int = 1
+    """The working minutes of a planner's day."""
     currency: str = ""
     money_scale: int = 1
     forecast: str = ""
+    likely: str = ""
+    """P80: the day by which four in five simulated runs end; empty if no estimates differ."""
     contract: str = ""
-    contract_kind: str = ""
-    is_binding: bool = False
+    """The date that the project is held to."""
+    contract_name: str = ""
+    """What it is: `contract date`, `target date` or `planned end`."""
     late: int | None = None
-    """Units of the project between contract and forecast; negative if it is early."""
+    """Working minutes from that date to the forecast; negative if it is early."""
+    missed: int = 0
+    """Tasks that are forecast to end after their deadline."""
+    missed_first: str = ""
+    """The first of them in plan order."""
     previous_as_of: str = ""
     moved: int | None = None
-    """Units by which the forecast moved since the previous deck; None without one."""
+    """Working minutes by which the forecast moved since the deck before; None without one."""
     latest: int | None = None
     budget: int | None = None
     overrun: int | None = None
-    next_price: int | None = None
-    """What one unit less than the forecast costs; None if nothing can be shortened."""
+    day_price: int | None = None
+    """What one day less than the forecast costs; None if it cannot be shortened by one."""
     milestone: Milestone | None = None
     loads: tuple[WeekLoad, ...] = ()
     note: str = ""
+    """What the import left out, as the user accepted it."""
     fault: str = ""
+
+    @property
+    def is_binding(self) -> bool:
+        """Says whether the deck has a date that it is held to; else it is the end of its plan."""
+        return self.contract_name not in ("", PLANNED_END)
 
 
 def row_of(programs: Programs, path: Path, previous: Path | None, name: str) -> Row:
@@ -87,86 +107,138 @@ def _unplaced(text: str, path: Path, name: str) -> str:
 
 
 def _row(programs: Programs, path: Path, previous: Path | None, name: str) -> Row:
-    status = status_of(programs, path)
-    plan, clock = status.plan, status.clock
-    _, planned_end = planned_tasks(programs, plan, plan)
-    contract = contract_of(plan, planned_end)
-    _, slope = results.cost_at(status.curve, status.longest)
-    words = words_of(plan.side, None)
-    row = Row(
-        name,
-        code=plan.deck.project.code,
-        title=plan.deck.project.title,
-        as_of=plan.deck.as_of_day.isoformat(),
-        unit=words.unit,
-        currency=words.currency,
-        money_scale=words.money_scale,
-        forecast=_day(status.forecast),
-        contract="" if contract is None else contract.day.isoformat(),
-        contract_kind="" if contract is None else contract.kind,
-        is_binding=contract is not None and contract.is_binding,
-        late=None if contract is None else status.longest - clock.units_until(contract.day),
-        next_price=slope,
-        milestone=_next_milestone(programs, status),
-        loads=week_loads(programs, status),
-        note=_unplaced(plan.note, path, name),
-    )
-    top = status.top
+    state = open_state(path, programs)
+    row = _dated(state, name)
+    top = project_amounts(state)
     if top is not None:
         row = replace(row, latest=top.latest, budget=top.budget, overrun=top.overrun)
-    return row if previous is None else _moved(row, status, status_of(programs, previous))
+    return row if previous is None else _moved(row, state, open_state(previous, programs))
+
+
+def _dated(state: ProjectState, name: str) -> Row:
+    """Returns the row without amounts of accounts, and without what moved."""
+    rest = state.rest
+    words = words_of(state.side, None)
+    tasks = normal_dates(rest)
+    missed = _missed(state, tasks)
+    row = Row(
+        name,
+        code=state.deck.project.code,
+        title=state.deck.project.title,
+        as_of=state.as_of.isoformat(),
+        day_minutes=state.side.calendar.day_minutes,
+        currency=words.currency,
+        money_scale=words.money_scale,
+        forecast=_day(rest.end),
+        likely=_likely(rest),
+        missed=len(missed),
+        missed_first=missed[0] if missed else "",
+        day_price=_day_price(rest),
+        milestone=_next_milestone(state, tasks),
+        loads=week_loads(rest),
+        note=accepted_note(state),
+    )
+    contract = contract_of(state, state.plan.end)
+    if contract is None:
+        return row
+    late = rest.longest - rest.clock.units_until(contract.day)
+    return replace(
+        row,
+        contract=contract.day.isoformat(),
+        contract_name=contract.name,
+        late=late * state.side.unit_minutes,
+    )
+
+
+def _likely(work: Work) -> str:
+    """Returns the day by which the work ends with a chance of four in five, if that is known."""
+    found = sureness(work)
+    return "" if found is None else _day(found.likely_end)
+
+
+def _day_price(work: Work) -> int | None:
+    """Returns what one day less costs, or one unit if units are longer."""
+    length = work.longest - measure_of(work.side).step
+    if length < work.shortest:
+        return None
+    return cost_at(work.curve, length)[0] - work.curve[0].cost
+
+
+def _finished(state: ProjectState) -> set[str]:
+    """Returns the codes of the cards of finished work."""
+    return {left.code for left in state.remaining.left if left.state is State.FINISHED}
+
+
+def _missed(state: ProjectState, tasks: Sequence[TaskDates]) -> list[str]:
+    """Returns the names of unfinished tasks that end after their deadline, in plan order."""
+    done = _finished(state)
+    days = {task.code: task.last_day for task in tasks}
+    return [
+        task.name or task.code
+        for task in state.rest.side.tasks
+        if task.deadline is not None
+        and not done.issuperset(task.parts)
+        and days[task.code] > task.deadline
+    ]
+
+
+def accepted_note(state: ProjectState) -> str:
+    """Returns what the import left out, as the user accepted it, or an empty text."""
+    accepted = state.side.accepted
+    return f"not carried over, as accepted: {accepted_text(accepted)}" if accepted else ""
 
 
 def _day(day: date | None) -> str:
     return "" if day is None else day.isoformat()
 
 
-def _moved(row: Row, status: Status, before: Status) -> Row:
+def _moved(row: Row, state: ProjectState, before: ProjectState) -> Row:
     """Returns the row with the movement of the forecast since the deck before."""
-    now, then = status.forecast, before.forecast
+    now, then = state.rest.end, before.rest.end
     moved = None
     if now is not None and then is not None:
-        moved = before.clock.units_until(now) - before.clock.units_until(then)
-    return replace(row, previous_as_of=before.plan.deck.as_of_day.isoformat(), moved=moved)
+        clock = before.rest.clock
+        units = clock.units_until(now) - clock.units_until(then)
+        days = Fraction(units * before.side.unit_minutes, before.side.calendar.day_minutes)
+        moved = round(days * row.day_minutes)
+    return replace(row, previous_as_of=before.as_of.isoformat(), moved=moved)
 
 
-def _next_milestone(programs: Programs, status: Status) -> Milestone | None:
+def _next_milestone(state: ProjectState, tasks: Sequence[TaskDates]) -> Milestone | None:
     """Returns the first milestone that is not reached, in the order of days and of the plan."""
-    done = set()
-    if status.rest is not None:
-        done = {left.code for left in status.rest.left if left.state is State.FINISHED}
-    tasks = normal_tasks(programs, status.deck, status.side)
+    done = _finished(state)
     waiting = [task for task in tasks if task.is_milestone and task.code not in done]
     if not waiting:
         return None
     first = min(waiting, key=lambda task: task.finish)
-    return Milestone(first.name or first.code, first.finish.date().isoformat())
+    names = {task.code: task.name for task in state.side.tasks}
+    return Milestone(names[first.code] or first.code, first.last_day.isoformat())
 
 
-def week_loads(programs: Programs, status: Status) -> tuple[WeekLoad, ...]:
+def week_loads(work: Work) -> tuple[WeekLoad, ...]:
     """Returns what the work that is left loads each resource with, by calendar week.
 
     An amount is spread evenly over the working time of its activity at the normal duration, from
     its earliest start on, as `pert load` does; an activity without length counts where it is.
-    Amounts are rounded down once, at the end of the sum of a week.
+    Amounts are rounded down once, at the end of the sum of a week; a week without one is left out.
     """
-    network = status.network
+    network = work.network
     if not network.loads:
         return ()
-    point = programs.normal(network)
+    point = work.normal
     begins = {card.code: point.events[card.begins] for card in network.activities}
     sums: dict[tuple[str, str], Fraction] = {}
     for load in network.loads:
         first = begins[load.activity]
         last = first + point.durations[load.activity]
-        for week, share in _shares(status.clock, first, last):
+        for week, share in _shares(work.clock, first, last):
             key = (load.resource, week)
             sums[key] = sums.get(key, Fraction(0)) + share * load.quantity
     titles = {card.code: card.title or card.code for card in network.resources}
     return tuple(
         WeekLoad(resource, titles[resource], week, int(amount))
         for (resource, week), amount in sorted(sums.items())
-        if amount > 0
+        if amount >= 1
     )
 
 
@@ -193,10 +265,3 @@ def week_name(day: date) -> str:
     """Returns the calendar week of a day by ISO 8601: `2026-W40`."""
     year, week, _ = day.isocalendar()
     return f"{year}-W{week:02}"
-
-
-def is_stale(row: Row, newest: str, days: int) -> bool:
-    """Says whether the as-of date of a row is more than `days` days before the newest one."""
-    if not row.as_of or not newest:
-        return False
-    return date.fromisoformat(newest) - date.fromisoformat(row.as_of) > timedelta(days=days)

@@ -1,21 +1,24 @@
 """Rows as JSON: in the cache, and between the hosts of a large portfolio.
 
-What is read is checked: an unknown key, a wrong type or a wrong version is no row.
+What is read is checked: an unknown key, a wrong type, a wrong version, a value that no deck has, or
+a row of another deck is no row.
 """
 
 import json
+import os
 from dataclasses import asdict, fields
 from hashlib import sha256
 from pathlib import Path
 from typing import Any, get_args
 
 from pert_companion import VERSION
-from pert_companion.output import write_whole
+from pert_companion.model.output import write_whole
+from pert_companion.model.sidefile import side_path
+from pert_companion.portfolio.plausible import is_plausible
 from pert_companion.portfolio.row import Milestone, Row, WeekLoad
-from pert_companion.programs import Programs
-from pert_companion.sidefile import side_path
+from pert_companion.programs.client import Programs
 
-FORM = 1
+FORM = 3
 """The form of what is stored; another one is not read."""
 MOST_BYTES = 16 * 1024 * 1024
 
@@ -25,15 +28,16 @@ def row_text(row: Row) -> str:
     return json.dumps({"form": FORM, **asdict(row)}, ensure_ascii=True, sort_keys=True)
 
 
-def row_from(text: str) -> Row | None:
-    """Returns the row of a text of `row_text`, or None if it is none."""
+def row_from(text: str, name: str) -> Row | None:
+    """Returns the row of a text of `row_text`, or None if it is none of the deck of this name."""
     try:
         found = json.loads(text)
         if not isinstance(found, dict) or found.pop("form", None) != FORM:
             return None
-        return _checked(found)
+        row = _checked(found)
     except (ValueError, TypeError, KeyError, RecursionError):
         return None
+    return row if row.path == name and is_plausible(row) else None
 
 
 def _checked(found: dict[str, Any]) -> Row:
@@ -77,21 +81,22 @@ class Cache:
     def key(self, path: Path, previous: Path | None, name: str) -> str:
         """Returns the checksum of a deck, its side file, the deck before, and the programs."""
         digest = self.start.copy()
-        digest.update(f"{len(name.encode())} {name}".encode())
+        named = os.fsencode(name)
+        digest.update(b"%d %b" % (len(named), named))
         for deck in (path, previous):
             for part in (None, None) if deck is None else (deck, side_path(deck)):
                 _add(digest, part)
         return digest.hexdigest()
 
-    def get(self, key: str) -> Row | None:
-        """Returns the row that is kept under a key, or None."""
+    def get(self, key: str, name: str) -> Row | None:
+        """Returns the row that is kept under a key for the deck of a name, or None."""
         if self.folder is None:
             return None
         path = self.folder / f"{key}.json"
         try:
             if path.stat().st_size > MOST_BYTES:
                 return None
-            return row_from(path.read_text("utf-8"))
+            return row_from(path.read_text("utf-8"), name)
         except (OSError, UnicodeDecodeError):
             return None
 

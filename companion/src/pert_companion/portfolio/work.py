@@ -4,57 +4,49 @@ import base64
 import json
 import os
 import signal
-import subprocess
 import sys
 import tempfile
 from collections.abc import Callable, Iterable, Iterator, Sequence
-from concurrent.futures import ProcessPoolExecutor, as_completed
-from dataclasses import dataclass
+from concurrent.futures import Future, ProcessPoolExecutor, as_completed
+from concurrent.futures.process import BrokenProcessPool
 from multiprocessing import active_children
 from pathlib import Path
+from threading import Thread
 from types import FrameType
 
-from pert_companion.errors import CompanionError, UsageError
+from pert_companion.model.errors import UsageError
+from pert_companion.model.sidefile import side_path
+from pert_companion.portfolio.hosts import Hosts
+from pert_companion.portfolio.job import Job
 from pert_companion.portfolio.row import Row, row_of
-from pert_companion.portfolio.stored import Cache, row_from, row_text
-from pert_companion.programs import Programs
-from pert_companion.sidefile import side_path
+from pert_companion.portfolio.stored import Cache, row_text
+from pert_companion.programs.children import end_children
+from pert_companion.programs.client import Programs
 
-TOGETHER = 4
-"""The decks that go to a host in one connection."""
+AT_ONCE = 16
+"""Decks that are read one by one when a process has crashed, to find the one that did it."""
+
+Answers = Iterator[tuple[int, Row]]
 
 Progress = Callable[[int, int, str], None]
 """Gets how many of how many decks are done, and the name of the last."""
 
 
-@dataclass(frozen=True)
-class Job:
-    """A deck to read: its file, that of the report before, and what the page calls it."""
-
-    path: Path
-    previous: Path | None
-    name: str
-
-
-@dataclass(frozen=True)
-class Hosts:
-    """The other hosts: GNU parallel's file of logins, and the command that runs there."""
-
-    logins: Path
-    command: str
-
-
 def rows_of(
-    programs: Programs, jobs: Sequence[Job], cache: Cache, hosts: Hosts | None, progress: Progress
+    programs: Programs,
+    jobs: Sequence[Job],
+    cache: Cache,
+    hosts: Hosts | None,
+    progress: Progress,
 ) -> list[Row]:
     """Returns the row of each deck, in order. Rows with faults are not kept in the cache."""
     keys = [cache.key(job.path, job.previous, job.name) for job in jobs]
-    rows = {number: cache.get(key) for number, key in enumerate(keys)}
+    rows = {number: cache.get(key, jobs[number].name) for number, key in enumerate(keys)}
     wanted = [number for number, row in rows.items() if row is None]
     done = len(jobs) - len(wanted)
     progress(done, len(jobs), "")
     chosen = [(number, jobs[number]) for number in wanted]
-    made = _here(programs, chosen) if hosts is None else _there(hosts, chosen)
+    made = _here(programs, chosen) if hosts is None else hosts.rows(chosen)
     for number, row in made:
         rows[number] = row
         if not row.fault:
@@ -71,19 +63,55 @@ def _answered(job: Job, row: Row | None) -> Row:
     return row
 
 
-def _here(programs: Programs, jobs: Sequence[tuple[int, Job]]) -> Iterator[tuple[int, Row]]:
-    """Yields rows as they are done, with as many processes as there are processors."""
-    if not jobs:
-        return
+def _here(programs: Programs, jobs: Sequence[tuple[int, Job]]) -> Answers:
+    """Yields rows as they are done, with as many processes as there are processors.
+
+    When a process crashes, nobody knows which deck it was: the first ones that have no row are read
+    again, each in a process of its own, and the one that crashes again has that as its fault.
+    """
+    waiting = dict(jobs)
+    while waiting:
+        try:
+            yield from _taken(_side_by_side(programs, list(waiting.items())), waiting)
+        except BrokenProcessPool:
+            for number, job in list(waiting.items())[:AT_ONCE]:
+                yield from _taken(_alone(programs, number, job), waiting)
+
+
+def _taken(answers: Answers, waiting: dict[int, Job]) -> Answers:
+    """Yields answers, and takes their decks off those that wait."""
+    for number, row in answers:
+        del waiting[number]
+        yield number, row
+
+
+def _alone(programs: Programs, number: int, job: Job) -> Answers:
+    """Yields the row of one deck, also if its process crashes."""
+    try:
+        yield from _side_by_side(programs, [(number, job)])
+    except BrokenProcessPool:
+        yield number, Row(job.name, fault="the process that read this deck crashed")
+
+
+def _side_by_side(programs: Programs, jobs: Sequence[tuple[int, Job]]) -> Answers:
+    """Yields rows as they are done. The workers end when a pipe is closed here."""
+    life = os.pipe()
+    try:
+        yield from _pooled(programs, jobs, life)
+    finally:
+        for end in life:
+            os.close(end)
+
+
+def _pooled(programs: Programs, jobs: Sequence[tuple[int, Job]], life: tuple[int, int]) -> Answers:
+    """Yields rows as they are done by workers that watch the pipe `life`."""
     workers = min(len(jobs), len(os.sched_getaffinity(0)))
-    with ProcessPoolExecutor(workers, initializer=_leave_stopping_to_parent) as pool:
-        waiting = {
-            pool.submit(row_of, programs, job.path, job.previous, job.name): number
-            for number, job in jobs
-        }
+    with ProcessPoolExecutor(workers, initializer=_follow_parent, initargs=life) as pool:
+        waiting = {pool.submit(_row, programs, job): (number, job) for number, job in jobs}
         try:
             for future in as_completed(waiting):
-                yield waiting[future], future.result()
+                number, job = waiting[future]
+                yield number, _answer(future, job)
         except BaseException:
             pool.shutdown(wait=False, cancel_futures=True)
             for worker in active_children():
@@ -91,13 +119,41 @@ def _here(programs: Programs, jobs: Sequence[tuple[int, Job]]) -> Iterator[tuple
             raise
 
 
-def _leave_stopping_to_parent() -> None:
-    """Lets this process pass over an interrupt, and stop when its parent terminates it.
+def _answer(future: "Future[Row]", job: Job) -> Row:
+    """Returns the row of a deck; what went wrong in its process is a fault of the deck alone."""
+    error = future.exception()
+    if error is None:
+        return future.result()
+    if isinstance(error, (BrokenProcessPool, ImportError)):
+        raise error
+    return Row(job.name, fault=f"reading this deck failed: {type(error).__name__}: {error}")
 
-    The interrupt has a handler and is not ignored, because programs would inherit that and run on.
+
+def _row(programs: Programs, job: Job) -> Row:
+    """Returns the row of a deck; ends the process if it is to stop, which a pool passes over."""
+    try:
+        return row_of(programs, job.path, job.previous, job.name)
+    except SystemExit:
+        os._exit(1)
+
+
+def _follow_parent(ended: int, held: int) -> None:
+    """Makes this process end when its parent terminates it, or when its parent is gone.
+
+    The parent alone holds the pipe open for writing at `held`; its end is seen at `ended`.
+    An interrupt has a handler and is not ignored, because programs would inherit that and run on.
     """
+    os.close(held)
     signal.signal(signal.SIGINT, _pass_over)
+    signal.signal(signal.SIGHUP, _pass_over)
     signal.signal(signal.SIGTERM, _stop)
+    Thread(target=_wait_for_parent, args=(ended,), daemon=True).start()
+
+
+def _wait_for_parent(ended: int) -> None:
+    """Ends this process when the pipe of its parent is closed."""
+    os.read(ended, 1)
+    os.kill(os.getpid(), signal.SIGTERM)
 
 
 def _pass_over(_signal: int, _frame: FrameType | None) -> None:
@@ -105,62 +161,9 @@ def _pass_over(_signal: int, _frame: FrameType | None) -> None:
 
 
 def _stop(_signal: int, _frame: FrameType | None) -> None:
-    """Ends this process; `subprocess.run` kills the program that runs on the way out."""
+    """Ends this process and the program that it waits for."""
+    end_children()
     raise SystemExit
-
-
-def _there(hosts: Hosts, jobs: Sequence[tuple[int, Job]]) -> Iterator[tuple[int, Row]]:
-    """Yields rows as they come from the hosts.
-
-    Each deck goes over as one line of JSON on the standard input of the command, and each row comes
-    back as one. What is not a row for one of these decks is an error.
-    """
-    if not jobs:
-        return
-    words = ["parallel", "--will-cite", "--plain", "--sshloginfile", str(hosts.logins), "--pipe"]
-    words += ["-N", str(TOGETHER), "--line-buffer", f"{hosts.command} --worker"]
-    with tempfile.TemporaryFile() as lines:
-        for number, job in jobs:
-            lines.write(packed(number, job).encode() + b"\n")
-        lines.seek(0)
-        try:
-            running = subprocess.Popen(
-                words, stdin=lines, stdout=subprocess.PIPE, env=_with_shell()
-            )
-        except FileNotFoundError:
-            raise UsageError("no program parallel: apt install parallel") from None
-        with running:
-            assert running.stdout is not None
-            known = {number for number, _ in jobs}
-            for line in running.stdout:
-                number, row = _unpacked(line, known)
-                known.discard(number)
-                yield number, row
-        if running.returncode != 0:
-            raise CompanionError(f"{hosts.logins}: parallel ended with {running.returncode}")
-
-
-def _with_shell() -> dict[str, str]:
-    """Returns the environment with a plain shell; without SHELL, parallel starts nothing."""
-    return {**os.environ, "SHELL": "/bin/sh"}
-
-
-def packed(number: int, job: Job) -> str:
-    """Returns a deck, its side file and the ones before as one line."""
-    files = {}
-    for role, path in (("deck", job.path), ("previous", job.previous)):
-        for kind, part in (("", path), (".side", None if path is None else side_path(path))):
-            if part is not None and part.is_file():
-                files[role + kind] = base64.b64encode(part.read_bytes()).decode()
-    return json.dumps({"number": number, "name": job.name, "files": files})
-
-
-def _unpacked(line: bytes, known: set[int]) -> tuple[int, Row]:
-    number, _, text = line.decode("utf-8", "replace").rstrip("\n").partition(" ")
-    row = row_from(text)
-    if row is None or not number.isascii() or not number.isdigit() or int(number) not in known:
-        raise CompanionError("a host answered something that is no row of a deck")
-    return int(number), row
 
 
 def serve(programs: Programs, lines: Iterable[bytes]) -> None:

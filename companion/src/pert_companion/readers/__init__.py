@@ -7,8 +7,9 @@ needed, so that a list as text needs no library.
 from importlib import import_module
 from typing import Protocol, cast
 
-from pert_companion.errors import InputError
-from pert_companion.readers.base import Reading, ReaderOptions, Source
+from pert_companion.model.errors import InputError
+from pert_companion.model.source import Source
+from pert_companion.readers.base import ReaderOptions, Reading
 
 _XML = ("mspdi", "pmxml", "gan", "gnome_planner")
 _PACKED = b"PK\x03\x04"

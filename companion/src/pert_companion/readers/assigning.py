@@ -1,15 +1,34 @@
 """Makes the resources and assignments of a plan from the cells of resources and work of a list."""
 
 from collections.abc import Sequence
+from dataclasses import dataclass
 from decimal import Decimal
 
-from pert_companion.losses import LossKind
-from pert_companion.plan import Assignment, Resource, ResourceKind, Task
-from pert_companion.readers import relations, values
+from pert_companion.model.losses import LossKind
+from pert_companion.model.plan import Assignment, Resource, ResourceKind, Task
 from pert_companion.readers.cells import CellReader
-from pert_companion.readers.grid import Rate, clip
+from pert_companion.readers.grid import MOST_PARTS, Rate, clip
 from pert_companion.readers.outline import Row
-from pert_companion.readers.values import Unreadable, is_nothing, text_of
+from pert_companion.readers.values import (
+    Style,
+    Unreadable,
+    duration,
+    is_nothing,
+    number,
+    text_of,
+    whole_minutes,
+)
+
+
+@dataclass(frozen=True)
+class ResourceText:
+    """One resource of a cell: how many of it work, or how much of a material is used."""
+
+    name: str
+    quantity: Decimal
+    unit: str
+    """The unit of a material, or an empty text for what works."""
+    text: str
 
 
 class Assigner:
@@ -53,35 +72,33 @@ class Assigner:
             key = (task.uid, resource.uid)
             self._quantities[key] = self._quantities.get(key, Decimal(0)) + quantity
 
-    def _parts(self, row: Row) -> list[relations.ResourceText]:
+    def _parts(self, row: Row) -> list[ResourceText]:
         if is_nothing(row.cell("resources")):
             return []
         text = text_of(row.cell("resources"))
-        parts, wrong = relations.resources(text, self._reader.style)
+        parts, wrong = resources_in(text, self._reader.style)
         for piece, why in wrong:
             self._reader.lose(row, "resources", why, piece)
         return parts
 
-    def _unit_of(self, part: relations.ResourceText) -> str:
+    def _unit_of(self, part: ResourceText) -> str:
         """Returns the unit of a material; an empty text for what works."""
         rate = self._rates.get(part.name.casefold())
         if part.unit or rate is None or not rate.is_material:
             return part.unit
         return rate.unit or "units"
 
-    def _minutes_each(
-        self, task: Task, row: Row, crews: Sequence[relations.ResourceText]
-    ) -> Decimal:
+    def _minutes_each(self, task: Task, row: Row, crews: Sequence[ResourceText]) -> Decimal:
         """Returns the minutes that a whole crew of the task works."""
         if is_nothing(row.cell("work")):
             return Decimal(task.minutes)
         unit = self._reader.head.units.get("work", "hours")
         try:
-            work = values.duration(row.cell("work"), self._reader.style, unit)
+            work = duration(row.cell("work"), self._reader.style, unit)
         except Unreadable as reason:
             self._reader.lose(row, "work", str(reason))
             return Decimal(task.minutes)
-        minutes = values.whole_minutes(work.minutes)
+        minutes = whole_minutes(work.minutes)
         if work.is_elapsed:
             why = "elapsed time is counted as work"
             self._reader.lose(row, "work", why, kind=LossKind.ELAPSED)
@@ -92,7 +109,7 @@ class Assigner:
             return Decimal(task.minutes)
         return Decimal(minutes) / units
 
-    def _resource(self, part: relations.ResourceText, unit: str) -> Resource:
+    def _resource(self, part: ResourceText, unit: str) -> Resource:
         """Returns the resource of a name and a unit, made where it is named first."""
         key = (part.name.casefold(), unit.casefold())
         found = self._resources.get(key)
@@ -108,3 +125,72 @@ class Assigner:
             made = Resource(uid, name, rate=rate.rate, overtime_rate=rate.overtime_rate)
         self._resources[key] = made
         return made
+
+
+def _resource_parts(text: str) -> list[str]:
+    """Returns the resources of a cell, split at marks that are not inside brackets."""
+    outside = ""
+    depth = 0
+    pieces: list[str] = []
+    current: list[str] = []
+    marks = []
+    for character in text:
+        depth += (character == "[") - (character == "]" and depth > 0)
+        if character in ";,\r\n" and depth == 0:
+            pieces.append("".join(current))
+            marks.append(character)
+            current = []
+        else:
+            current.append(character)
+    pieces.append("".join(current))
+    outside = ";" if ";" in marks else ","
+    parts = [pieces[0]]
+    for mark, piece in zip(marks, pieces[1:], strict=True):
+        if mark in (outside, "\r", "\n"):
+            parts.append(piece)
+        else:
+            parts[-1] += mark + piece
+    return [part.strip() for part in parts if part.strip()]
+
+
+def _resource(part: str, style: Style) -> ResourceText:
+    name, bracket, rest = part.partition("[")
+    name = name.strip()
+    if not name:
+        raise Unreadable("a quantity without a resource")
+    if not bracket:
+        return ResourceText(name, Decimal(1), "", part)
+    inside = rest.rstrip("] ").strip()
+    digits = inside
+    for position, character in enumerate(inside):
+        if not (character.isdigit() or character in ".,'’"):
+            digits = inside[:position]
+            break
+    unit = inside[len(digits) :].strip()
+    try:
+        quantity = number(digits, style)
+    except Unreadable as reason:
+        raise Unreadable("the brackets hold no quantity") from reason
+    if unit == "%":
+        return ResourceText(name, quantity / 100, "", part)
+    if "/" in unit:
+        raise Unreadable("an amount per time depends on the schedule; write the whole amount")
+    return ResourceText(name, quantity, unit, part)
+
+
+def resources_in(text: str, style: Style) -> tuple[list[ResourceText], list[tuple[str, str]]]:
+    """Returns the resources of a cell (`Carpenters[50%]; Concrete[12 m3]`), and what is none.
+
+    What cannot be read comes as pairs of its text and the reason.
+    """
+    found = []
+    wrong = []
+    parts = _resource_parts(text)
+    if len(parts) > MOST_PARTS:
+        return [], [(text, f"more than {MOST_PARTS} resources in one cell")]
+    for part in parts:
+        try:
+            found.append(_resource(part, style))
+        except Unreadable as reason:
+            wrong.append((part, str(reason)))
+    return found, wrong

@@ -2,11 +2,10 @@
 
 from dataclasses import dataclass, field
 from datetime import date
-from pathlib import Path
 
-from pert_companion.calendar import CalendarException
-from pert_companion.losses import Loss
-from pert_companion.plan import Plan
+from pert_companion.model.calendar import CalendarException
+from pert_companion.model.losses import Loss
+from pert_companion.model.plan import Plan
 
 
 @dataclass(frozen=True)
@@ -41,16 +40,3 @@ class Reading:
 
     plan: Plan
     losses: tuple[Loss, ...] = field(default=())
-
-
-@dataclass(frozen=True)
-class Source:
-    """A file that is read: its name as the user gave it, and its bytes."""
-
-    path: Path
-    data: bytes
-
-    @property
-    def name(self) -> str:
-        """Returns the name for messages."""
-        return str(self.path)

@@ -1,32 +1,71 @@
 """Reads the cells of the rows of a list; each cell that holds no such value is a loss."""
 
-from dataclasses import dataclass, field
+from collections.abc import Sequence
 from datetime import date
 from decimal import Decimal
 from fractions import Fraction
 
-from pert_companion.losses import Loss, LossKind
-from pert_companion.plan import Baseline, Constraint, ConstraintKind, Crash, Estimates, Progress
+from pert_companion.model.losses import LossKind
+from pert_companion.model.plan import (
+    Baseline,
+    Constraint,
+    ConstraintKind,
+    Crash,
+    Estimates,
+    Progress,
+)
 from pert_companion.readers import values
-from pert_companion.readers.columns import Head
+from pert_companion.readers.base import ReaderOptions
+from pert_companion.readers.columns import AMOUNTS, Head
+from pert_companion.readers.fields import FieldReader
 from pert_companion.readers.grid import clip
 from pert_companion.readers.outline import Row
-from pert_companion.readers.values import Share, Style, Unreadable, is_nothing, text_of
+from pert_companion.readers.style import FoundStyle, find_style
+from pert_companion.readers.values import (
+    Cell,
+    Duration,
+    Share,
+    Style,
+    Unreadable,
+    is_nothing,
+    text_of,
+)
 
 CONSTRAINTS = {
-    ConstraintKind.START_NO_EARLIER: ("start no earlier than", "snet", "start on or after")
+    ConstraintKind.START_NO_EARLIER: (
+        "start no earlier than",
+        "snet",
+        "start on or after",
+    )
     + ("anfang nicht früher als",),
     ConstraintKind.START_NO_LATER: ("start no later than", "snlt", "start on or before")
     + ("anfang nicht später als",),
-    ConstraintKind.FINISH_NO_EARLIER: ("finish no earlier than", "fnet", "finish on or after")
+    ConstraintKind.FINISH_NO_EARLIER: (
+        "finish no earlier than",
+        "fnet",
+        "finish on or after",
+    )
     + ("ende nicht früher als",),
-    ConstraintKind.FINISH_NO_LATER: ("finish no later than", "fnlt", "finish on or before")
+    ConstraintKind.FINISH_NO_LATER: (
+        "finish no later than",
+        "fnlt",
+        "finish on or before",
+    )
     + ("ende nicht später als",),
     ConstraintKind.MUST_START: ("must start on", "mso", "start on", "mandatory start")
     + ("muss anfangen am",),
-    ConstraintKind.MUST_FINISH: ("must finish on", "mfo", "finish on", "mandatory finish")
+    ConstraintKind.MUST_FINISH: (
+        "must finish on",
+        "mfo",
+        "finish on",
+        "mandatory finish",
+    )
     + ("muss enden am",),
-    ConstraintKind.AS_LATE_AS_POSSIBLE: ("as late as possible", "alap", "so spät wie möglich"),
+    ConstraintKind.AS_LATE_AS_POSSIBLE: (
+        "as late as possible",
+        "alap",
+        "so spät wie möglich",
+    ),
 }
 _AS_SOON_AS_POSSIBLE = ("as soon as possible", "asap", "so früh wie möglich")
 _CONSTRAINT_OF: dict[str, ConstraintKind] = {}
@@ -59,47 +98,53 @@ _KIND_OF_FIELD = {
     "baseduration": LossKind.BASELINE,
     "basecost": LossKind.BASELINE,
 }
-GROUP_FIELDS = ("resources", "constraint", "deadline", "crash", "reduction", "slope", "crashcost")
+GROUP_FIELDS = (
+    "resources",
+    "constraint",
+    "deadline",
+    "crash",
+    "reduction",
+    "slope",
+    "crashcost",
+)
 """What a group of the list may have, and a group of a plan has not."""
 
 
-@dataclass
-class CellReader:
-    """Reads cells in the style of a list. What cannot be read is a loss, and reads as None."""
+class CellReader(FieldReader[Row, Cell]):
+    """Reads cells in the style of a list."""
 
-    head: Head
-    style: Style
-    losses: list[Loss] = field(default_factory=list)
-    notes: list[str] = field(default_factory=list)
+    def __init__(self, head: Head, found: FoundStyle) -> None:
+        super().__init__(_KIND_OF_FIELD, [], LossKind.DURATION)
+        self.head = head
+        self.style = found.style
+        self.style_notes = found.notes
+        self.notes: list[str] = []
 
-    def lose(
-        self,
-        row: Row,
-        name: str,
-        why: str,
-        text: str | None = None,
-        kind: LossKind | None = None,
-    ) -> None:
-        """Keeps a loss: of the cell of a field, or of a part of it."""
-        shown = row.text(name) if text is None else text
-        known = _KIND_OF_FIELD.get(name, LossKind.DURATION) if kind is None else kind
-        heading = self.head.headings.get(name, name)
-        self.losses.append(Loss(known, row.where, clip(row.name), heading, clip(shown), why))
+    def value(self, row: Row, name: str) -> Cell | None:
+        """Returns the cell of a field; None if it is empty or says that there is nothing."""
+        cell = row.cell(name)
+        return None if is_nothing(cell) else cell
+
+    def shown(self, row: Row, name: str) -> str:
+        """Returns the cell of a field as a text."""
+        return row.text(name)
+
+    def text_of(self, given: Cell) -> str:
+        """Returns a cell as a text."""
+        return text_of(given).strip()
+
+    def heading(self, name: str) -> str:
+        """Returns the heading of a field's column."""
+        return self.head.headings.get(name, name)
 
     def minutes(self, row: Row, name: str) -> int | None:
         """Returns a duration in whole working minutes; None if the cell is empty or unreadable.
 
         Elapsed time counts by its share of a working week, and is a loss; so is a rounded minute.
         """
-        if is_nothing(row.cell(name)):
-            return None
-        try:
-            read = values.duration(row.cell(name), self.style, self.head.units.get(name, "days"))
-        except Unreadable as reason:
-            self.lose(row, name, str(reason))
-            return None
-        if read.minutes < 0:
-            self.lose(row, name, "a duration is not negative")
+        unit = self.head.units.get(name, "days")
+        read = self.read(row, name, lambda cell: _length(cell, self.style, unit))
+        if read is None:
             return None
         minutes = read.minutes
         if read.is_elapsed:
@@ -114,37 +159,16 @@ class CellReader:
 
     def amount(self, row: Row, name: str) -> Decimal | None:
         """Returns an amount of money that is not negative; None if there is none."""
-        if is_nothing(row.cell(name)):
-            return None
-        try:
-            value = values.amount(row.cell(name), self.style)
-        except Unreadable as reason:
-            self.lose(row, name, str(reason))
-            return None
-        if value < 0:
-            self.lose(row, name, "an amount is not negative")
-            return None
-        return value * 1000 if name in self.head.multiples else value
+        value = self.read(row, name, lambda cell: _price(cell, self.style))
+        return value * 1000 if value is not None and name in self.head.multiples else value
 
     def day(self, row: Row, name: str) -> date | None:
         """Returns the day of a date; None if there is none."""
-        if is_nothing(row.cell(name)):
-            return None
-        try:
-            return values.day(row.cell(name), self.style)
-        except Unreadable as reason:
-            self.lose(row, name, str(reason))
-            return None
+        return self.read(row, name, lambda cell: values.day(cell, self.style))
 
-    def percent(self, row: Row) -> Decimal | None:
-        """Returns the percentage that is complete; None if there is none."""
-        if is_nothing(row.cell("percent")):
-            return None
-        try:
-            return values.percent(row.cell("percent"), self.style)
-        except Unreadable as reason:
-            self.lose(row, "percent", str(reason))
-            return None
+    def percent(self, row: Row, name: str = "percent") -> Decimal | None:
+        """Returns a percentage; None if there is none."""
+        return self.read(row, name, lambda cell: values.percent(cell, self.style))
 
     def estimates(self, row: Row, normal: int) -> Estimates | None:
         """Returns the three estimates; those that are missing are the normal duration."""
@@ -227,16 +251,18 @@ class CellReader:
         if not less:
             return None
         if less > normal:
-            self.lose(row, "reduction", "this is longer than the task; the task is not shortened")
+            self.lose(
+                row,
+                "reduction",
+                "this is longer than the task; the task is not shortened",
+            )
             return None
         return normal - less
 
     def _share_of(self, row: Row, name: str, normal: int) -> int | None:
         """Returns a percentage of the normal duration in minutes, and notes that it is one."""
-        try:
-            share = values.percent(row.cell(name), self.style)
-        except Unreadable as reason:
-            self.lose(row, name, str(reason))
+        share = self.percent(row, name)
+        if share is None:
             return None
         minutes = Fraction(share) * normal / 100
         whole = values.whole_minutes(minutes)
@@ -302,6 +328,20 @@ class CellReader:
                 self.lose(row, name, "a group has no such thing; give it to a task")
 
 
+def reader_of(
+    rows: Sequence[Row], head: Head, options: ReaderOptions, separator: str, file: str
+) -> CellReader:
+    """Returns what reads the cells of a list in the style in which its rows are written."""
+    return CellReader(head, find_style(rows, head, options, separator, file))
+
+
+def common_currency(rows: Sequence[Row]) -> str:
+    """Returns the currency that all amounts show which show one; none if they differ."""
+    found = {values.currency_of(row.cell(name)) for row in rows for name in AMOUNTS}
+    found.discard("")
+    return found.pop() if len(found) == 1 else ""
+
+
 def has_constraint(row: Row) -> bool:
     """Says whether a row has a constraint other than `as soon as possible`."""
     cell = row.cell("constraint")
@@ -309,5 +349,21 @@ def has_constraint(row: Row) -> bool:
     return not is_nothing(cell) and text not in _AS_SOON_AS_POSSIBLE
 
 
-def _is_share(cell: values.Cell) -> bool:
+def _length(cell: Cell, style: Style, unit: str) -> Duration:
+    """Returns a duration; a negative one is none."""
+    found = values.duration(cell, style, unit)
+    if found.minutes < 0:
+        raise Unreadable("a duration is not negative")
+    return found
+
+
+def _price(cell: Cell, style: Style) -> Decimal:
+    """Returns an amount that is not negative."""
+    found = values.amount(cell, style)
+    if found < 0:
+        raise Unreadable("an amount is not negative")
+    return found
+
+
+def _is_share(cell: Cell) -> bool:
     return isinstance(cell, Share) or (isinstance(cell, str) and cell.rstrip().endswith("%"))

@@ -1,9 +1,10 @@
 """Finds which column of a list holds what, by its headings in English and German."""
 
+import re
 from collections.abc import Mapping, Sequence
 from dataclasses import dataclass, field
 
-from pert_companion.errors import InputError, UsageError
+from pert_companion.model.errors import InputError, UsageError
 from pert_companion.readers.base import ReaderOptions
 from pert_companion.readers.grid import GridRow, clip
 from pert_companion.readers.values import Cell, text_of, unit_of
@@ -14,17 +15,57 @@ ROWS_ABOVE_HEAD = 100
 
 HEADINGS: dict[str, tuple[str, ...]] = {
     "uid": ("unique id", "uid", "guid", "eindeutige nr", "eindeutige id"),
-    "id": ("id", "nr", "no", "#", "number", "nummer", "task id", "lfd. nr", "pos", "position")
+    "id": (
+        "id",
+        "nr",
+        "no",
+        "#",
+        "number",
+        "nummer",
+        "task id",
+        "lfd. nr",
+        "pos",
+        "position",
+    )
     + ("vorgangsnummer",),
-    "code": ("code", "activity id", "task code", "activity code", "kürzel", "vorgangscode")
+    "code": (
+        "code",
+        "activity id",
+        "task code",
+        "activity code",
+        "kürzel",
+        "vorgangscode",
+    )
     + ("short name", "kurzname"),
     "task": ("task", "vorgang", "aufgabe", "activity", "aktivität", "tätigkeit"),
-    "name": ("name", "task name", "activity name", "title", "vorgangsname", "name des vorgangs")
+    "name": (
+        "name",
+        "task name",
+        "activity name",
+        "title",
+        "vorgangsname",
+        "name des vorgangs",
+    )
     + ("bezeichnung", "titel", "description", "beschreibung"),
-    "level": ("outline level", "level", "gliederungsebene", "ebene", "indent", "einzug"),
+    "level": (
+        "outline level",
+        "level",
+        "gliederungsebene",
+        "ebene",
+        "indent",
+        "einzug",
+    ),
     "wbs": ("wbs", "wbs code", "psp-code", "psp code", "psp", "outline number")
     + ("gliederungsnummer", "gliederungscode"),
-    "group": ("group", "phase", "item", "gruppe", "section", "work package", "arbeitspaket")
+    "group": (
+        "group",
+        "phase",
+        "item",
+        "gruppe",
+        "section",
+        "work package",
+        "arbeitspaket",
+    )
     + ("bereich", "gewerk"),
     "summary": ("summary", "is summary", "sammelvorgang"),
     "milestone": ("milestone", "meilenstein"),
@@ -33,44 +74,134 @@ HEADINGS: dict[str, tuple[str, ...]] = {
     "mode": ("task mode", "vorgangsmodus", "mode", "modus"),
     "duration": ("duration", "normal", "normal duration", "original duration")
     + ("planned duration", "dauer", "normaldauer", "normale dauer", "days", "tage"),
-    "opt": ("opt", "optimistic", "optimistic duration", "optimistisch", "optimistische dauer")
+    "opt": (
+        "opt",
+        "optimistic",
+        "optimistic duration",
+        "optimistisch",
+        "optimistische dauer",
+    )
     + ("best case",),
     "likely": ("likely", "most likely", "likely duration", "most likely duration")
-    + ("expected duration", "wahrscheinlich", "wahrscheinliche dauer", "realistic", "realistisch"),
+    + (
+        "expected duration",
+        "wahrscheinlich",
+        "wahrscheinliche dauer",
+        "realistic",
+        "realistisch",
+    ),
     "pess": ("pess", "pessimistic", "pessimistic duration", "pessimistisch")
     + ("pessimistische dauer", "worst case"),
     "crash": ("crash", "crash duration", "shortest duration", "minimum duration")
     + ("kürzeste dauer", "mindestdauer", "crashdauer"),
     "reduction": ("max reduction", "maximum reduction", "can be shortened by")
     + ("verkürzbar um", "mögliche verkürzung"),
-    "cost": ("cost", "costs", "total cost", "budget", "budgeted cost", "budgeted total cost")
+    "cost": (
+        "cost",
+        "costs",
+        "total cost",
+        "budget",
+        "budgeted cost",
+        "budgeted total cost",
+    )
     + ("normal cost", "kosten", "gesamtkosten", "plankosten", "normalkosten"),
-    "slope": ("slope", "cost slope", "cost per day", "crash cost per day", "kosten je tag")
+    "slope": (
+        "slope",
+        "cost slope",
+        "cost per day",
+        "crash cost per day",
+        "kosten je tag",
+    )
     + ("kosten pro tag", "mehrkosten je tag", "mehrkosten pro tag"),
-    "crashcost": ("crash cost", "crash costs", "cost at crash", "cost at shortest duration")
+    "crashcost": (
+        "crash cost",
+        "crash costs",
+        "cost at crash",
+        "cost at shortest duration",
+    )
     + ("crashkosten", "kosten bei kürzester dauer"),
     "pred": ("predecessors", "predecessor", "after", "depends on", "dependencies")
-    + ("predecessor details", "wbs predecessors", "vorgänger", "psp-vorgänger", "abhängig von")
+    + (
+        "predecessor details",
+        "wbs predecessors",
+        "vorgänger",
+        "psp-vorgänger",
+        "abhängig von",
+    )
     + ("nach",),
-    "succ": ("successors", "successor", "successor details", "wbs successors", "nachfolger")
+    "succ": (
+        "successors",
+        "successor",
+        "successor details",
+        "wbs successors",
+        "nachfolger",
+    )
     + ("psp-nachfolger",),
-    "resources": ("resources", "resource names", "resource", "ressourcen", "ressourcennamen")
+    "resources": (
+        "resources",
+        "resource names",
+        "resource",
+        "ressourcen",
+        "ressourcennamen",
+    )
     + ("ressource", "crew"),
     "work": ("work", "planned work", "scheduled work", "arbeit", "geplante arbeit"),
-    "percent": ("% complete", "percent complete", "% work complete", "complete", "progress")
+    "percent": (
+        "% complete",
+        "percent complete",
+        "% work complete",
+        "complete",
+        "progress",
+    )
     + ("physical % complete", "duration % complete", "% abgeschlossen", "abgeschlossen")
     + ("prozent abgeschlossen", "% fertig", "fertig", "fortschritt"),
     "remaining": ("remaining duration", "restdauer", "verbleibende dauer"),
-    "start": ("start", "start date", "planned start", "begin", "anfang", "anfangstermin")
+    "start": (
+        "start",
+        "start date",
+        "planned start",
+        "begin",
+        "anfang",
+        "anfangstermin",
+    )
     + ("startdatum", "beginn", "geplanter anfang"),
-    "finish": ("finish", "finish date", "planned finish", "end", "end date", "ende", "endtermin")
+    "finish": (
+        "finish",
+        "finish date",
+        "planned finish",
+        "end",
+        "end date",
+        "ende",
+        "endtermin",
+    )
     + ("enddatum", "geplantes ende"),
-    "actstart": ("actual start", "ist-anfang", "aktueller anfang", "tatsächlicher anfang"),
+    "actstart": (
+        "actual start",
+        "ist-anfang",
+        "aktueller anfang",
+        "tatsächlicher anfang",
+    ),
     "actfinish": ("actual finish", "ist-ende", "aktuelles ende", "tatsächliches ende"),
-    "actcost": ("actual cost", "actual costs", "actual total cost", "istkosten", "ist-kosten")
+    "actcost": (
+        "actual cost",
+        "actual costs",
+        "actual total cost",
+        "istkosten",
+        "ist-kosten",
+    )
     + ("aktuelle kosten",),
-    "remcost": ("remaining cost", "remaining total cost", "restkosten", "verbleibende kosten"),
-    "constraint": ("constraint type", "constraint", "primary constraint", "einschränkungsart"),
+    "remcost": (
+        "remaining cost",
+        "remaining total cost",
+        "restkosten",
+        "verbleibende kosten",
+    ),
+    "constraint": (
+        "constraint type",
+        "constraint",
+        "primary constraint",
+        "einschränkungsart",
+    ),
     "condate": ("constraint date", "primary constraint date", "einschränkungstermin")
     + ("einschränkungsdatum",),
     "deadline": ("deadline", "stichtag"),
@@ -78,7 +209,12 @@ HEADINGS: dict[str, tuple[str, ...]] = {
     "basefinish": ("baseline finish", "bl project finish", "basisplan ende"),
     "baseduration": ("baseline duration", "bl project duration", "geplante dauer")
     + ("basisplan dauer",),
-    "basecost": ("baseline cost", "bl project total cost", "geplante kosten", "basisplan kosten"),
+    "basecost": (
+        "baseline cost",
+        "bl project total cost",
+        "geplante kosten",
+        "basisplan kosten",
+    ),
 }
 """For each field the headings by which it is found, in small letters and without units."""
 
@@ -95,7 +231,19 @@ MULTIPLES = frozenset(
     ("k€", "t€", "teur", "keur", "k$", "thousands", "tausend", "tsd", "tsd. €"),
 )
 
-DURATIONS = ("duration", "opt", "likely", "pess", "crash", "work", "remaining", "baseduration")
+_CURRENCY = re.compile("[€$£¥]|eur|euro|usd|gbp|chf|sek|nok|dkk|pln|czk")
+"""What a heading of amounts may end with: `Cost €`, `Budget CHF`."""
+
+DURATIONS = (
+    "duration",
+    "opt",
+    "likely",
+    "pess",
+    "crash",
+    "work",
+    "remaining",
+    "baseduration",
+)
 AMOUNTS = ("cost", "slope", "crashcost", "actcost", "remcost", "basecost")
 DATES = ("start", "finish", "actstart", "actfinish", "condate", "deadline") + (
     "basestart",
@@ -112,6 +260,7 @@ def fields_by_word(words_of: Mapping[str, Sequence[str]]) -> dict[str, str]:
 
 
 _FIELD_OF = fields_by_word(HEADINGS)
+_UNITS_OF_COSTS = {"weeks": ("week", "woche"), "hours": ("hour", "stunde", "h")}
 
 
 @dataclass(frozen=True)
@@ -151,20 +300,40 @@ def heading_of(cell: Cell) -> Heading:
     """Returns a heading without its unit: `Dauer (Std.)`, `Slope [€/day]`, `Work in weeks`."""
     text = text_of(cell)[:MOST_HEADING].replace("(*)", " ").replace("_", " ")
     text = " ".join(text.split()).strip(" .:*\ufeff").casefold()
-    if text.endswith((")", "]")):
-        opening = max(text.rfind("("), text.rfind("["))
-        if opening > 0:
-            inner = text[opening + 1 : -1].strip(" .")
-            return Heading(text[:opening].strip(" ."), _last_unit(inner), inner in MULTIPLES)
-    if " in " in text and text not in _FIELD_OF:
-        before, _, after = text.rpartition(" in ")
-        if unit_of(after):
-            return Heading(before.strip(), unit_of(after))
-    for unit, words in (("weeks", ("week", "woche")), ("hours", ("hour", "stunde", "h"))):
+    return _with_bracket(text) or _with_last_word(text) or _cost_of_time(text) or Heading(text)
+
+
+def _with_bracket(text: str) -> Heading | None:
+    """Returns the heading of a text that ends with a bracket; None if it does not."""
+    opening = max(text.rfind("("), text.rfind("["))
+    if opening <= 0 or not text.endswith((")", "]")):
+        return None
+    inner = text[opening + 1 : -1].strip(" .")
+    return Heading(text[:opening].strip(" ."), _last_unit(inner), inner in MULTIPLES)
+
+
+def _with_last_word(text: str) -> Heading | None:
+    """Returns the heading of a text that ends with a unit, a multiple or a currency, or None."""
+    if text in _FIELD_OF:
+        return None
+    before, _, last = text.rpartition(" in ")
+    if before and unit_of(last):
+        return Heading(before.strip(), unit_of(last))
+    before, _, last = text.rpartition(" ")
+    if before not in _FIELD_OF:
+        return None
+    if last in MULTIPLES or _CURRENCY.fullmatch(last):
+        return Heading(before, None, last in MULTIPLES)
+    return Heading(before, unit_of(last)) if unit_of(last) else None
+
+
+def _cost_of_time(text: str) -> Heading | None:
+    """Returns the heading of a cost per hour or week, which is a cost per day with a unit."""
+    for unit, words in _UNITS_OF_COSTS.items():
         for word in words:
             if text in (f"cost per {word}", f"kosten pro {word}", f"kosten je {word}"):
                 return Heading("cost per day", unit)
-    return Heading(text)
+    return None
 
 
 def _last_unit(text: str) -> str | None:

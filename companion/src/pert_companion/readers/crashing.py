@@ -2,33 +2,17 @@
 
 from collections.abc import Callable
 from dataclasses import dataclass
-from decimal import Decimal
 from fractions import Fraction
 
-from pert_companion.calendar import Calendar
-from pert_companion.plan import Crash
-from pert_companion.readers import values
+from pert_companion.model.calendar import Calendar
+from pert_companion.model.crash_fields import COST_NAMES, CRASH_NAMES, SLOPE_NAMES
+from pert_companion.model.plan import Crash
+from pert_companion.readers import fields, values
 from pert_companion.readers.base import ReaderOptions
+from pert_companion.readers.fields import Place, TextReader
 from pert_companion.readers.values import Style, Unreadable
 
-CRASH_NAMES = (
-    "crash",
-    "crash duration",
-    "shortest duration",
-    "minimum duration",
-    "kürzeste dauer",
-    "crashdauer",
-)
-SLOPE_NAMES = (
-    "slope",
-    "cost slope",
-    "cost per day",
-    "crash cost per day",
-    "kosten pro tag",
-    "mehrkosten pro tag",
-    "mehrkosten je tag",
-)
-COST_NAMES = ("crash cost", "crash costs", "cost at crash", "crashkosten")
+_MOST_MINUTES = 10**12
 
 
 @dataclass(frozen=True)
@@ -42,7 +26,10 @@ class CrashFields:
 
 def find_fields(look_up: Callable[[tuple[str, ...]], str], options: ReaderOptions) -> CrashFields:
     """Returns the fields of a task. `look_up` gets names in small letters and returns a text."""
-    wanted, wanted_cost = options.crash_field.casefold(), options.crash_cost_field.casefold()
+    wanted, wanted_cost = (
+        options.crash_field.casefold(),
+        options.crash_cost_field.casefold(),
+    )
     return CrashFields(
         look_up((wanted,) if wanted else CRASH_NAMES),
         look_up(SLOPE_NAMES),
@@ -50,33 +37,49 @@ def find_fields(look_up: Callable[[tuple[str, ...]], str], options: ReaderOption
     )
 
 
-def minutes_of(text: str, calendar: Calendar) -> int | None:
-    """Returns the working minutes of `5`, `5d` or `40 h`, or None; a bare number is days."""
+def minutes_of(calendar: Calendar) -> Callable[[str], int]:
+    """Returns what makes working minutes of `5`, `5d` or `40 h`; a bare number is days."""
     style = Style(".", False, 1, calendar.day_minutes, calendar.week_minutes, calendar.month_days)
-    try:
+
+    def minutes(text: str) -> int:
         found = values.duration(text, style, "days")
-    except Unreadable:
-        return None
-    if found.is_elapsed or found.minutes < 0 or found.minutes > 10**12:
-        return None
-    return values.whole_minutes(Fraction(found.minutes))
+        if found.is_elapsed or not 0 <= found.minutes <= _MOST_MINUTES:
+            raise Unreadable("this is no duration in working time")
+        return values.whole_minutes(Fraction(found.minutes))
+
+    return minutes
 
 
 def crash_of(
-    shortest: int | None, slope: Decimal | None, cost: Decimal | None, minutes: int
-) -> tuple[Crash | None, str]:
-    """Returns how a task of so many minutes can be shortened, or None and the reason.
+    reader: TextReader,
+    row: Place,
+    found: CrashFields,
+    minutes: int,
+    read_shortest: Callable[[str], int],
+) -> Crash | None:
+    """Returns how a task of so many minutes can be shortened; None, and mostly a loss, if not.
 
-    `shortest` is None if the field holds no duration. The reason is empty if nothing is lost.
+    `read_shortest` makes minutes of the text of a shortest duration.
     """
+    if not found.shortest:
+        return None
+    slope = cost = None
+    if found.slope:
+        slope = reader.taken(row, "slope", found.slope, fields.amount)
+    if found.cost:
+        cost = reader.taken(row, "crash cost", found.cost, fields.amount)
+    shortest = reader.taken(row, "crash", found.shortest, read_shortest)
     if shortest is None:
-        return None, "this is no duration; the task is not shortened"
+        return None
+    why = ""
     if shortest > minutes:
-        return None, "it is longer than the normal duration; the task is not shortened"
-    if slope is not None:
-        return Crash(shortest, slope=slope), ""
-    if cost is not None:
-        return Crash(shortest, cost=cost), ""
-    if shortest < minutes:
-        return None, "nothing says what shortening costs; the task is not shortened"
-    return None, ""
+        why = "it is longer than the normal duration; the task is not shortened"
+    elif slope is not None:
+        return Crash(shortest, slope=slope)
+    elif cost is not None:
+        return Crash(shortest, cost=cost)
+    elif shortest < minutes and not (found.slope or found.cost):
+        why = "nothing says what shortening costs; the task is not shortened"
+    if why:
+        reader.name_loss(row, "crash", why, found.shortest)
+    return None

@@ -4,8 +4,8 @@ from collections.abc import Sequence, Set
 from dataclasses import dataclass, field, replace
 from decimal import Decimal
 
-from pert_companion.losses import LossKind
-from pert_companion.plan import Group, Task
+from pert_companion.model.losses import LossKind
+from pert_companion.model.plan import Group, Task
 from pert_companion.readers.cells import CellReader
 from pert_companion.readers.grid import clip
 from pert_companion.readers.outline import Node, Row
@@ -13,7 +13,14 @@ from pert_companion.readers.values import is_nothing, is_yes, plain, text_of
 
 TOTALS = frozenset(
     "total totals sum summe gesamt gesamtsumme insgesamt subtotal sub-total zwischensumme".split()
-    + ["grand total", "total cost", "total costs", "total project", "gesamtkosten", "endsumme"]
+    + [
+        "grand total",
+        "total cost",
+        "total costs",
+        "total project",
+        "gesamtkosten",
+        "endsumme",
+    ]
 )
 LEVELS_OF_EFFORT = frozenset(("level of effort", "wbs summary", "tt_loe", "tt_wbs", "hammock"))
 MILESTONES = frozenset(("start milestone", "finish milestone", "milestone", "meilenstein"))
@@ -77,8 +84,9 @@ def make_entries(nodes: Sequence[Node], reader: CellReader) -> Entries:
     taken: set[str] = set()
     wbs_codes = _codes_of_one(nodes)
     durations = _durations(nodes, reader)
+    id_fields = _id_fields(nodes)
     for node in _with_content(nodes, durations, reader):
-        uids[node] = _uid(node, taken, reader)
+        uids[node] = _uid(node, id_fields, taken, reader)
         parent = uids[node.parent] if node.parent is not None else None
         if node.row is not None:
             entries.node_of[node.row.number] = node
@@ -142,12 +150,26 @@ def _name_empty(node: Node, row: Row, reader: CellReader) -> None:
         reader.lose(row, "duration", why, kind=LossKind.TASK)
 
 
-def _uid(node: Node, taken: set[str], reader: CellReader) -> str:
+def _id_fields(nodes: Sequence[Node]) -> tuple[str, ...]:
+    """Returns the columns that hold the id of a row, best first.
+
+    A column of numbers next to codes is one if each row has its own and they do not just count the
+    rows: then a code may change, and the task is still the same.
+    """
+    ids = [node.row.text("id") for node in nodes if node.row is not None]
+    numbers = [int(text) if text.isascii() and text.isdigit() else -1 for text in ids]
+    counted = [number - at for at, number in enumerate(numbers)]
+    if all(ids) and len(set(ids)) == len(ids) and len(set(counted)) > 1:
+        return ("uid", "id", "code")
+    return ("uid", "code", "id")
+
+
+def _uid(node: Node, id_fields: Sequence[str], taken: set[str], reader: CellReader) -> str:
     """Returns the id of an entry: of its own columns first, or else of its row."""
     row = node.row
     if row is None:
         return _unique(node.wbs or node.name, "", taken)
-    for name in ("uid", "code", "id"):
+    for name in id_fields:
         key = clip(row.text(name))
         if key:
             if key in taken:

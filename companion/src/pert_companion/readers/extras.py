@@ -4,8 +4,8 @@ from collections.abc import Sequence
 from datetime import date
 from decimal import Decimal
 
-from pert_companion.calendar import CalendarException
-from pert_companion.losses import Loss, LossKind
+from pert_companion.model.calendar import CalendarException
+from pert_companion.model.losses import Loss, LossKind
 from pert_companion.readers.columns import fields_by_word, heading_of
 from pert_companion.readers.grid import GridRow, Rate, clip
 from pert_companion.readers.values import (
@@ -24,14 +24,28 @@ HOLIDAY_SHEETS = frozenset(
     + ("arbeitsfreie tage", "exceptions", "ausnahmen", "betriebsferien", "urlaub")
 )
 RESOURCE_SHEETS = frozenset(
-    ("resources", "resource table", "resource sheet", "rates", "ressourcen", "ressource")
+    (
+        "resources",
+        "resource table",
+        "resource sheet",
+        "rates",
+        "ressourcen",
+        "ressource",
+    )
     + ("ressourcentabelle", "sätze", "stundensätze")
 )
 ASSIGNMENT_SHEETS = frozenset(("assignments", "assignment table", "zuordnungen"))
 
 _RATE_HEADINGS = {
     "name": ("name", "resource", "resource name", "ressource", "ressourcenname"),
-    "rate": ("rate", "standard rate", "std. rate", "std rate", "standardsatz", "stundensatz")
+    "rate": (
+        "rate",
+        "standard rate",
+        "std. rate",
+        "std rate",
+        "standardsatz",
+        "stundensatz",
+    )
     + ("cost per hour", "rate per hour", "satz"),
     "overtime": ("overtime rate", "ovt. rate", "überstundensatz"),
     "type": ("type", "art"),

@@ -3,7 +3,8 @@
 from collections.abc import Iterator, Mapping
 from dataclasses import dataclass
 
-from pert_companion.calendar import (
+from pert_companion.model import moments
+from pert_companion.model.calendar import (
     STANDARD_DAY,
     STANDARD_WEEK,
     Calendar,
@@ -11,10 +12,9 @@ from pert_companion.calendar import (
     Shift,
     merged_shifts,
 )
-from pert_companion.losses import Loss, LossKind
-from pert_companion.readers import moments
+from pert_companion.model.losses import Loss, LossKind
+from pert_companion.model.xmltree import Node, nested, whole
 from pert_companion.readers.grid import clip
-from pert_companion.readers.xmltree import Node, nested, whole
 
 WORKING = "0"
 FREE = "1"

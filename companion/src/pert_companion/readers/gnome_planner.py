@@ -1,43 +1,46 @@
-"""Reads the files of GNOME Planner (.planner, formerly MrProject).
-
-Its durations are seconds of working time; lags it adds to the clock.
-"""
+"""Reads GNOME Planner's files (.planner): work or fixed durations, links, calendars, resources."""
 
 from collections.abc import Iterator, Mapping
-from dataclasses import dataclass
 from datetime import date, datetime
 from decimal import Decimal
 from fractions import Fraction
 
-from pert_companion.calendar import Calendar
-from pert_companion.errors import InputError
-from pert_companion.losses import Loss, LossKind
-from pert_companion.plan import (
-    Assignment,
+from pert_companion.model import moments
+from pert_companion.model.calendar import Calendar
+from pert_companion.model.errors import InputError
+from pert_companion.model.plan import (
     Constraint,
     ConstraintKind,
     Group,
     Lag,
     Link,
     LinkKind,
-    Plan,
     Progress,
     Resource,
     ResourceKind,
     Task,
 )
-from pert_companion.readers import gnome_calendars, moments
-from pert_companion.readers.base import Reading, ReaderOptions, Source
-from pert_companion.readers.grid import MOST_ROWS, clip
-from pert_companion.readers.xmltree import (
+from pert_companion.model.source import Source
+from pert_companion.model.xmltree import (
     Node,
     decimal,
     head_text,
     local_name,
-    nested,
     parse,
     whole,
 )
+from pert_companion.readers import fields, gnome_calendars
+from pert_companion.readers.base import ReaderOptions, Reading
+from pert_companion.readers.fields import NamedPlace
+from pert_companion.readers.grid import clip
+from pert_companion.readers.task_tree import (
+    Attributes,
+    Row,
+    TreeReader,
+    missing_task,
+    title,
+)
+from pert_companion.readers.values import Unreadable
 
 _CONSTRAINTS = {
     "start-no-earlier-than": ConstraintKind.START_NO_EARLIER,
@@ -45,6 +48,7 @@ _CONSTRAINTS = {
     "must-start-on": ConstraintKind.MUST_START,
     "as-late-as-possible": ConstraintKind.AS_LATE_AS_POSSIBLE,
 }
+_KINDS = {kind.value: kind for kind in LinkKind}
 _AS_SOON = "as-soon-as-possible"
 _MATERIAL = "2"
 _MOST_SECONDS = 10**10
@@ -58,94 +62,25 @@ def matches(data: bytes) -> bool:
 
 def read(source: Source, options: ReaderOptions) -> Reading:
     """Returns the plan of a file and what is not in it."""
-    root = parse(source)
+    root = parse(source, {})
     project = Node(root)
     if local_name(root) != "project" or not project.has("tasks"):
         raise InputError(f"{source.name}: not a file of GNOME Planner: no project with tasks")
     return _Reader(source, options, project).reading()
 
 
-@dataclass(frozen=True)
-class _Row:
-    """A row of the outline: its element, its group, and whether it has rows below it."""
-
-    node: Node
-    parent: str | None
-    is_group: bool
-
-    @property
-    def uid(self) -> str:
-        """Returns the id of the row."""
-        return self.node.attribute("id")
-
-    @property
-    def name(self) -> str:
-        """Returns the name of the row."""
-        return _title(self.node.attribute("name"))
-
-    @property
-    def where(self) -> str:
-        """Returns the place for messages."""
-        return f"task id {clip(self.uid, 20)}"
-
-
-class _Reader:
+class _Reader(TreeReader):
     """Reads one file."""
 
-    def __init__(self, source: Source, options: ReaderOptions, project: Node) -> None:
-        self.source = source
-        self.options = options
-        self.project = project
-        self.losses: list[Loss] = []
-        self.rows = list(self.outline_rows())
-        self.start = self.first_day()
-        self.calendar = self.plan_calendar()
-        self.resources = {resource.uid: resource for resource in self.read_resources()}
-        self.loads = self.read_allocations()
-
-    def reading(self) -> Reading:
-        """Returns the plan and its losses."""
-        entries: list[Task | Group] = []
-        for row in self.rows:
-            entry = self.group(row) if row.is_group else self.task(row)
-            if entry is not None:
-                entries.append(entry)
-        tasks = {entry.uid: entry for entry in entries if isinstance(entry, Task)}
-        if not tasks:
-            reason = self.losses[0].line(self.source.name) if self.losses else ""
-            raise InputError(reason or f"{self.source.name}: no tasks")
-        name = self.options.name or _title(self.project.attribute("name"))
-        plan = Plan(
-            name=name or self.source.path.stem,
-            start=self.start,
-            calendar=self.calendar,
-            outline=tuple(entries),
-            links=tuple(self.links({entry.uid for entry in entries})),
-            resources=tuple(self.resources.values()),
-            assignments=tuple(self.assignments(tasks)),
-            data_date=self.options.data_date,
-            source="gnome_planner",
-        )
-        return Reading(plan, tuple(self.losses))
-
-    def outline_rows(self) -> Iterator[_Row]:
-        """Yields the rows in order. Raises `InputError` if an id is missing or not unique."""
-        seen: set[str] = set()
-        for node, above in nested(self.project.child("tasks"), "task"):
-            uid = node.attribute("id")
-            if not uid or uid in seen:
-                raise InputError(f"{self.source.name}: task id {clip(uid, 20)!r} is not unique")
-            if len(seen) >= MOST_ROWS:
-                raise InputError(f"{self.source.name}: more than {MOST_ROWS} tasks")
-            seen.add(uid)
-            parent = None if above is None else above.attribute("id")
-            yield _Row(node, parent, node.has("task"))
+    format = "gnome_planner"
 
     def first_day(self) -> date:
         """Returns the first day of the project."""
-        start = self.options.start or _day(self.project.attribute("project-start"))
+        text = self.project.attribute("project-start")
+        found = _moment(text)
+        start = self.options.start or (None if found is None else found.date())
         if start is None:
-            shown = clip(self.project.attribute("project-start"), 40)
+            shown = clip(text, 40)
             raise InputError(
                 f"{self.source.name}: project-start {shown!r} is no day; give one with --start"
             )
@@ -168,20 +103,19 @@ class _Reader:
         month = options.month_days or chosen.month_days
         return Calendar(chosen.name, chosen.week, chosen.exceptions, day, week, month)
 
-    def group(self, row: _Row) -> Group:
-        """Returns the group of a row."""
+    def group(self, row: Row) -> Group:
+        """Returns the group of a row; a constraint of one is a loss."""
         if row.node.has("constraint"):
-            self.lose(LossKind.CONSTRAINT, row, "constraint", "", "a group has no constraint")
-        return Group(row.uid, row.where, row.name, row.parent, row=whole(row.uid))
+            self.fields.lose(row, "constraint", "a group has no constraint", "")
+        return super().group(row)
 
-    def task(self, row: _Row) -> Task | None:
+    def task(self, row: Row) -> Task | None:
         """Returns the task of a row, or None and a loss."""
-        node = row.node
-        is_milestone = node.attribute("type") == "milestone"
+        is_milestone = row.text("type") == "milestone"
         minutes = 0 if is_milestone else self.minutes(row)
         if minutes is None:
             return None
-        percent = decimal(node.attribute("percent-complete"))
+        percent = self.fields.read(row, "percent-complete", fields.percentage)
         return Task(
             uid=row.uid,
             where=row.where,
@@ -189,59 +123,47 @@ class _Reader:
             minutes=minutes,
             parent=row.parent,
             row=whole(row.uid),
-            cost=self.cost(row, minutes),
+            cost=self.cost_of_resources(row, minutes),
             constraint=self.constraint(row),
-            listed_start=self.start_day(node, minutes),
-            listed_finish=self.finish_day(node.attribute("end"), minutes),
+            listed_start=self.start_day(row, minutes),
+            listed_finish=self.finish_day(row, minutes),
             progress=Progress(percent=percent) if percent else Progress(),
         )
 
-    def start_day(self, node: Node, minutes: int) -> date | None:
+    def start_day(self, row: Row, minutes: int) -> date | None:
         """Returns the first day of work of a task; a milestone has the day of its moment."""
-        found = _moment(node.attribute("work-start") or node.attribute("start"))
+        field = "work-start" if row.text("work-start") else "start"
+        found = self.fields.read(row, field, _known_moment)
         if found is None or minutes == 0:
             return None if found is None else found.date()
         return moments.start_day(self.calendar, found.isoformat())
 
-    def finish_day(self, text: str, minutes: int) -> date | None:
-        """Returns the last day of work of a finish; a milestone has the day of its moment."""
-        found = _moment(text)
+    def finish_day(self, row: Row, minutes: int) -> date | None:
+        """Returns the last day of work of a task; a milestone has the day of its moment."""
+        found = self.fields.read(row, "end", _known_moment)
         if found is None:
             return None
         return found.date() if minutes == 0 else moments.last_day(self.calendar, found)
 
-    def minutes(self, row: _Row) -> int | None:
+    def minutes(self, row: Row) -> int | None:
         """Returns the duration of a task: its own if it is fixed, else its work, shared.
 
         None and a loss if there is none.
         """
-        node = row.node
-        is_fixed = node.attribute("scheduling") == "fixed-duration"
+        is_fixed = row.text("scheduling") == "fixed-duration"
         field = "duration" if is_fixed else "work"
-        seconds = _seconds(node.attribute(field))
-        if seconds is None or seconds < 0:
-            why = "this is no duration; the task is left out"
-            self.lose(LossKind.TASK, row, field, node.attribute(field), why)
+        seconds = self.fields.taken(row, field, row.text(field), _seconds_of_task)
+        if seconds is None:
             return None
         crew = Fraction(0)
-        for resource, units in self.loads.get(row.uid, []):
-            if self.resources[resource].kind is ResourceKind.WORK:
-                crew += Fraction(units) / 100
+        for load in self.loads.get(row.uid, ()):
+            if load.resource.kind is ResourceKind.WORK:
+                crew += Fraction(load.percent) / 100
         if not is_fixed and crew > 0:
             seconds = seconds / crew
         return round(seconds / 60)
 
-    def cost(self, row: _Row, minutes: int) -> Decimal | None:
-        """Returns what the resources of a task cost, or None if none of them has a rate."""
-        total: Fraction | None = None
-        for uid, units in self.loads.get(row.uid, []):
-            resource = self.resources[uid]
-            if resource.rate and resource.kind is ResourceKind.WORK:
-                cost = Fraction(resource.rate) * Fraction(units) * minutes / 6000
-                total = (total or Fraction(0)) + cost
-        return None if total is None else round(Decimal(total.numerator) / total.denominator, 2)
-
-    def constraint(self, row: _Row) -> Constraint | None:
+    def constraint(self, row: Row) -> Constraint | None:
         """Returns the date constraint of a task, or None."""
         node = row.node.child("constraint")
         if node is None or node.attribute("type") == _AS_SOON:
@@ -249,103 +171,86 @@ class _Reader:
         text = node.attribute("type")
         kind = _CONSTRAINTS.get(text)
         if kind is None:
-            self.lose(LossKind.CONSTRAINT, row, "constraint", text, "this is no known constraint")
+            self.fields.lose(row, "constraint", "this is no known constraint", text)
             return None
         if kind is ConstraintKind.AS_LATE_AS_POSSIBLE:
             return Constraint(kind, None)
-        moment = _moment(node.attribute("time"))
+        when = node.attribute("time")
+        moment = _moment(when)
         if moment is None:
-            self.lose(LossKind.CONSTRAINT, row, "constraint", text, "it has no date")
+            why = f"its date {clip(when, 40)!r} is none" if when else "it has no date"
+            self.fields.lose(row, "constraint", why, text)
             return None
         if kind is ConstraintKind.FINISH_NO_LATER:
             return Constraint(kind, moments.last_day(self.calendar, moment))
         return Constraint(kind, moment.date())
 
-    def links(self, known: set[str]) -> Iterator[Link]:
+    def links(self, known: Mapping[str, Task | Group]) -> Iterator[Link]:
         """Yields the links of all rows that are carried over."""
         for row in self.rows:
             if row.uid not in known:
                 continue
             for node in row.node.within("predecessors", "predecessor"):
-                link = self.link(row, node, known)
+                link = self.link(row, Attributes(node), known)
                 if link is not None:
                     yield link
 
-    def link(self, row: _Row, node: Node, known: set[str]) -> Link | None:
+    def link(self, row: Row, part: Attributes, known: Mapping[str, Task | Group]) -> Link | None:
         """Returns a link to a row, or None and a loss."""
-        before = node.attribute("predecessor-id")
-        lag = _seconds(node.attribute("lag") or "0")
-        text = node.attribute("type") or "FS"
-        why = ""
-        if before not in known:
-            why = "the task before is not in this file or not carried over"
-        elif text not in _KINDS:
+        before, text = part.text("predecessor-id"), part.text("type") or "FS"
+        why = missing_task((before,), known)
+        if not why and text not in _KINDS:
             why = "this is no kind of link"
-        elif lag is None:
-            why = "this is no lag"
-        if why or lag is None:
-            shown = f"{before} {text} {node.attribute('lag')}".strip()
-            self.lose(LossKind.LINK, row, "predecessor", shown, why)
+        if why:
+            self.fields.lose(row, "predecessor", why, f"{before} {text}")
             return None
-        shown = f"{clip(before, 20)}{text}"
-        length = Lag(round(lag / 60), elapsed=lag != 0)
-        return Link(before, row.uid, _KINDS[text], length, row.where, shown)
+        lag = self.fields.taken(row, "lag", part.text("lag") or "0", _seconds_of_lag)
+        if lag is None:
+            return None
+        wait = Lag(round(lag / 60), elapsed=lag != 0)
+        return Link(before, row.uid, _KINDS[text], wait, row.where, f"{clip(before, 20)}{text}")
 
     def read_resources(self) -> Iterator[Resource]:
         """Yields the resources."""
         for node in self.project.within("resources", "resource"):
             is_material = node.attribute("type") == _MATERIAL
+            name = title(node.attribute("name"))
+            place, part = NamedPlace(f"resource {clip(name, 60)}"), Attributes(node)
             yield Resource(
                 node.attribute("id"),
-                _title(node.attribute("name")),
+                name,
                 ResourceKind.MATERIAL if is_material else ResourceKind.WORK,
                 "units" if is_material else "h",
-                decimal(node.attribute("std-rate")) or None,
-                decimal(node.attribute("ovt-rate")) or None,
+                self.fields.part(place, part, "std-rate", fields.amount) or None,
+                self.fields.part(place, part, "ovt-rate", fields.amount) or None,
             )
 
-    def read_allocations(self) -> dict[str, list[tuple[str, Decimal]]]:
-        """Returns the resources of each task with their percentages; others are losses."""
-        names = {row.uid: row.name for row in self.rows}
-        found: dict[str, list[tuple[str, Decimal]]] = {}
-        for node in self.project.within("allocations", "allocation"):
-            task, resource = node.attribute("task-id"), node.attribute("resource-id")
-            units = decimal(node.attribute("units") or "100")
-            why = ""
-            if task not in names or resource not in self.resources:
-                why = "there is no such task or resource"
-            elif units is None or units < 0:
-                why = "this is no percentage"
-            elif self.resources[resource].kind is ResourceKind.MATERIAL:
-                why = "the file says no quantity of a material"
-            if why or units is None:
-                where = f"allocation of task id {clip(task, 20)}"
-                shown = clip(f"resource {resource}, {node.attribute('units')}", 60)
-                self.losses.append(
-                    Loss(LossKind.RESOURCE, where, names.get(task, ""), "allocation", shown, why)
-                )
-                continue
-            found.setdefault(task, []).append((resource, units))
-        return found
-
-    def assignments(self, tasks: Mapping[str, Task]) -> Iterator[Assignment]:
-        """Yields how long each resource works on each task."""
-        for uid, loads in self.loads.items():
-            for resource, units in loads:
-                if uid in tasks and tasks[uid].minutes and units:
-                    yield Assignment(uid, resource, units * tasks[uid].minutes / 100)
-
-    def lose(self, kind: LossKind, row: _Row, field: str, text: str, why: str) -> None:
-        """Adds a loss of a row."""
-        self.losses.append(Loss(kind, row.where, row.name, field, clip(text, 60), why))
-
-
-_KINDS = {kind.value: kind for kind in LinkKind}
+    def load(self, row: Row, part: Attributes, resource: Resource) -> Decimal | None:
+        """Returns the percentage of an allocation; all of the resource if it says nothing."""
+        if resource.kind is ResourceKind.MATERIAL:
+            why = "the file says no quantity of a material"
+            self.fields.lose(row, "units", why, f"resource {resource.uid}, {part.text('units')}")
+            return None
+        return self.fields.taken(row, "units", part.text("units") or "100", fields.positive)
 
 
 def _seconds(text: str) -> Fraction | None:
     number = decimal(text)
     return None if number is None or abs(number) > _MOST_SECONDS else Fraction(number)
+
+
+def _seconds_of_task(text: str) -> Fraction:
+    seconds = _seconds(text)
+    if seconds is None or seconds < 0:
+        raise Unreadable("this is no duration; the task is left out")
+    return seconds
+
+
+def _seconds_of_lag(text: str) -> Fraction:
+    seconds = _seconds(text)
+    if seconds is None:
+        raise Unreadable("this is no lag; the link is left out")
+    return seconds
 
 
 def _moment(text: str) -> datetime | None:
@@ -356,10 +261,8 @@ def _moment(text: str) -> datetime | None:
     return moments.moment(f"{text[:4]}-{text[4:6]}-{text[6:8]}T{clock}")
 
 
-def _day(text: str) -> date | None:
+def _known_moment(text: str) -> datetime:
     found = _moment(text)
-    return None if found is None else found.date()
-
-
-def _title(text: str) -> str:
-    return " ".join(text.split())
+    if found is None:
+        raise Unreadable("this is no date such as 20260901T080000Z")
+    return found

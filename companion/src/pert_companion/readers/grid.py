@@ -7,14 +7,16 @@ memory and time that a file can cost.
 from dataclasses import dataclass, field
 from decimal import Decimal
 
-from pert_companion.calendar import CalendarException
-from pert_companion.losses import Loss
+from pert_companion.model.calendar import CalendarException
+from pert_companion.model.losses import Loss
 from pert_companion.readers.values import Cell
 
 MOST_ROWS = 20_000
 MOST_COLUMNS = 1_024
 MOST_CELL_CHARACTERS = 32_767
 """The most characters of a cell, as in Excel."""
+MOST_PARTS = 2_000
+"""The most links or resources of one cell."""
 
 
 @dataclass(frozen=True)

@@ -1,25 +1,34 @@
 """Turns the rows of a list, from a text or a workbook, into a plan."""
 
-from collections.abc import Iterable, Mapping, Sequence
+from collections.abc import Iterable, Sequence
 from dataclasses import replace
 from datetime import date
 from pathlib import Path
 
-from pert_companion.calendar import Calendar, Shift
-from pert_companion.errors import InputError
-from pert_companion.losses import Loss
-from pert_companion.plan import Group, Plan
+from pert_companion.model.calendar import Calendar, Shift
+from pert_companion.model.errors import InputError
+from pert_companion.model.losses import Loss
+from pert_companion.model.plan import Group, Plan
 from pert_companion.readers.assigning import Assigner
 from pert_companion.readers.base import ReaderOptions, Reading
-from pert_companion.readers.cells import CellReader
-from pert_companion.readers.columns import AMOUNTS, Head, check_head, find_head
-from pert_companion.readers.entries import Entries, check_totals, make_entries, without_passed_over
+from pert_companion.readers.cells import common_currency, reader_of
+from pert_companion.readers.columns import Head, check_head, find_head
+from pert_companion.readers.entries import (
+    Entries,
+    check_totals,
+    make_entries,
+    without_passed_over,
+)
 from pert_companion.readers.grid import Grid, clip
 from pert_companion.readers.linking import Linker
-from pert_companion.readers.outline import Row, arrange
-from pert_companion.readers.rows import column_notes, labels_above, rows_below, without_heading
-from pert_companion.readers.style import find_style
-from pert_companion.readers.values import Cell, Style, Unreadable, currency_of, day, text_of
+from pert_companion.readers.outline import (
+    Labels,
+    arrange,
+    column_notes,
+    labels_above,
+    rows_below,
+    without_heading,
+)
 
 _START_OF_DAY = 8 * 60
 _MOST_MINUTES_BEFORE_BREAK = 4 * 60
@@ -32,21 +41,21 @@ def read_list(grid: Grid, options: ReaderOptions, file: str) -> Reading:
     Raises `InputError` if there is no row of headings, no task, or no first day.
     """
     head = check_head(find_head(grid.rows, options), options, file)
-    labels, notes = labels_above(grid.rows[: head.position])
+    labels = labels_above(grid.rows[: head.position])
     rows, repeated = rows_below(grid.rows, head)
-    found = find_style(rows, head, options, grid.separator, file)
-    reader = CellReader(head, found.style)
+    reader = reader_of(rows, head, options, grid.separator, file)
     outline = arrange(without_passed_over(rows, reader), head)
     entries = make_entries(outline.nodes, reader)
     if not entries.tasks():
         raise InputError(f"{file}: there is no task{_first_reason(reader.losses, file)}")
     check_totals(rows, entries, reader)
-    links = Linker(rows, entries, reader).links()
+    links = Linker(rows, entries, reader, file).links()
     assigner = Assigner(reader, grid.rates)
     for task, row in entries.tasks():
         assigner.add(task, row)
-    first, start_notes = _first_day(entries, options, labels, found.style, file)
-    notes = [*grid.notes, *notes, *column_notes(head), *repeated, *found.notes, *start_notes]
+    given = options.start or labels.day("start", reader.style)
+    first, start_notes = (given, []) if given else _earliest_start(entries, file)
+    notes = [*grid.notes, *labels.notes, *column_notes(head), *repeated, *reader.style_notes]
     plan = Plan(
         name=_plan_name(entries, options, labels, file),
         start=first,
@@ -55,13 +64,12 @@ def read_list(grid: Grid, options: ReaderOptions, file: str) -> Reading:
         links=links,
         resources=assigner.resources,
         assignments=assigner.assignments,
-        data_date=options.data_date or _labelled_day(labels, "data date", found.style),
-        currency=_currency(rows),
+        data_date=options.data_date or labels.day("data date", reader.style),
+        currency=common_currency(rows),
         source=grid.source,
-        notes=tuple([*notes, *outline.notes, *reader.notes]),
+        notes=(*notes, *start_notes, *outline.notes, *reader.notes),
     )
-    losses = [*outline.losses, *reader.losses]
-    in_order = _in_order(losses, head)
+    in_order = _in_order([*outline.losses, *reader.losses], head)
     return Reading(plan, (*grid.losses, *without_heading(grid.rows, head), *in_order))
 
 
@@ -109,26 +117,8 @@ def _shifts(day_minutes: int) -> tuple[Shift, ...]:
     return ((_START_OF_DAY, _START_OF_DAY + first), (second, second + rest))
 
 
-def _labelled_day(labels: Mapping[str, Cell], label: str, style: Style) -> date | None:
-    if label not in labels:
-        return None
-    try:
-        return day(labels[label], style)
-    except Unreadable:
-        return None
-
-
-def _first_day(
-    entries: Entries,
-    options: ReaderOptions,
-    labels: Mapping[str, Cell],
-    style: Style,
-    file: str,
-) -> tuple[date, list[str]]:
-    """Returns the first day of the project: as the user or the file says, or the earliest start."""
-    given = options.start or _labelled_day(labels, "start", style)
-    if given is not None:
-        return given, []
+def _earliest_start(entries: Entries, file: str) -> tuple[date, list[str]]:
+    """Returns the earliest start in the list for the project's first day, and a note of that."""
     days = []
     for task, _ in entries.tasks():
         for found in (task.listed_start, task.progress.actual_start):
@@ -146,25 +136,13 @@ def _first_day(
     return first, [note]
 
 
-def _plan_name(
-    entries: Entries, options: ReaderOptions, labels: Mapping[str, Cell], file: str
-) -> str:
+def _plan_name(entries: Entries, options: ReaderOptions, labels: Labels, file: str) -> str:
     """Returns the name of the plan: as the user or the list says, or of its only top group."""
     if options.name:
         return options.name
-    if "name" in labels:
-        return clip(" ".join(text_of(labels["name"]).split()), 200)
+    if "name" in labels.cells:
+        return clip(labels.text("name"), 200)
     top = [entry for entry in entries.of_node.values() if entry.parent is None]
     if len(top) == 1 and isinstance(top[0], Group):
         return top[0].name
     return Path(file).stem if file != "-" else "plan"
-
-
-def _currency(rows: Sequence[Row]) -> str:
-    """Returns the currency that all amounts show which show one; none if they differ."""
-    found = set()
-    for row in rows:
-        for name in AMOUNTS:
-            found.add(currency_of(row.cell(name)))
-    found.discard("")
-    return found.pop() if len(found) == 1 else ""

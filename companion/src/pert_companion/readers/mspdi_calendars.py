@@ -3,17 +3,18 @@
 from collections.abc import Iterator
 from dataclasses import dataclass
 from datetime import date
+from itertools import chain
 
-from pert_companion.calendar import (
+from pert_companion.model.calendar import (
     STANDARD_WEEK,
     Calendar,
     CalendarException,
     Shift,
     merged_shifts,
 )
-from pert_companion.losses import Loss, LossKind
-from pert_companion.readers.moments import day as day_of
-from pert_companion.readers.xmltree import Node, whole
+from pert_companion.model.losses import Loss, LossKind
+from pert_companion.model.moments import day as day_of
+from pert_companion.model.xmltree import Node, whole
 
 _DAILY = ("", "0", "1")
 _YEARLY = "2"
@@ -81,6 +82,7 @@ def _calendar(node: Node, base: Calendar | None, losses: list[Loss]) -> Calendar
         if not found:
             losses.append(_lost(node, part))
         exceptions.extend(found)
+    losses.extend(_lost_times(node))
     known = {(each.first, each.last, each.shifts) for each in exceptions}
     exceptions += [each for each in dated if (each.first, each.last, each.shifts) not in known]
     if base is not None:
@@ -91,7 +93,25 @@ def _calendar(node: Node, base: Calendar | None, losses: list[Loss]) -> Calendar
 def _lost(node: Node, part: Node) -> Loss:
     why = "this repeated exception of the calendar is not carried over; add its days"
     name = part.text("Name")[:60]
-    return Loss(LossKind.CALENDAR, f"calendar {node.text('Name')[:40]}", "", "Exception", name, why)
+    return Loss(
+        LossKind.CALENDAR,
+        f"calendar {node.text('Name')[:40]}",
+        "",
+        "Exception",
+        name,
+        why,
+    )
+
+
+def _lost_times(node: Node) -> Iterator[Loss]:
+    """Yields a loss for each working time of a calendar that has no begin and end of a day."""
+    days = chain(node.within("WeekDays", "WeekDay"), node.within("Exceptions", "Exception"))
+    for part in chain.from_iterable(day.within("WorkingTimes", "WorkingTime") for day in days):
+        texts = [part.text(name) for name in ("FromTime", "ToTime")]
+        if any(texts) and any(_minute(text) is None for text in texts):
+            where, shown = f"calendar {node.text('Name')[:40]}", " to ".join(texts)[:60]
+            why = "these are no times of a day; the calendar is used without them"
+            yield Loss(LossKind.CALENDAR, where, "", "WorkingTime", shown, why)
 
 
 def _exceptions(part: Node) -> Iterator[CalendarException]:

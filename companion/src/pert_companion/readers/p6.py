@@ -5,16 +5,18 @@ empty field.
 """
 
 from collections import Counter
-from collections.abc import Callable, Iterable, Iterator, Mapping
+from collections.abc import Iterable, Iterator, Mapping
 from dataclasses import dataclass, field, replace
 from datetime import date
 from decimal import Decimal
 from fractions import Fraction
+from functools import cached_property
 
-from pert_companion.calendar import Calendar
-from pert_companion.errors import InputError
-from pert_companion.losses import Loss, LossKind
-from pert_companion.plan import (
+from pert_companion.model import moments
+from pert_companion.model.calendar import Calendar
+from pert_companion.model.errors import InputError
+from pert_companion.model.losses import Loss, LossKind
+from pert_companion.model.plan import (
     Assignment,
     Baseline,
     Constraint,
@@ -30,12 +32,14 @@ from pert_companion.plan import (
     ResourceKind,
     Task,
 )
-from pert_companion.readers import crashing, moments
-from pert_companion.readers.base import Reading, ReaderOptions, Source
-from pert_companion.readers.crashing import CrashFields
+from pert_companion.model.source import Source
+from pert_companion.model.xmltree import decimal
+from pert_companion.readers import crashing, fields
+from pert_companion.readers.base import ReaderOptions, Reading
+from pert_companion.readers.fields import NamedPlace, TextReader
 from pert_companion.readers.grid import MOST_ROWS, clip
 from pert_companion.readers.p6_outline import Node, outline_order
-from pert_companion.readers.xmltree import decimal
+from pert_companion.readers.values import Unreadable
 
 _CONSTRAINTS = {
     "CS_ALAP": ConstraintKind.AS_LATE_AS_POSSIBLE,
@@ -60,6 +64,35 @@ _SPANS = {
     "TT_WBS": "a WBS summary spans other tasks; it is left out with its links",
 }
 _MOST_MINUTES = 10**9
+_FINISHED = "TK_Complete"
+_KINDS = {
+    "target_drtn_hr_cnt": LossKind.TASK,
+    "remain_drtn_hr_cnt": LossKind.PROGRESS,
+    "phys_complete_pct": LossKind.PROGRESS,
+    "act_work_qty": LossKind.PROGRESS,
+    "remain_work_qty": LossKind.PROGRESS,
+    "act_start_date": LossKind.PROGRESS,
+    "act_end_date": LossKind.PROGRESS,
+    "early_start_date": LossKind.DATE,
+    "early_end_date": LossKind.DATE,
+    "target_start_date": LossKind.DATE,
+    "target_end_date": LossKind.DATE,
+    "plan_start_date": LossKind.DATE,
+    "plan_end_date": LossKind.DATE,
+    "last_recalc_date": LossKind.DATE,
+    "cstr_date": LossKind.CONSTRAINT,
+    "cstr_date2": LossKind.CONSTRAINT,
+    "lag_hr_cnt": LossKind.LINK,
+    "pred_type": LossKind.LINK,
+    "clndr_id": LossKind.CALENDAR,
+    "wbs_id": LossKind.GROUP,
+    "cost_per_qty": LossKind.RESOURCE,
+    "target_qty": LossKind.RESOURCE,
+    "crash": LossKind.CRASH,
+    "slope": LossKind.CRASH,
+    "crash cost": LossKind.CRASH,
+}
+"""The kind of loss of each field that cannot be read; of costs if it is none of these."""
 
 
 @dataclass(frozen=True)
@@ -72,6 +105,11 @@ class Record:
     def text(self, name: str) -> str:
         """Returns the text of a field; an empty one if there is none."""
         return self.fields.get(name, "")
+
+    @property
+    def name(self) -> str:
+        """Returns the name of an activity, or else its id; empty for what is none."""
+        return title(self.text("task_name")) or self.text("task_code")
 
 
 @dataclass(frozen=True)
@@ -108,6 +146,7 @@ class _Reader:
         self.file = file
         self.options = options
         self.losses = list(file.losses)
+        self.fields = TextReader(_KINDS, self.losses, LossKind.COST)
         self.notes = list(file.notes)
         self.project = self.chosen_project()
         self.records = self.own_records("TASK")
@@ -120,7 +159,8 @@ class _Reader:
         self.calendar = self.plan_calendar()
         self.crash_types = self.user_fields()
         self.user_values = self.values_by_task()
-        self.costs = _Costs(file, self.losses, {row.text("task_id") for row in self.records})
+        self.costs = _Costs(file, self.fields, {row.text("task_id") for row in self.records})
+        self.items = {row.text("wbs_id") for row in self.own_records("PROJWBS")}
 
     def reading(self) -> Reading:
         """Returns the plan and its losses."""
@@ -136,20 +176,22 @@ class _Reader:
             first = f": {self.losses[0].line(source.name)}" if self.losses else ""
             raise InputError(first[2:] or f"{source.name}: no task can be carried over")
         name = self.options.name or self.project_name(order.root)
+        resources = {resource.uid: resource for resource in self.resources()}
         plan = Plan(
             name=name or source.path.stem,
-            start=self.start(),
+            start=self.start,
             calendar=self.calendar,
             outline=outline,
             links=tuple(self.links(tasks)),
-            resources=tuple(self.resources()),
-            assignments=tuple(self.assignments(tasks)),
+            resources=tuple(resources.values()),
+            assignments=tuple(self.assignments(tasks, resources)),
             data_date=self.data_date(),
+            must_finish=self.must_finish(),
             currency=self.currency(),
             source=self.file.format,
             notes=tuple(self.notes),
         )
-        return Reading(plan, tuple(self.losses))
+        return Reading(plan, tuple(dict.fromkeys(self.losses)))
 
     def chosen_project(self) -> Record:
         """Returns the project that has activities; `--name` chooses one of several."""
@@ -174,7 +216,7 @@ class _Reader:
     def project_name(self, root: Record | None) -> str:
         """Returns the name of the project: that of its top item, else its short name."""
         name = self.project.text("proj_name") or (root.text("wbs_name") if root else "")
-        return _title(name or self.project.text("proj_short_name"))
+        return title(name or self.project.text("proj_short_name"))
 
     def currency(self) -> str:
         """Returns the code of the file's base currency."""
@@ -185,11 +227,13 @@ class _Reader:
                 return row.text("curr_short_name")[:8]
         return ""
 
+    @cached_property
     def start(self) -> date:
         """Returns the first day of the project."""
-        start = self.options.start or moments.day(self.project.text("plan_start_date"))
+        start = self.options.start
+        start = start or self.fields.read(self.project, "plan_start_date", fields.day)
         if start is None:
-            listed = [moments.day(_listed_start(row)) for row in self.records]
+            listed = [moments.day(row.text(_field_of(row, _STARTS))) for row in self.records]
             start = min((day for day in listed if day is not None), default=None)
         if start is None:
             raise InputError(f"{self.file.source.name}: no start date; give one with --start")
@@ -198,12 +242,23 @@ class _Reader:
     def data_date(self) -> date | None:
         """Returns the day whose evening the progress is about.
 
-        P6's data date is a morning, so it is the working day before; None before the first day.
+        P6's data date is a morning, so it is the working day before. Before the first day it is
+        None: that of a plan that has not begun is the morning of its first day.
         """
         if self.options.data_date is not None:
             return self.options.data_date
-        day = moments.finish_day(self.calendar, _timed(self.project.text("last_recalc_date")))
-        return day if day is not None and day >= self.start() else None
+        day = self.fields.read(self.project, "last_recalc_date", self._evening_before)
+        return day if day is not None and day >= self.start else None
+
+    def _evening_before(self, text: str) -> date:
+        """Returns the last day of work before the moment of a data date."""
+        timed = f"{text}T00:00" if len(text) == len("2026-09-01") else text
+        return fields.finish_day(self.calendar)(timed)
+
+    def must_finish(self) -> date | None:
+        """Returns the day on which the project must finish by its contract, or None."""
+        convert = fields.finish_day(self.calendar)
+        return self.fields.read(self.project, "plan_end_date", convert)
 
     def plan_calendar(self) -> Calendar:
         """Returns the calendar of most activities, or the one that is asked for."""
@@ -271,16 +326,18 @@ class _Reader:
             return None
         minutes = 0 if kind in _MILESTONES else self.minutes(row, "target_drtn_hr_cnt")
         if minutes is None:
-            why = "this is no duration; the task is left out"
-            self.lose(LossKind.TASK, row, "target_drtn_hr_cnt", why)
+            if not row.text("target_drtn_hr_cnt"):
+                why = "there is no duration; the task is left out"
+                self.fields.lose(row, "target_drtn_hr_cnt", why)
             return None
+        self.name_unknown(row)
         constraint, deadline = self.constraints(row)
         own = self.calendar_of(row)
         uid = row.text("task_id")
         return Task(
             uid=uid,
             where=row.where,
-            name=_task_name(row),
+            name=row.name or uid,
             minutes=minutes,
             parent=parent,
             code=row.text("task_code")[:200],
@@ -288,19 +345,46 @@ class _Reader:
             cost=self.costs.planned.get(uid),
             constraint=constraint,
             deadline=deadline,
-            listed_start=_day_of(moments.start_day, own, _listed_start(row), minutes),
-            listed_finish=_day_of(moments.finish_day, own, _listed_finish(row), minutes),
+            listed_start=self.start_day(row, _field_of(row, _STARTS), minutes),
+            listed_finish=self.finish_day(row, _field_of(row, _FINISHES), minutes),
             progress=self.progress(row, minutes),
             baselines=self.file.baselines.get(row.text("task_code"), ()),
             calendar=own.name if _differs(own, self.calendar) else None,
         )
 
+    def start_day(self, row: Record, name: str, minutes: int) -> date | None:
+        """Returns the first day of work; a milestone has the day of its moment."""
+        convert = fields.day if minutes == 0 else fields.start_day(self.calendar_of(row))
+        return self.fields.read(row, name, convert)
+
+    def finish_day(self, row: Record, name: str, minutes: int) -> date | None:
+        """Returns the last day of work; a milestone has the day of its moment."""
+        convert = fields.day if minutes == 0 else fields.finish_day(self.calendar_of(row))
+        return self.fields.read(row, name, convert)
+
     def minutes(self, row: Record, name: str) -> int | None:
-        """Returns a number of hours of an activity in minutes of the plan's calendar, or None.
+        """Returns a duration of an activity in minutes of the plan's calendar, or None.
 
         A day of the activity's own calendar counts as a day of the plan's.
         """
-        return _minutes(row.text(name), self.calendar_of(row), self.calendar)
+
+        def convert(text: str) -> int:
+            found = _minutes(text, self.calendar_of(row), self.calendar)
+            if found is None or found < 0:
+                raise Unreadable("this is no duration")
+            return found
+
+        return self.fields.read(row, name, convert)
+
+    def name_unknown(self, row: Record) -> None:
+        """Adds a loss of an activity whose item or calendar is not in a file that has some."""
+        item, calendar = row.text("wbs_id"), row.text("clndr_id")
+        if item and self.items and item not in self.items:
+            why = "there is no item of the WBS with this id; the task is put at the top"
+            self.fields.lose(row, "wbs_id", why)
+        if calendar and self.file.calendars and calendar not in self.file.calendars:
+            why = "there is no calendar with this id; the plan's is used"
+            self.fields.lose(row, "clndr_id", why)
 
     def constraints(self, row: Record) -> tuple[Constraint | None, date | None]:
         """Returns the constraint and the deadline of an activity.
@@ -333,12 +417,11 @@ class _Reader:
         if kind is ConstraintKind.AS_LATE_AS_POSSIBLE:
             return Constraint(kind, None)
         is_finish = kind.value.startswith("finish") or kind is ConstraintKind.MUST_FINISH
-        when = row.text(day_name)
-        day = moments.finish_day(self.calendar, when) if is_finish else moments.day(when)
-        if day is None:
-            self.lose(LossKind.CONSTRAINT, row, day_name, f"{kind.value} without a date")
-            return None
-        return Constraint(kind, day)
+        convert = fields.finish_day(self.calendar) if is_finish else fields.day
+        day = self.fields.read(row, day_name, convert)
+        if day is None and not row.text(day_name):
+            self.fields.lose(row, day_name, f"{kind.value} without a date")
+        return None if day is None else Constraint(kind, day)
 
     def progress(self, row: Record, minutes: int) -> Progress:
         """Returns what the file says of work done."""
@@ -348,20 +431,33 @@ class _Reader:
         if row.text("suspend_date") and status == "TK_Active":
             why = "a suspended activity goes on in one piece"
             self.lose(LossKind.PAUSE, row, "suspend_date", why)
+        is_finished = status == _FINISHED
         uid = row.text("task_id")
-        remaining = 0 if status == "TK_Complete" else self.minutes(row, "remain_drtn_hr_cnt")
-        percent = Decimal(100) if status == "TK_Complete" else _percent(row, minutes, remaining)
-        finish = row.text("act_end_date") if status == "TK_Complete" else ""
+        remaining = 0 if is_finished else self.minutes(row, "remain_drtn_hr_cnt")
         return Progress(
-            percent=percent,
-            actual_start=_day_of(
-                moments.start_day, self.calendar_of(row), row.text("act_start_date"), minutes
-            ),
-            actual_finish=moments.finish_day(self.calendar_of(row), finish),
+            percent=Decimal(100) if is_finished else self.percent(row, minutes, remaining),
+            actual_start=self.start_day(row, "act_start_date", minutes),
+            actual_finish=self.finish_day(row, "act_end_date", minutes) if is_finished else None,
             remaining=remaining,
             actual_cost=self.costs.actual.get(uid),
             remaining_cost=self.costs.remaining.get(uid),
         )
+
+    def percent(self, row: Record, minutes: int, remaining: int | None) -> Decimal | None:
+        """Returns percent complete as the activity's type of it says; None if it is unreadable."""
+        kind = row.text("complete_pct_type")
+        if kind == "CP_Phys":
+            text = row.text("phys_complete_pct") or "0"
+            percent = self.fields.taken(row, "phys_complete_pct", text, fields.percentage)
+            return None if percent is None else _rounded(percent)
+        if kind == "CP_Units":
+            done = self.fields.read(row, "act_work_qty", fields.positive) or Decimal(0)
+            left = self.fields.read(row, "remain_work_qty", fields.positive) or Decimal(0)
+            if done + left > 0:
+                return _rounded(Decimal(100) * done / (done + left))
+        if minutes <= 0 or remaining is None:
+            return Decimal(0)
+        return _rounded(Decimal(100) * max(0, minutes - remaining) / minutes)
 
     def user_fields(self) -> dict[str, str]:
         """Returns the name in small letters of each user-defined field of activities, by its id."""
@@ -389,14 +485,9 @@ class _Reader:
             texts = (self.user_values.get((uid, name), "") for name in names)
             return next((text for text in texts if text), "")
 
-        found: CrashFields = crashing.find_fields(look_up, self.options)
-        if not found.shortest:
-            return None
-        shortest = crashing.minutes_of(found.shortest, self.calendar)
-        crash, why = crashing.crash_of(shortest, decimal(found.slope), decimal(found.cost), minutes)
-        if why:
-            self.lose(LossKind.CRASH, row, "crash", why, found.shortest)
-        return crash
+        found = crashing.find_fields(look_up, self.options)
+        shortest = crashing.minutes_of(self.calendar)
+        return crashing.crash_of(self.fields, row, found, minutes, shortest)
 
     def links(self, tasks: Mapping[str, Task]) -> Iterator[Link]:
         """Yields the links between tasks; others are losses, unless an end is a span."""
@@ -428,18 +519,20 @@ class _Reader:
 
     def link(self, row: Record, before: Record, after: Record) -> Link | None:
         """Returns a link, or None and a loss."""
-        text = row.text("lag_hr_cnt")
-        lag = _minutes(text, self.calendar_of(before), self.calendar) if text else 0
-        kind = _LINK_KINDS.get(row.text("pred_type") or "PR_FS")
+
+        def lag_of(text: str) -> Lag:
+            minutes = _minutes(text, self.calendar_of(before), self.calendar)
+            if minutes is None:
+                raise Unreadable("this is no lag; the link is left out")
+            return Lag(minutes)
+
+        place = NamedPlace(row.where, after.name)
+        kind = self.fields.taken(place, "pred_type", row.text("pred_type") or "PR_FS", _link_kind)
+        lag = self.fields.taken(place, "lag_hr_cnt", row.text("lag_hr_cnt") or "0", lag_of)
         if lag is None or kind is None:
-            field_name = "pred_type" if kind is None else "lag_hr_cnt"
-            shown = clip(row.text(field_name), 60)
-            why = "this is no kind of link" if kind is None else "this is no lag"
-            name = _task_name(after)
-            self.losses.append(Loss(LossKind.LINK, row.where, name, field_name, shown, why))
             return None
         shown = clip(before.text("task_code") or before.text("task_id"))
-        return Link(before.text("task_id"), after.text("task_id"), kind, Lag(lag), row.where, shown)
+        return Link(before.text("task_id"), after.text("task_id"), kind, lag, row.where, shown)
 
     def resources(self) -> Iterator[Resource]:
         """Yields the resources and roles that have a name."""
@@ -451,13 +544,13 @@ class _Reader:
             is_material = row.text("rsrc_type") == "RT_Mat"
             yield Resource(
                 uid=uid,
-                name=_title(row.text("rsrc_name") or row.text("rsrc_short_name") or uid),
+                name=title(row.text("rsrc_name") or row.text("rsrc_short_name") or uid),
                 kind=ResourceKind.MATERIAL if is_material else ResourceKind.WORK,
                 unit=units.get(row.text("unit_id"), "") or "units" if is_material else "h",
                 rate=rates.get(uid),
             )
         for row in self.file.table("ROLES"):
-            yield Resource(_role_id(row), _title(row.text("role_name")))
+            yield Resource(_role_id(row), title(row.text("role_name")))
 
     def rates(self) -> dict[str, Decimal]:
         """Returns the first rate of each resource; later ones are noted."""
@@ -465,7 +558,7 @@ class _Reader:
         changed = set()
         for row in self.file.table("RSRCRATE"):
             uid, day = row.text("rsrc_id"), row.text("start_date")
-            rate = decimal(row.text("cost_per_qty"))
+            rate = self.fields.read(row, "cost_per_qty", fields.amount)
             if rate is None:
                 continue
             if uid in found and found[uid][1] != rate:
@@ -478,9 +571,10 @@ class _Reader:
             )
         return {uid: rate for uid, (_, rate) in found.items()}
 
-    def assignments(self, tasks: Mapping[str, Task]) -> Iterator[Assignment]:
+    def assignments(
+        self, tasks: Mapping[str, Task], known: Mapping[str, Resource]
+    ) -> Iterator[Assignment]:
         """Yields how much of each resource a task uses: minutes of work, or units."""
-        known = {resource.uid: resource for resource in self.resources()}
         others = {row.text("task_id") for row in self.file.table("TASK")} - set(tasks)
         for row in self.file.table("TASKRSRC"):
             uid, quantity = row.text("task_id"), decimal(row.text("target_qty"))
@@ -511,17 +605,17 @@ class _Reader:
     def lose(self, kind: LossKind, row: Record, name: str, why: str, text: str = "") -> None:
         """Adds a loss of an activity."""
         shown = clip(text or row.text(name), 60)
-        self.losses.append(Loss(kind, row.where, _task_name(row), name, shown, why))
+        self.losses.append(Loss(kind, row.where, row.name, name, shown, why))
 
 
 class _Costs:
     """The costs of activities: those of their resources and their expenses, added up."""
 
-    def __init__(self, file: P6File, losses: list[Loss], known: set[str]) -> None:
+    def __init__(self, file: P6File, reader: TextReader, known: set[str]) -> None:
         self.planned: dict[str, Decimal] = {}
         self.actual: dict[str, Decimal] = {}
         self.remaining: dict[str, Decimal] = {}
-        self._losses = losses
+        self._fields = reader
         every = {row.text("task_id") for row in file.table("TASK")}
         for row in [*file.table("TASKRSRC"), *file.table("PROJCOST")]:
             uid = row.text("task_id")
@@ -537,29 +631,18 @@ class _Costs:
             (self.remaining, ("remain_cost",)),
         ):
             for name in names:
-                amount = self._amount(row, name)
+                amount = self._fields.read(row, name, fields.amount)
                 if amount is not None:
                     held[uid] = held.get(uid, Decimal(0)) + amount
 
-    def _amount(self, row: Record, name: str) -> Decimal | None:
-        text = row.text(name)
-        amount = decimal(text)
-        if amount is None and text:
-            self._lose(row, name, "this is no amount")
-        return amount
-
     def _name_unknown(self, row: Record) -> None:
         if row.text("target_cost"):
-            self._lose(row, "target_cost", "there is no such activity")
-
-    def _lose(self, row: Record, name: str, why: str) -> None:
-        shown = clip(row.text(name), 60)
-        self._losses.append(Loss(LossKind.COST, row.where, "", name, shown, why))
+            self._fields.lose(row, "target_cost", "there is no such activity")
 
 
 def _group(row: Record, parent: str | None) -> Group:
     code = row.text("wbs_short_name")[:200]
-    name = _title(row.text("wbs_name")) or code
+    name = title(row.text("wbs_name")) or code
     return Group("W" + row.text("wbs_id"), row.where, name, parent, code)
 
 
@@ -574,46 +657,24 @@ def _minutes(text: str, own: Calendar, plan: Calendar) -> int | None:
     return round(minutes)
 
 
-def _percent(row: Record, minutes: int, remaining: int | None) -> Decimal:
-    """Returns percent complete as the activity's type of it says."""
-    kind = row.text("complete_pct_type")
-    if kind == "CP_Phys":
-        return _bounded(decimal(row.text("phys_complete_pct")) or Decimal(0))
-    if kind == "CP_Units":
-        done = decimal(row.text("act_work_qty")) or Decimal(0)
-        left = decimal(row.text("remain_work_qty")) or Decimal(0)
-        if done + left > 0:
-            return _bounded(Decimal(100) * done / (done + left))
-    if minutes <= 0 or remaining is None:
-        return Decimal(0)
-    return _bounded(Decimal(100) * (minutes - remaining) / minutes)
+def _rounded(percent: Decimal) -> Decimal:
+    """Returns a percentage with at most two decimals."""
+    return percent.quantize(Decimal("0.01")).normalize() + 0
 
 
-def _bounded(percent: Decimal) -> Decimal:
-    """Returns a percentage from 0 to 100 with at most two decimals."""
-    return min(max(percent, Decimal(0)), Decimal(100)).quantize(Decimal("0.01")).normalize() + 0
+def _link_kind(text: str) -> LinkKind:
+    if text not in _LINK_KINDS:
+        raise Unreadable("this is no kind of link; the link is left out")
+    return _LINK_KINDS[text]
 
 
-def _listed_start(row: Record) -> str:
-    names = ("act_start_date", "early_start_date", "target_start_date")
-    return next((row.text(name) for name in names if row.text(name)), "")
+_STARTS = ("act_start_date", "early_start_date", "target_start_date")
+_FINISHES = ("act_end_date", "early_end_date", "target_end_date")
 
 
-def _listed_finish(row: Record) -> str:
-    names = ("act_end_date", "early_end_date", "target_end_date")
-    return next((row.text(name) for name in names if row.text(name)), "")
-
-
-def _day_of(
-    read: Callable[[Calendar, str], date | None], own: Calendar, text: str, minutes: int
-) -> date | None:
-    """Returns the day of work of a start or finish; a milestone has the day of its moment."""
-    return moments.day(text) if minutes == 0 else read(own, text)
-
-
-def _timed(text: str) -> str:
-    """Returns a date as the moment of its midnight: P6's data dates are mornings."""
-    return f"{text}T00:00" if len(text) == len("2026-09-01") else text
+def _field_of(row: Record, names: tuple[str, ...]) -> str:
+    """Returns the first of these fields that an activity has."""
+    return next((name for name in names if row.text(name)), names[-1])
 
 
 def _differs(own: Calendar, plan: Calendar) -> bool:
@@ -627,9 +688,5 @@ def _role_id(row: Record) -> str:
     return "role-" + row.text("role_id")
 
 
-def _task_name(row: Record) -> str:
-    return _title(row.text("task_name")) or row.text("task_code") or row.text("task_id")
-
-
-def _title(text: str) -> str:
+def title(text: str) -> str:
     return clip(" ".join(text.split()), 2000)

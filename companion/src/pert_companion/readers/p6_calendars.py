@@ -10,7 +10,7 @@ from dataclasses import dataclass, field
 from datetime import date, timedelta
 from fractions import Fraction
 
-from pert_companion.calendar import (
+from pert_companion.model.calendar import (
     STANDARD_DAY,
     STANDARD_WEEK,
     Calendar,
@@ -18,7 +18,7 @@ from pert_companion.calendar import (
     Shift,
     merged_shifts,
 )
-from pert_companion.readers.xmltree import decimal, whole
+from pert_companion.model.xmltree import decimal, whole
 
 MOST_CHARACTERS = 4_000_000
 MOST_LEVELS = 12

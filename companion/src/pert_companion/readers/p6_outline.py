@@ -4,8 +4,8 @@ from collections.abc import Sequence
 from dataclasses import dataclass
 from typing import TYPE_CHECKING
 
-from pert_companion.errors import InputError
-from pert_companion.readers.xmltree import decimal
+from pert_companion.model.errors import InputError
+from pert_companion.model.xmltree import decimal
 
 if TYPE_CHECKING:
     from pert_companion.readers.p6 import Record
@@ -23,7 +23,10 @@ class Node:
     def order(self) -> tuple[float, str]:
         """Returns what items below the same one are sorted by."""
         number = decimal(self.record.text("seq_num"))
-        return (float(number) if number is not None else 0.0, self.record.text("wbs_short_name"))
+        return (
+            float(number) if number is not None else 0.0,
+            self.record.text("wbs_short_name"),
+        )
 
 
 @dataclass(frozen=True)

@@ -3,22 +3,26 @@
 from collections.abc import Iterator, Mapping
 from dataclasses import dataclass, field
 from decimal import Decimal
+from functools import cached_property
 
-from pert_companion.calendar import (
+from pert_companion.model.calendar import (
     STANDARD_WEEK,
     Calendar,
     CalendarException,
     Shift,
     merged_shifts,
 )
-from pert_companion.errors import InputError
-from pert_companion.losses import Loss, LossKind
-from pert_companion.plan import Baseline
-from pert_companion.readers import moments, p6, p6_calendars
-from pert_companion.readers.base import Reading, ReaderOptions, Source
+from pert_companion.model.errors import InputError
+from pert_companion.model.losses import Loss, LossKind
+from pert_companion.model.plan import Baseline
+from pert_companion.model.source import Source
+from pert_companion.model.xmltree import Node, decimal, head_text, local_name, parse
+from pert_companion.readers import fields, p6, p6_calendars
+from pert_companion.readers.base import ReaderOptions, Reading
+from pert_companion.readers.fields import NamedPlace, TextReader
 from pert_companion.readers.grid import clip
 from pert_companion.readers.p6 import P6File, Record
-from pert_companion.readers.xmltree import Node, decimal, head_text, local_name, parse
+from pert_companion.readers.values import Unreadable
 
 NAMESPACE = "http://xmlns.oracle.com/Primavera/P6"
 _ROOT = "APIBusinessObjects"
@@ -67,6 +71,7 @@ _PROJECT = {
     "proj_short_name": "Id",
     "proj_name": "Name",
     "plan_start_date": "PlannedStartDate",
+    "plan_end_date": "MustFinishByDate",
     "last_recalc_date": "DataDate",
     "clndr_id": "ActivityDefaultCalendarObjectId",
 }
@@ -155,6 +160,8 @@ _OF_PROJECT = (
     ("TASKRSRC", "ResourceAssignment", _ASSIGNMENT),
     ("PROJCOST", "ActivityExpense", _EXPENSE),
 )
+_BASELINE_COSTS = ("PlannedLaborCost", "PlannedNonLaborCost", "PlannedExpenseCost")
+_MOST_HOURS = 10**8
 _WEEKDAYS = ("Monday", "Tuesday", "Wednesday", "Thursday", "Friday", "Saturday", "Sunday")
 
 
@@ -190,6 +197,11 @@ class _Tables:
     held: dict[str, list[Record]] = field(default_factory=dict)
     losses: list[Loss] = field(default_factory=list)
 
+    @cached_property
+    def fields(self) -> TextReader:
+        """Returns the reader of what is no field of XER: calendars and baselines."""
+        return TextReader({"Date": LossKind.CALENDAR}, self.losses, LossKind.BASELINE)
+
     def read(self) -> None:
         """Reads all tables."""
         for table, element, names in _SHARED:
@@ -215,10 +227,11 @@ class _Tables:
     def add_activity(self, node: Node, own: Mapping[str, str]) -> None:
         """Adds an activity and its user-defined fields."""
         record = _record(node, "Activity", _TASK)
-        physical = decimal(node.text("PhysicalPercentComplete"))
+        text = node.text("PhysicalPercentComplete")
+        share = decimal(text)
         extra = dict(own)
-        if physical is not None:
-            extra["phys_complete_pct"] = str(physical * 100)
+        if text:
+            extra["phys_complete_pct"] = text if share is None else str(share * 100)
         where = f"activity {clip(record.text('task_code') or record.text('task_id'), 40)}"
         self.add("TASK", Record(where, {**record.fields, **extra}))
         for value in node.children("UDF"):
@@ -273,7 +286,8 @@ class _Tables:
                 week[_WEEKDAYS.index(part.text("DayOfWeek"))] = _shifts(part)
         exceptions = []
         for part in node.within("HolidayOrExceptions", "HolidayOrException"):
-            day = moments.day(part.text("Date"))
+            place = NamedPlace(f"calendar {name}")
+            day = self.fields.part(place, part, "Date", fields.day)
             if day is not None:
                 exceptions.append(CalendarException(day, day, "", _shifts(part)))
         return Calendar(
@@ -290,8 +304,24 @@ class _Tables:
             numbers[original] = number + 1
             for node in project.children("Activity"):
                 code = node.text("Id")
-                found[code] = (*found.get(code, ()), _baseline(node, number))
+                found[code] = (*found.get(code, ()), self.baseline(node, number))
         return found
+
+    def baseline(self, node: Node, number: int) -> Baseline:
+        """Returns the baseline that an activity of a baseline project is."""
+        place = NamedPlace(f"activity {clip(node.text('Id'), 40)}", node.text("Name"))
+        read = self.fields.part
+        start = "StartDate" if node.text("StartDate") else "PlannedStartDate"
+        finish = "FinishDate" if node.text("FinishDate") else "PlannedFinishDate"
+        amounts = [read(place, node, name, fields.amount) for name in _BASELINE_COSTS]
+        known = [amount for amount in amounts if amount is not None]
+        return Baseline(
+            number,
+            read(place, node, start, fields.day),
+            read(place, node, finish, fields.finish_day(Calendar())),
+            read(place, node, "PlannedDuration", _minutes),
+            sum(known, Decimal(0)) if known else None,
+        )
 
 
 def _record(node: Node, element: str, names: Mapping[str, str]) -> Record:
@@ -318,22 +348,12 @@ def _number_of(value: Node) -> str:
     return ""
 
 
-def _baseline(node: Node, number: int) -> Baseline:
-    hours = decimal(node.text("PlannedDuration"))
-    finish = node.text("FinishDate") or node.text("PlannedFinishDate")
-    return Baseline(
-        number,
-        moments.day(node.text("StartDate") or node.text("PlannedStartDate")),
-        moments.finish_day(Calendar(), finish),
-        None if hours is None or hours > 10**8 else int(hours * 60),
-        _sum(node, ("PlannedLaborCost", "PlannedNonLaborCost", "PlannedExpenseCost")),
-    )
-
-
-def _sum(node: Node, names: tuple[str, ...]) -> Decimal | None:
-    amounts = [decimal(node.text(name)) for name in names]
-    known = [amount for amount in amounts if amount is not None]
-    return sum(known, Decimal(0)) if known else None
+def _minutes(text: str) -> int:
+    """Returns a number of hours in minutes."""
+    hours = decimal(text)
+    if hours is None or not 0 <= hours <= _MOST_HOURS:
+        raise Unreadable("this is no duration")
+    return int(hours * 60)
 
 
 def _shifts(node: Node) -> tuple[Shift, ...]:

@@ -6,7 +6,7 @@ from dataclasses import dataclass, replace
 from datetime import date
 from decimal import Decimal
 
-from pert_companion.errors import InputError
+from pert_companion.model.errors import InputError
 from pert_companion.readers.base import ReaderOptions
 from pert_companion.readers.columns import AMOUNTS, DATES, DURATIONS, Head
 from pert_companion.readers.grid import clip
@@ -61,11 +61,11 @@ def _marks_in(cell: Cell) -> set[str]:
 
 
 def _find_decimal(
-    rows: Sequence[Row], head: Head, separator: str, file: str
+    rows: Sequence[Row], head: Head, numbers: Sequence[str], separator: str, file: str
 ) -> tuple[str, str | None]:
     """Returns the decimal mark, by the separator if no number shows it, and a note then."""
     shown: dict[str, str] = {}
-    names = [name for name in (*DURATIONS, *AMOUNTS, "percent") if name in head.columns]
+    names = [name for name in numbers if name in head.columns]
     for row in rows:
         for name in names:
             for mark in _marks_in(row.cell(name)):
@@ -120,17 +120,19 @@ def _fits(year: int, month: int, day: int, weekday: int | None) -> bool:
     return weekday is None or found.weekday() == weekday
 
 
-def _dates_of(rows: Sequence[Row], head: Head) -> Iterator[Cell]:
+def _dates_of(rows: Sequence[Row], head: Head, dates: Sequence[str]) -> Iterator[Cell]:
     """Yields the cells of the columns of dates, column by column."""
-    for name in DATES:
+    for name in dates:
         if name in head.columns:
             for row in rows:
                 yield row.cell(name)
 
 
-def _find_order(rows: Sequence[Row], head: Head, file: str) -> tuple[bool, str | None]:
+def _find_order(
+    rows: Sequence[Row], head: Head, dates: Sequence[str], file: str
+) -> tuple[bool, str | None]:
     """Returns whether dates such as 03/04/2026 have the day first, and a note if it was assumed."""
-    day_first, month_first, open_date = _votes(_dates_of(rows, head))
+    day_first, month_first, open_date = _votes(_dates_of(rows, head, dates))
     if day_first and month_first:
         raise InputError(
             f"{file}: in {day_first} the day is first and in {month_first} the month: "
@@ -141,6 +143,20 @@ def _find_order(rows: Sequence[Row], head: Head, file: str) -> tuple[bool, str |
     return False, (
         f"dates such as {open_date} are read month first; if the day comes first, say --day-first"
     )
+
+
+def is_day_first(cells: Iterable[Cell], file: str) -> bool:
+    """Returns whether dates such as 03/04/2026 have the day first; the month is, if none shows it.
+
+    Raises `InputError` if some show the one and some the other.
+    """
+    day_first, month_first, _ = _votes(cells)
+    if day_first and month_first:
+        raise InputError(
+            f"{file}: in {day_first} the day is first and in {month_first} the month: "
+            "write dates as 2024-03-15"
+        )
+    return bool(day_first)
 
 
 def _percent_factor(rows: Sequence[Row], style: Style) -> int:
@@ -157,8 +173,21 @@ def _percent_factor(rows: Sequence[Row], style: Style) -> int:
     return 100 if any(values) and all(0 <= value <= 1 for value in values) else 1
 
 
+@dataclass(frozen=True)
+class Columns:
+    """The fields of a list whose cells show how it writes its values."""
+
+    numbers: tuple[str, ...] = (*DURATIONS, *AMOUNTS, "percent")
+    dates: tuple[str, ...] = DATES
+
+
 def find_style(
-    rows: Sequence[Row], head: Head, options: ReaderOptions, separator: str, file: str
+    rows: Sequence[Row],
+    head: Head,
+    options: ReaderOptions,
+    separator: str,
+    file: str,
+    columns: Columns = Columns(),
 ) -> FoundStyle:
     """Returns how the list writes its values; what the user said comes first.
 
@@ -172,11 +201,11 @@ def find_style(
     )
     decimal, note = options.decimal, None
     if not decimal:
-        decimal, note = _find_decimal(rows, head, separator, file)
+        decimal, note = _find_decimal(rows, head, columns.numbers, separator, file)
     notes.append(note)
     day_first, note = bool(options.day_first), None
     if options.day_first is None:
-        day_first, note = _find_order(rows, head, file)
+        day_first, note = _find_order(rows, head, columns.dates, file)
     notes.append(note)
     style = replace(style, decimal=decimal, day_first=day_first)
     factor = _percent_factor(rows, style)

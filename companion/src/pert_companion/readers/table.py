@@ -7,10 +7,11 @@ Rows end at a line feed or a carriage return alone: U+2028, U+2029 and U+0085 ar
 import codecs
 import csv
 import io
-from collections.abc import Iterator
+from collections.abc import Callable, Iterator, Sequence
 
-from pert_companion.errors import InputError
-from pert_companion.readers.base import ReaderOptions, Reading, Source
+from pert_companion.model.errors import InputError
+from pert_companion.model.source import Source
+from pert_companion.readers.base import ReaderOptions, Reading
 from pert_companion.readers.columns import ROWS_ABOVE_HEAD, find_head
 from pert_companion.readers.grid import (
     MOST_CELL_CHARACTERS,
@@ -42,12 +43,15 @@ _OTHER_FILES = (
 )
 _FALLBACK = "cp1252"
 
+HeadingCount = Callable[[Sequence[GridRow]], int]
+"""Counts the headings that the first rows of a list have."""
+
 
 def matches(data: bytes) -> bool:
     """Says whether bytes may be a list as text: a text that has a row of headings."""
     try:
         text, _ = decode(data, "", "")
-        _, rows = _head_rows(text, "")
+        _, rows = _head_rows(text, "", _task_headings(ReaderOptions()))
     except InputError:
         return False
     head = find_head(rows, ReaderOptions())
@@ -66,9 +70,14 @@ def read(source: Source, options: ReaderOptions) -> Reading:
 
 def read_grid(source: Source, options: ReaderOptions) -> Grid:
     """Returns the cells of a list as text."""
+    return grid_of(source, options, _task_headings(options))
+
+
+def grid_of(source: Source, options: ReaderOptions, headings_in: HeadingCount) -> Grid:
+    """Returns the cells of a list as text, separated so that most headings are found."""
     file = source.name
     text, assumed = decode(source.data, options.encoding, file)
-    separator, _ = _head_rows(text, file, options)
+    separator, _ = _head_rows(text, file, headings_in)
     notes = (f"the file is not UTF-8; it is read as {assumed}",) if assumed else ()
     body = _named_separator(text)[1]
     if body.count(separator) > MOST_CELLS:
@@ -164,11 +173,18 @@ def _fault(text: str) -> str:
     return text
 
 
-def _head_rows(
-    text: str, file: str, options: ReaderOptions | None = None
-) -> tuple[str, list[GridRow]]:
+def _task_headings(options: ReaderOptions) -> HeadingCount:
+    """Returns what counts the headings of a task list in its first rows."""
+
+    def count(rows: Sequence[GridRow]) -> int:
+        head = find_head(rows, options)
+        return 0 if head is None else len(head.columns)
+
+    return count
+
+
+def _head_rows(text: str, file: str, headings_in: HeadingCount) -> tuple[str, list[GridRow]]:
     """Returns the separator with which most headings are found, and the first rows by it."""
-    options = options or ReaderOptions()
     named, body = _named_separator(text)
     body = body[:HEAD_CHARACTERS]
     best: tuple[int, str, list[GridRow]] = (0, named or ",", [])
@@ -182,9 +198,9 @@ def _head_rows(
                     break
         except InputError as reason:
             fault = fault or reason
-        head = find_head(rows, options)
-        if head is not None and len(head.columns) > best[0]:
-            best = (len(head.columns), separator, rows)
+        found = headings_in(rows)
+        if found > best[0]:
+            best = (found, separator, rows)
     if not best[0] and fault is not None:
         raise fault
     return best[1], best[2]

@@ -28,7 +28,13 @@ UNITS: dict[str, tuple[str, ...]] = {
     "weeks": ("w", "wk", "wks", "week", "weeks", "wo", "woche", "wochen"),
     "months": ("mo", "mon", "mons", "month", "months", "monat", "monate", "monaten"),
 }
-_ELAPSED_MINUTES = {"minutes": 1, "hours": 60, "days": 1440, "weeks": 10080, "months": 43200}
+_ELAPSED_MINUTES = {
+    "minutes": 1,
+    "hours": 60,
+    "days": 1440,
+    "weeks": 10080,
+    "months": 43200,
+}
 
 NO = frozenset(("", "no", "nein", "n", "false", "falsch", "0"))
 NOTHING = frozenset(("", "na", "nv", "n/a", "-", "--", "–", "none", "keine", "keiner"))

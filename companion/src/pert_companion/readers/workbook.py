@@ -21,9 +21,15 @@ from openpyxl.styles.numbers import is_timedelta_format
 from openpyxl.utils import range_boundaries
 from openpyxl.utils.datetime import to_excel
 
-from pert_companion.errors import InputError
-from pert_companion.losses import Loss, LossKind
-from pert_companion.readers.grid import MOST_CELL_CHARACTERS, MOST_COLUMNS, MOST_ROWS, GridRow, clip
+from pert_companion.model.errors import InputError
+from pert_companion.model.losses import Loss, LossKind
+from pert_companion.readers.grid import (
+    MOST_CELL_CHARACTERS,
+    MOST_COLUMNS,
+    MOST_ROWS,
+    GridRow,
+    clip,
+)
 from pert_companion.readers.values import Cell, Measure, Share, unit_of
 
 MOST_BYTES = 64 * 1024 * 1024
@@ -32,11 +38,19 @@ MOST_ENTRIES = 5_000
 MOST_ELEMENTS = 800_000
 """The most XML elements of a sheet, and of all parts that every sheet shares."""
 MOST_MERGED_ROWS = 100_000
+MOST_MERGED = 50_000
+"""The most ranges of merged cells of a sheet."""
 _SHARED_PARTS = ("xl/workbook.xml", "xl/styles.xml", "xl/sharedStrings.xml")
 _BEGINNING = 64 * 1024
 _NAMESPACE = "{http://schemas.openxmlformats.org/spreadsheetml/2006/main}"
 _QUOTED = re.compile(r'"([^"]{1,20})"')
 _LARGEST_NUMBER = 10**15
+_MOST_FORMAT_BYTES = 255 * len("&quot;")
+"""The longest number format of Excel in XML, where a character may be an entity."""
+_LONG_FORMAT = re.compile(
+    rb"formatCode\s*=\s*(?:\"[^\"]{%d}|'[^']{%d})"
+    % (_MOST_FORMAT_BYTES + 1, _MOST_FORMAT_BYTES + 1)
+)
 
 
 @dataclass(frozen=True)
@@ -93,7 +107,14 @@ class Book:
         try:
             with self._archive.open(part) as stream:
                 begin = stream.read(_BEGINNING)
-        except (zipfile.BadZipFile, zlib.error, EOFError, RuntimeError, ValueError, OSError):
+        except (
+            zipfile.BadZipFile,
+            zlib.error,
+            EOFError,
+            RuntimeError,
+            ValueError,
+            OSError,
+        ):
             return False
         return b"dimension" in begin and b"<!" not in begin
 
@@ -183,7 +204,13 @@ class Book:
             if info.file_size > MOST_BYTES:
                 raise InputError(f"{self._file}: {part} unpacks to more than {MOST_BYTES} bytes")
             data = self._archive.read(part)
-        except (zipfile.BadZipFile, zlib.error, EOFError, KeyError, RuntimeError) as reason:
+        except (
+            zipfile.BadZipFile,
+            zlib.error,
+            EOFError,
+            KeyError,
+            RuntimeError,
+        ) as reason:
             raise InputError(f"{self._file}: {part} is damaged or cut off") from reason
         except (NotImplementedError, OSError, ValueError) as reason:
             raise InputError(f"{self._file}: {part} cannot be unpacked") from reason
@@ -191,6 +218,12 @@ class Book:
             raise InputError(f"{self._file}: {part} has a document type, which no workbook has")
         if data.count(b"</") + data.count(b"/>") > MOST_ELEMENTS:
             raise InputError(f"{self._file}: {part} has more than {MOST_ELEMENTS} elements")
+        if data.count(b"<mergeCell ") > MOST_MERGED:
+            raise InputError(f"{self._file}: {part} has more than {MOST_MERGED} merged ranges")
+        if _LONG_FORMAT.search(data):
+            raise InputError(
+                f"{self._file}: {part} has a number format of more than 255 characters"
+            )
         self._checked.add(part)
 
     def _shape(self, part: str) -> _Shape:

@@ -3,11 +3,12 @@
 from collections.abc import Iterator
 from dataclasses import dataclass, field
 
-from pert_companion.calendar import Calendar
-from pert_companion.errors import InputError
-from pert_companion.losses import Loss, LossKind
+from pert_companion.model.calendar import Calendar
+from pert_companion.model.errors import InputError
+from pert_companion.model.losses import Loss, LossKind
+from pert_companion.model.source import Source
 from pert_companion.readers import p6, p6_calendars
-from pert_companion.readers.base import Reading, ReaderOptions, Source
+from pert_companion.readers.base import ReaderOptions, Reading
 from pert_companion.readers.grid import clip
 from pert_companion.readers.p6 import P6File, Record
 from pert_companion.readers.p6_calendars import CalendarTextError
@@ -17,7 +18,10 @@ MOST_FIELDS = 1_000
 MOST_RECORDS = 400_000
 
 _FIELDS = {
-    "PROJECT": "proj_id proj_short_name plan_start_date last_recalc_date clndr_id base_curr_id",
+    "PROJECT": (
+        "proj_id proj_short_name plan_start_date plan_end_date last_recalc_date clndr_id"
+        " base_curr_id"
+    ),
     "CALENDAR": "clndr_id clndr_name day_hr_cnt week_hr_cnt month_hr_cnt clndr_data",
     "PROJWBS": "wbs_id proj_id parent_wbs_id wbs_short_name wbs_name seq_num",
     "TASK": (
@@ -102,7 +106,7 @@ class _Tables:
             raise InputError(f"{self.file}: the file is cut off: there is no %E at its end")
 
     def take(self, number: int, kind: str, cells: list[str]) -> None:
-        """Takes one line."""
+        """Takes one line. In a table that is not read a text, such as a note, may have several."""
         if kind == "%T":
             self.name = cells[0].strip() if cells else ""
             self.columns = []
@@ -112,7 +116,7 @@ class _Tables:
             self.columns = [cell.strip() for cell in cells]
         elif kind == "%R":
             self.add(number, cells)
-        else:
+        elif self.name in _FIELDS or not self.name:
             self.refuse(
                 number,
                 f"the line begins with {clip(kind, 20)!r}, not with %T, %F, %R or %E; a text of"
@@ -171,7 +175,9 @@ def _calendars(records: list[Record], losses: list[Loss]) -> Iterator[tuple[str,
     for record in records:
         name = clip(record.text("clndr_name") or f"calendar {record.text('clndr_id')}", 80)
         lengths, is_known = p6_calendars.lengths_of(
-            record.text("day_hr_cnt"), record.text("week_hr_cnt"), record.text("month_hr_cnt")
+            record.text("day_hr_cnt"),
+            record.text("week_hr_cnt"),
+            record.text("month_hr_cnt"),
         )
         if not is_known:
             shown = clip(record.text("day_hr_cnt"), 60)
@@ -183,7 +189,14 @@ def _calendars(records: list[Record], losses: list[Loss]) -> Iterator[tuple[str,
         except CalendarTextError as reason:
             why = f"the working time of {name!r} cannot be read ({reason}): Monday to Friday"
             losses.append(
-                Loss(LossKind.CALENDAR, record.where, "", "clndr_data", clip(text, 40), why)
+                Loss(
+                    LossKind.CALENDAR,
+                    record.where,
+                    "",
+                    "clndr_data",
+                    clip(text, 40),
+                    why,
+                )
             )
             found = p6_calendars.calendar_of(name, "", lengths)
         yield record.text("clndr_id"), found

@@ -8,10 +8,11 @@ import io
 import zipfile
 from dataclasses import dataclass, field
 
-from pert_companion.calendar import CalendarException
-from pert_companion.errors import InputError
-from pert_companion.losses import Loss
-from pert_companion.readers.base import ReaderOptions, Reading, Source
+from pert_companion.model.calendar import CalendarException
+from pert_companion.model.errors import InputError
+from pert_companion.model.losses import Loss
+from pert_companion.model.source import Source
+from pert_companion.readers.base import ReaderOptions, Reading
 from pert_companion.readers.columns import ROWS_ABOVE_HEAD, find_head
 from pert_companion.readers.extras import holidays, rates, sheet_kind
 from pert_companion.readers.grid import Grid, Rate, clip
@@ -19,7 +20,14 @@ from pert_companion.readers.listing import read_list
 from pert_companion.readers.values import Style
 from pert_companion.readers.workbook import Book
 
-_LIST_SHEETS = ("task table", "tasks", "vorgänge", "vorgangstabelle", "plan", "schedule")
+_LIST_SHEETS = (
+    "task table",
+    "tasks",
+    "vorgänge",
+    "vorgangstabelle",
+    "plan",
+    "schedule",
+)
 
 
 @dataclass

@@ -4,9 +4,9 @@ import csv
 import io
 from collections.abc import Iterator
 
-from pert_companion.compare import Comparison, CurveSide, History, ProjectState
-from pert_companion.writers.csv_file import days_text
-from pert_companion.writers.figures import ratio_text
+from pert_companion.analysis.compare import Comparison, CurveSide, History, StateFigures
+from pert_companion.analysis.earned_value import EarnedValue
+from pert_companion.model.figures import days_text, money_text, ratio_text
 from pert_companion.writers.formula import plain_text
 
 HEADINGS = ("From", "To", "Part", "Code", "Name", "What", "Old", "New")
@@ -18,17 +18,17 @@ Row = tuple[str, str, str, str, str, str]
 def to_csv(history: History) -> bytes:
     """Returns the figures of each state and each difference between neighbours, in UTF-8.
 
-    Finishes are the last day of work, durations days, amounts whole units of money.
+    Finishes are the last day of work, durations days, amounts in the currency.
     """
     text = io.StringIO(newline="")
     writer = csv.writer(text, lineterminator="\n")
     writer.writerow(HEADINGS)
     for state in history.states:
-        for what, value in _figures(state):
+        for what, value in _figures(state, history.money_scale):
             writer.writerow(("", plain_text(state.name), "state", "", "", what, "", value))
     for comparison in history.comparisons:
         names = plain_text(comparison.old.name), plain_text(comparison.new.name)
-        for part, code, name, what, old, new in _rows(comparison):
+        for part, code, name, what, old, new in _rows(comparison, history.money_scale):
             writer.writerow((*names, part, code, plain_text(name), what, _cell(old), _cell(new)))
     return text.getvalue().encode()
 
@@ -39,29 +39,40 @@ def _cell(text: str) -> str:
     return text if digits.isdigit() else plain_text(text)
 
 
-def _figures(state: ProjectState) -> Iterator[tuple[str, str]]:
+def _figures(state: StateFigures, scale: int) -> Iterator[tuple[str, str]]:
     """Yields the figures of a state with their names."""
     yield "data date", str(state.data_day)
     yield "end", str(state.end)
     yield "days left", days_text(state.left_minutes, state.day_minutes)
     if state.directed is not None:
         yield "directed end", str(state.directed)
-        yield "cost of keeping it", "" if state.recovery_cost is None else str(state.recovery_cost)
-    yield "budget", str(state.budget)
-    yield "spent", str(state.actual)
-    yield "to go", str(state.to_go)
-    yield "latest estimate", str(state.latest)
-    yield "value", str(state.value)
+        price = state.recovery_cost
+        yield "cost of keeping it", "" if price is None else money_text(price, scale)
+    yield "budget", money_text(state.budget, scale)
+    yield "spent", money_text(state.actual, scale)
+    yield "to go", money_text(state.to_go, scale)
+    yield "latest estimate", money_text(state.latest, scale)
+    yield "value", money_text(state.value, scale)
     if state.earned is not None:
-        total = state.earned.total
-        yield "planned value", str(total.pv)
-        yield "earned value", str(total.ev)
-        yield "actual cost", str(total.ac)
-        yield "SPI", ratio_text(total.spi)
-        yield "CPI", ratio_text(total.cpi)
+        yield from _earned(state.earned, scale, "")
+    if state.by_newest is not None:
+        yield from _earned(state.by_newest, scale, " by the newest baseline")
 
 
-def _rows(comparison: Comparison) -> Iterator[Row]:
+def _earned(earned: EarnedValue, scale: int, by: str) -> Iterator[tuple[str, str]]:
+    """Yields the totals and ratios of earned value with their names, which end with `by`."""
+    total = earned.total
+    yield f"planned value{by}", money_text(total.pv, scale)
+    yield f"earned value{by}", money_text(total.ev, scale)
+    yield f"actual cost{by}", money_text(total.ac, scale)
+    ratios = (("SPI", total.spi), ("CPI", total.cpi), ("TCPI", total.tcpi))
+    for name, ratio in (*ratios, ("SPI(t)", earned.spi_of_time)):
+        yield f"{name}{by}", "" if ratio is None else ratio_text(ratio)
+    eac = total.eac_by_cpi
+    yield f"EAC{by}", "" if eac is None else money_text(eac, scale)
+
+
+def _rows(comparison: Comparison, scale: int) -> Iterator[Row]:
     """Yields the differences from one state to the next."""
     moved = days_text(comparison.end_moved_minutes, comparison.new.day_minutes)
     yield "end", "", "", "end", str(comparison.old.end), str(comparison.new.end)
@@ -79,20 +90,28 @@ def _rows(comparison: Comparison) -> Iterator[Row]:
     for restated in comparison.restated:
         what = f"{restated.what} {restated.day}"
         yield "restated", restated.subject, restated.name, what, restated.old, restated.new
-    yield from _curves(comparison)
+    for old, new in comparison.renamed:
+        yield "renamed?", new.code, new.name, "code", old.code, new.code
+    for credit in comparison.credits:
+        amount = money_text(credit.amount, scale)
+        what = f"credit {credit.day} {credit.number}".strip()
+        yield "credit", credit.account, credit.name, what, "", amount
+    yield from _curves(comparison, scale)
 
 
-def _curves(comparison: Comparison) -> Iterator[Row]:
+def _curves(comparison: Comparison, scale: int) -> Iterator[Row]:
     for row in comparison.curves:
-        costs = _cost(row.old), _cost(row.new)
-        days = _next_day(row.old), _next_day(row.new)
+        costs = _cost(row.old, scale), _cost(row.new, scale)
+        days = _next_day(row.old, scale), _next_day(row.new, scale)
         yield "curve", "", "", f"least cost by {row.end}", *costs
         yield "curve", "", "", f"a day less than {row.end}", *days
 
 
-def _cost(side: CurveSide | None) -> str:
-    return "" if side is None else str(side.cost)
+def _cost(side: CurveSide | None, scale: int) -> str:
+    return "" if side is None else money_text(side.cost, scale)
 
 
-def _next_day(side: CurveSide | None) -> str:
-    return "" if side is None or side.next_day_cost is None else str(side.next_day_cost)
+def _next_day(side: CurveSide | None, scale: int) -> str:
+    if side is None or side.next_day_cost is None:
+        return ""
+    return money_text(side.next_day_cost, scale)

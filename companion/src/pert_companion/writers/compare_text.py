@@ -2,10 +2,16 @@
 
 from collections.abc import Iterator, Sequence
 
-from pert_companion.compare import Comparison, CurveSide, History, ProjectState
+from pert_companion.analysis.compare import Comparison, CurveSide, History, StateFigures
+from pert_companion.analysis.earned_value import EarnedValue
+from pert_companion.model.figures import (
+    NOTHING,
+    day_words,
+    days_text,
+    money_text,
+    ratio_text,
+)
 from pert_companion.writers.aligned import aligned
-from pert_companion.writers.csv_file import days_text
-from pert_companion.writers.figures import NOTHING, day_words, ratio_text
 from pert_companion.writers.text import shown
 
 STATE_HEADINGS = (
@@ -21,56 +27,73 @@ STATE_HEADINGS = (
     "SPI",
     "CPI",
 )
+NEWEST_HEADINGS = ("NOW SPI", "NOW CPI")
+"""By the newest baseline, where a state was reported by an older one."""
 
 
 def to_text(history: History) -> str:
     """Returns a row for each state, and what changed from each one to the next."""
-    project = history.states[-1].plan.deck.project
-    lines = [shown(f"COMPARE {project.code}, baseline {history.baseline.name}{_money(history)}")]
-    lines.extend(aligned(STATE_HEADINGS, _state_rows(history), "lllrrrrrrrr"))
+    project = history.states[-1].state.deck.project
+    lines = [shown(f"COMPARE {project.code}, {_baselines(history)}{_currency(history)}")]
+    has_newer = any(state.by_newest for state in history.states)
+    headings = (*STATE_HEADINGS, *(NEWEST_HEADINGS if has_newer else ()))
+    rows = [row[: len(headings)] for row in _state_rows(history)]
+    lines.extend(aligned(headings, rows, "lll" + "r" * (len(headings) - 3)))
     for comparison in history.comparisons:
         lines.append("")
         lines.append(shown(f"{comparison.old.name} -> {comparison.new.name}"))
-        lines.extend(_parts(comparison))
+        lines.extend(_parts(comparison, history.money_scale))
     return "".join(f"{line}\n" for line in lines)
 
 
-def _money(history: History) -> str:
-    """Returns what an amount is, if it is no whole unit of the currency."""
-    if history.money_scale == 1:
-        return f", amounts in {history.currency}" if history.currency else ""
-    return f", amounts in 1/{history.money_scale} {history.currency}".rstrip()
+def _baselines(history: History) -> str:
+    """Returns the baselines; SPI and CPI are by the one in force, and NOW by the last one."""
+    if len(history.baselines) == 1:
+        return f"baseline {history.baseline.name}"
+    return f"baselines {', then '.join(history.baselines)}"
+
+
+def _currency(history: History) -> str:
+    return f", amounts in {history.currency}" if history.currency else ""
 
 
 def _state_rows(history: History) -> Iterator[tuple[str, ...]]:
+    scale = history.money_scale
     for state in history.states:
-        earned = state.earned
+        amounts = (state.budget, state.actual, state.latest, state.value)
+        newest = state.by_newest or state.earned
         yield (
             state.name,
             str(state.data_day),
             str(state.end),
             days_text(state.left_minutes, state.day_minutes),
-            str(state.budget),
-            str(state.actual),
-            str(state.latest),
-            str(state.value),
-            NOTHING if earned is None else str(earned.total.ev),
-            NOTHING if earned is None else ratio_text(earned.total.spi, 2),
-            NOTHING if earned is None else ratio_text(earned.total.cpi, 2),
+            *(money_text(amount, scale) for amount in amounts),
+            NOTHING if state.earned is None else money_text(state.earned.total.ev, scale),
+            *_ratios(state.earned),
+            *_ratios(newest),
         )
 
 
-def _parts(comparison: Comparison) -> Iterator[str]:
+def _ratios(earned: EarnedValue | None) -> tuple[str, str]:
+    """Returns SPI and CPI."""
+    if earned is None:
+        return NOTHING, NOTHING
+    return ratio_text(earned.total.spi, 2), ratio_text(earned.total.cpi, 2)
+
+
+def _parts(comparison: Comparison, scale: int) -> Iterator[str]:
     """Yields the parts of a comparison that have anything to say."""
-    yield from _end(comparison)
+    yield from _end(comparison, scale)
     yield from _critical(comparison)
     yield from _slack(comparison)
     yield from _changes(comparison)
+    yield from _renamed(comparison)
     yield from _restated(comparison)
-    yield from _curves(comparison)
+    yield from _credits(comparison, scale)
+    yield from _curves(comparison, scale)
 
 
-def _end(comparison: Comparison) -> Iterator[str]:
+def _end(comparison: Comparison, scale: int) -> Iterator[str]:
     old, new = comparison.old, comparison.new
     minutes = comparison.end_moved_minutes
     if minutes:
@@ -79,17 +102,17 @@ def _end(comparison: Comparison) -> Iterator[str]:
     else:
         yield f"END {new.end}, as before"
     if new.directed is not None:
-        yield f"BY {new.directed}: before {_recovery(old)}; now {_recovery(new)}"
+        yield f"BY {new.directed}: before {_recovery(old, scale)}; now {_recovery(new, scale)}"
 
 
-def _recovery(state: ProjectState) -> str:
+def _recovery(state: StateFigures, scale: int) -> str:
     """Returns what it costs to end on the day that is asked for."""
     if state.directed is None:
         return "not asked for"
     price = state.recovery_cost
     if price is None:
         return f"impossible ({state.earliest_end} at the earliest)"
-    return "in time" if state.end <= state.directed else f"for {price} more"
+    return "in time" if state.end <= state.directed else f"for {money_text(price, scale)} more"
 
 
 def _critical(comparison: Comparison) -> Iterator[str]:
@@ -124,19 +147,34 @@ def _restated(comparison: Comparison) -> Iterator[str]:
     yield from _table(title, headings, rows, "lllrrl")
 
 
-def _curves(comparison: Comparison) -> Iterator[str]:
+def _renamed(comparison: Comparison) -> Iterator[str]:
+    rows = [(old.code, new.code, old.name, new.name) for old, new in comparison.renamed]
+    title = "RENAMED? Rows old,new for renames.csv: of the same duration and cost"
+    yield from _table(title, ("OLD", "NEW", "TASK", "NOW"), rows, "llll")
+
+
+def _credits(comparison: Comparison, scale: int) -> Iterator[str]:
+    title = f"CREDITS: booked after {comparison.old.data_day}"
+    rows = []
+    for each in comparison.credits:
+        amount = money_text(each.amount, scale)
+        rows.append((str(each.day), each.account, amount, each.number, each.text, each.name))
+    yield from _table(title, ("DAY", "OF", "AMOUNT", "NUMBER", "TEXT", "TITLE"), rows, "llrlll")
+
+
+def _curves(comparison: Comparison, scale: int) -> Iterator[str]:
     rows = []
     for row in comparison.curves:
-        rows.append((str(row.end), *_curve_cells(row.old), *_curve_cells(row.new)))
+        rows.append((str(row.end), *_curve_cells(row.old, scale), *_curve_cells(row.new, scale)))
     headings = ("LAST DAY", "OLD COST", "NEXT DAY", "NEW COST", "NEXT DAY")
     yield from _table("CURVES: least cost of the work, and of a day less", headings, rows, "lrrrr")
 
 
-def _curve_cells(side: CurveSide | None) -> tuple[str, str]:
+def _curve_cells(side: CurveSide | None, scale: int) -> tuple[str, str]:
     if side is None:
         return NOTHING, NOTHING
-    day = NOTHING if side.next_day_cost is None else str(side.next_day_cost)
-    return str(side.cost), day
+    day = NOTHING if side.next_day_cost is None else money_text(side.next_day_cost, scale)
+    return money_text(side.cost, scale), day
 
 
 def _table(

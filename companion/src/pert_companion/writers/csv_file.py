@@ -3,7 +3,9 @@
 import csv
 import io
 
-from pert_companion.schedule import Schedule, ScheduledTask
+from pert_companion.analysis.schedule import Schedule, ScheduledTask
+from pert_companion.model.figures import days_text, money_text
+from pert_companion.model.output import FileKind
 from pert_companion.writers.formula import plain_text
 
 HEADINGS = (
@@ -22,7 +24,15 @@ HEADINGS = (
     "Cost",
     "Percent complete",
     "Resources",
+    "State",
+    "Days left",
+    "Deadline",
+    "Days to the deadline",
 )
+"""The columns of tables of tasks, in CSV and in workbooks."""
+
+
+SCHEDULE_TABLE = FileKind("a table of a schedule", "Row,Code,Id,Outline,")
 
 
 def to_csv(schedule: Schedule) -> bytes:
@@ -38,6 +48,7 @@ def to_csv(schedule: Schedule) -> bytes:
 def _cells(task: ScheduledTask, schedule: Schedule) -> list[str]:
     """Returns the cells of a task: its texts as spreadsheets show them, and plain numbers."""
     row = "" if task.row is None else str(task.row)
+    slack = task.deadline_slack_minutes
     critical = "yes" if task.is_critical else "no"
     return [
         row,
@@ -52,17 +63,11 @@ def _cells(task: ScheduledTask, schedule: Schedule) -> list[str]:
         task.last_day.isoformat(),
         days_text(task.total_float_minutes, schedule.day_minutes),
         critical,
-        str(task.cost),
+        money_text(task.cost, schedule.money_scale),
         task.percent,
         plain_text("; ".join(task.resources)),
+        task.state.value,
+        days_text(task.left_minutes, schedule.day_minutes),
+        "" if task.deadline is None else task.deadline.isoformat(),
+        "" if slack is None else days_text(slack, schedule.day_minutes),
     ]
-
-
-def days_text(minutes: int, day_minutes: int) -> str:
-    """Returns working minutes in planner's days, with at most two decimals: `4`, `2.5`, `-0.25`."""
-    hundredths = round(minutes * 100 / day_minutes)
-    whole, rest = divmod(abs(hundredths), 100)
-    sign = "-" if hundredths < 0 else ""
-    if rest == 0:
-        return f"{sign}{whole}"
-    return f"{sign}{whole}.{rest:02d}".rstrip("0")

@@ -3,85 +3,170 @@
 import csv
 import io
 from collections.abc import Iterator
+from fractions import Fraction
 
-from pert_companion.earned_value import EarnedValue, Package
+from pert_companion.analysis.earned_value import EarnedValue, Package, Scope
+from pert_companion.model.figures import money_text, ratio_text
 from pert_companion.writers.aligned import aligned
-from pert_companion.writers.figures import NOTHING, amount_text, ratio_text
 from pert_companion.writers.formula import plain_text
 
 HEADINGS = ("PACKAGE", "BAC", "PV", "EV", "AC", "SPI", "CPI", "TITLE")
-CSV_HEADINGS = ("Package", "Title", "Measured", "BAC", "PV", "EV", "AC", "SPI", "CPI")
+CSV_HEADINGS = (
+    (
+        "Package",
+        "Title",
+        "Scope",
+        "Technique",
+        "Manager",
+        "BAC",
+        "PV",
+        "EV",
+        "AC",
+        "SV",
+        "CV",
+    )
+    + (
+        "SPI",
+        "CPI",
+        "EAC",
+        "EAC as planned",
+        "EAC by CPI and SPI",
+        "VAC",
+    )
+    + ("TCPI", "SPI(t)")
+)
 
 
-def to_text(earned: EarnedValue, heading: str, day_minutes: int, value: int) -> str:
+def to_text(earned: EarnedValue, heading: str, day_minutes: int, value: int, scale: int = 1) -> str:
     """Returns a row for each package, the total, its ratios and forecasts, and the notes.
 
     `heading` is the first line. `value` is VALUE of `pert value`.
     """
     lines = [heading]
-    lines.extend(aligned(HEADINGS, _rows(earned), "lrrrrrrl"))
-    lines.extend(_ratios(earned, day_minutes))
+    lines.extend(aligned(HEADINGS, _rows(earned, scale), "lrrrrrrl"))
+    lines.extend(_scopes(earned, scale))
+    lines.extend(_ratios(earned, day_minutes, scale))
     lines.append(
-        f"VALUE {value} of pert value follows spending until a package is finished: it is not EV"
+        f"VALUE {money_text(value, scale)} of pert value follows spending until a package is"
+        " finished: it is not EV"
     )
     lines.extend(f"note: {note}" for note in earned.notes)
     return "".join(f"{line}\n" for line in lines)
 
 
-def _rows(earned: EarnedValue) -> Iterator[tuple[str, ...]]:
+def _rows(earned: EarnedValue, scale: int) -> Iterator[tuple[str, ...]]:
     for package in earned.packages:
-        yield _row(package)
-    total = earned.total
-    ratios = ratio_text(total.spi), ratio_text(total.cpi)
-    yield "TOTAL", str(total.bac), str(total.pv), str(total.ev), str(total.ac), *ratios, ""
+        if package.scope not in (Scope.UNDISTRIBUTED, Scope.RESERVE):
+            yield _row(package, scale)
+    yield _row(Package("TOTAL", "", earned.total), scale)
 
 
-def _row(package: Package) -> tuple[str, ...]:
+def _row(package: Package, scale: int) -> tuple[str, ...]:
     figures = package.figures
+    spent = money_text(figures.ac, scale)
     if not package.is_measured:
-        return package.code, "-", "-", "-", str(figures.ac), "-", "-", package.title
-    amounts = (str(figures.bac), str(figures.pv), str(figures.ev), str(figures.ac))
+        return package.code, "-", "-", "-", spent, "-", "-", package.title
+    amounts = (money_text(amount, scale) for amount in (figures.bac, figures.pv, figures.ev))
     ratios = ratio_text(figures.spi), ratio_text(figures.cpi)
-    return (package.code, *amounts, *ratios, package.title)
+    return (package.code, *amounts, spent, *ratios, package.title)
 
 
-def _ratios(earned: EarnedValue, day_minutes: int) -> Iterator[str]:
+def _scopes(earned: EarnedValue, scale: int) -> Iterator[str]:
+    """Yields what the total is made of, and the budgets that are not in it, where there are any."""
+    effort = earned.of(Scope.EFFORT)
+    if effort.bac:
+        yield (
+            f"of it level of effort: BAC {money_text(effort.bac, scale)}, PV = EV"
+            f" {money_text(effort.ev, scale)}, AC {money_text(effort.ac, scale)}"
+        )
+    undistributed, reserve = (
+        earned.of(Scope.UNDISTRIBUTED).bac,
+        earned.of(Scope.RESERVE).bac,
+    )
+    if undistributed or reserve:
+        baseline = money_text(earned.baseline_budget, scale)
+        yield (
+            f"BASELINE {baseline} = BAC {money_text(earned.total.bac, scale)} + undistributed"
+            f" {money_text(undistributed, scale)}; reserve {money_text(reserve, scale)} is apart"
+        )
+
+
+def _ratios(earned: EarnedValue, day_minutes: int, scale: int) -> Iterator[str]:
     """Yields the ratios and forecasts with the numbers of the total that they are made of."""
     total = earned.total
-    bac, pv, ev, ac = total.bac, total.pv, total.ev, total.ac
+    bac, pv, ev, ac = (
+        money_text(amount, scale) for amount in (total.bac, total.pv, total.ev, total.ac)
+    )
     yield f"SPI {ratio_text(total.spi)} = EV {ev} / PV {pv}"
     yield f"CPI {ratio_text(total.cpi)} = EV {ev} / AC {ac}"
     unit = earned.unit_minutes
     times = [
         ratio_text(time * unit / day_minutes, 2)
-        for time in (earned.earned_schedule, earned.actual_time, earned.schedule_variance)
+        for time in (
+            earned.earned_schedule,
+            earned.actual_time,
+            earned.schedule_variance,
+        )
     ]
     yield (
         f"SPI(t) {ratio_text(earned.spi_of_time)} = earned schedule {times[0]} days / actual time"
         f" {times[1]} days; SV(t) {times[2]} days"
     )
-    planned = amount_text(total.eac_by_plan)
+    planned = money_text(total.eac_by_plan, scale)
     yield f"EAC {planned} = AC {ac} + (BAC {bac} - EV {ev}): the rest as planned"
     yield (
-        f"EAC {amount_text(total.eac_by_cpi)} = BAC {bac} x AC {ac} / EV {ev}: the rest at the CPI"
-        " so far"
+        f"EAC {money_text(total.eac_by_cpi, scale)} = BAC {bac} x AC {ac} / EV {ev}: the rest at"
+        " the CPI so far"
     )
     yield (
-        f"EAC {amount_text(total.eac_by_both)} = AC {ac} + (BAC {bac} - EV {ev}) / (CPI x SPI):"
-        " cost and time as so far"
+        f"EAC {money_text(total.eac_by_both, scale)} = AC {ac} + (BAC {bac} - EV {ev}) / (CPI x"
+        " SPI): cost and time as so far"
     )
     yield f"TCPI {ratio_text(total.tcpi)} = (BAC {bac} - EV {ev}) / (BAC {bac} - AC {ac})"
 
 
-def to_csv(earned: EarnedValue) -> bytes:
+def to_csv(earned: EarnedValue, scale: int = 1) -> bytes:
     """Returns a row for each package and the total as CSV in UTF-8; what is unknown is empty."""
     text = io.StringIO(newline="")
     writer = csv.writer(text, lineterminator="\n")
     writer.writerow(CSV_HEADINGS)
-    total = Package("TOTAL", "", earned.total, True)
-    for package in (*earned.packages, total):
-        code, bac, pv, ev, ac, spi, cpi, title = _row(package)
-        cells = ("" if cell == NOTHING else cell for cell in (bac, pv, ev, ac, spi, cpi))
-        measured = "yes" if package.is_measured else "no"
-        writer.writerow((plain_text(code), plain_text(title), measured, *cells))
+    for package in earned.packages:
+        writer.writerow([*_csv_cells(package, scale), ""])
+    total = Package("TOTAL", "", earned.total)
+    writer.writerow([*_csv_cells(total, scale), _ratio(earned.spi_of_time)])
     return text.getvalue().encode()
+
+
+def _csv_cells(package: Package, scale: int) -> Iterator[str]:
+    figures = package.figures
+    yield from (
+        plain_text(package.code),
+        plain_text(package.title),
+        package.scope.value,
+    )
+    yield from (package.technique.value, plain_text(package.manager))
+    if package.scope is Scope.UNMEASURED:
+        yield from ("", "", "", money_text(figures.ac, scale), *[""] * 9)
+        return
+    for amount in (
+        figures.bac,
+        figures.pv,
+        figures.ev,
+        figures.ac,
+        figures.sv,
+        figures.cv,
+    ):
+        yield money_text(amount, scale)
+    yield from (_ratio(figures.spi), _ratio(figures.cpi))
+    for forecast in (
+        figures.eac_by_cpi,
+        figures.eac_by_plan,
+        figures.eac_by_both,
+        figures.vac,
+    ):
+        yield "" if forecast is None else money_text(forecast, scale)
+    yield _ratio(figures.tcpi)
+
+
+def _ratio(ratio: Fraction | None) -> str:
+    return "" if ratio is None else ratio_text(ratio)

@@ -5,10 +5,9 @@ import io
 from collections.abc import Sequence
 from datetime import date
 
-from pert_companion.forecast import Forecast, ForecastTask
+from pert_companion.analysis.forecast import Forecast, ForecastTask
+from pert_companion.model.figures import NOTHING, days_text, signed_days
 from pert_companion.writers.aligned import aligned
-from pert_companion.writers.csv_file import days_text
-from pert_companion.writers.figures import NOTHING, signed_days
 from pert_companion.writers.formula import plain_text
 
 HEADINGS = (
@@ -125,7 +124,12 @@ def to_csv(forecast: Forecast, tasks: Sequence[ForecastTask]) -> bytes:
 
 
 def _csv_cells(task: ForecastTask, day_minutes: int) -> list[str]:
-    days = (task.listed_start, task.listed_finish, task.baseline_start, task.baseline_finish)
+    days = (
+        task.listed_start,
+        task.listed_finish,
+        task.baseline_start,
+        task.baseline_finish,
+    )
     lates = (task.listed_late_minutes, task.baseline_late_minutes)
     return [
         "" if task.row is None else str(task.row),

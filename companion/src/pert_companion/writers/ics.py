@@ -6,8 +6,8 @@ from hashlib import sha256
 from icalendar import Calendar, Event
 
 from pert_companion import VERSION
-from pert_companion.schedule import Schedule, ScheduledTask
-from pert_companion.writers.csv_file import days_text
+from pert_companion.analysis.schedule import Schedule, ScheduledTask
+from pert_companion.model.figures import days_text
 
 _STAMP = datetime(2000, 1, 1, tzinfo=timezone.utc)
 """The same plan gives the same bytes, so the stamp is fixed."""

@@ -5,9 +5,9 @@ import io
 from collections.abc import Iterator, Sequence
 from datetime import date
 
-from pert_companion.money import MoneyOverTime, MoneyPoint
+from pert_companion.analysis.money import MoneyOverTime, MoneyPoint
+from pert_companion.model.figures import NOTHING, money_text
 from pert_companion.writers.aligned import aligned
-from pert_companion.writers.figures import NOTHING
 
 HEADINGS = ("DAY", "PLANNED", "SPENT", "FORECAST")
 
@@ -35,11 +35,12 @@ def to_csv(money: MoneyOverTime) -> bytes:
 
 def _rows(money: MoneyOverTime) -> Iterator[tuple[date, list[str]]]:
     """Yields each day with the amounts of the three lines, an empty text where one has no point."""
-    lines = [_by_day(line) for line in (money.planned, money.spent, money.forecast)]
+    scale = money.money_scale
+    lines = [_by_day(line, scale) for line in (money.planned, money.spent, money.forecast)]
     days = set().union(*lines)
     for day in sorted(days):
         yield day, [line.get(day, "") for line in lines]
 
 
-def _by_day(points: Sequence[MoneyPoint]) -> dict[date, str]:
-    return {point.day: str(point.amount) for point in points}
+def _by_day(points: Sequence[MoneyPoint], scale: int) -> dict[date, str]:
+    return {point.day: money_text(point.amount, scale) for point in points}

@@ -1,38 +1,35 @@
-"""Writes a schedule as MS Project's XML (MSPDI): a new file, or into the file it came from.
+"""Writes a schedule as a new file of MS Project (MSPDI).
 
-A new file has the calendar, the groups, the tasks with their links and dates, and is complete in
-itself. Into an original, only durations and dates of its tasks are changed: its ids, links,
-resources, assignments, calendars and everything else stay.
+It has the calendar, the groups, and the tasks with their links, dates, costs and deadlines.
 """
 
 from collections.abc import Iterator, Mapping, Sequence
 from dataclasses import dataclass
 from datetime import date, datetime, timedelta
 from fractions import Fraction
-from pathlib import Path
 from xml.etree import ElementTree as Tree
 from xml.etree.ElementTree import Element, SubElement
 
-from pert_companion.calendar import Calendar, Shift
-from pert_companion.errors import InputError
-from pert_companion.plan import LinkKind
-from pert_companion.predecessors import FirstDayWait, RealLink
-from pert_companion.readers import moments
-from pert_companion.readers.base import Source
-from pert_companion.readers.xmltree import decimal, parse, whole
-from pert_companion.schedule import Schedule, ScheduledTask
+from pert_companion.analysis.schedule import Schedule, ScheduledTask
+from pert_companion.model.calendar import Calendar, Shift
+from pert_companion.model.lines import xml_text
+from pert_companion.model.plan import LinkKind
+from pert_companion.model.predecessors import FirstDayWait, RealLink
+from pert_companion.writers.mspdi_elements import (
+    IN_DAYS,
+    NAMESPACE,
+    bytes_of,
+    duration_text,
+    moment_text,
+    name_of,
+)
 
-NAMESPACE = "http://schemas.microsoft.com/project"
 _LINK_TYPES = {
     LinkKind.FINISH_FINISH: 0,
     LinkKind.FINISH_START: 1,
     LinkKind.START_FINISH: 2,
     LinkKind.START_START: 3,
 }
-_IN_DAYS = 7
-"""MS Project's code for a duration or lag that is shown in days."""
-_ELAPSED = frozenset((4, 6, 8, 10, 12, 36, 38, 40, 42, 44))
-"""MS Project's codes for durations by the clock."""
 _START_NO_EARLIER = 4
 _FINISH_NO_EARLIER = 6
 _TENTHS = 10
@@ -56,6 +53,7 @@ def to_mspdi(
     calendar: Calendar,
     links: Mapping[str, list[RealLink]],
     waits: Mapping[str, FirstDayWait],
+    money_scale: int = 1,
 ) -> bytes:
     """Returns a new file with the schedule.
 
@@ -63,15 +61,34 @@ def to_mspdi(
     project it may start and finish.
     """
     Tree.register_namespace("", NAMESPACE)
-    root = Element(_name("Project"))
+    root = Element(name_of("Project"))
     rows = list(_rows(schedule))
+    start = calendar.morning(schedule.start)
+    _add_project(root, schedule, calendar, max([row.finish for row in rows], default=start))
+    _add_calendar(root, calendar)
+    uids = {row.task.code: row.uid for row in rows if row.task is not None}
+    tasks = SubElement(root, name_of("Tasks"))
+    origin = calendar.position(start)
+    for number, row in enumerate(rows, 1):
+        _add_task(tasks, number, row, money_scale)
+        if row.task is not None:
+            wait = waits.get(row.task.code, FirstDayWait())
+            _add_constraint(tasks[-1], calendar, origin, wait, schedule.unit_minutes)
+            if row.task.deadline is not None:
+                evening = calendar.evening(row.task.deadline)
+                _add(tasks[-1], "Deadline", moment_text(evening))
+            _add_links(tasks[-1], links.get(row.task.code, []), uids, schedule.unit_minutes)
+    return bytes_of(root)
+
+
+def _add_project(root: Element, schedule: Schedule, calendar: Calendar, finish: datetime) -> None:
+    """Adds what the file says of the project itself."""
     _add(root, "SaveVersion", "14")
     _add(root, "Name", f"{schedule.code}.xml")
-    _add(root, "Title", _xml_text(schedule.title))
+    _add(root, "Title", xml_text(schedule.title))
     _add(root, "ScheduleFromStart", "1")
-    start = calendar.morning(schedule.start)
-    _add(root, "StartDate", _moment(start))
-    _add(root, "FinishDate", _moment(max([row.finish for row in rows], default=start)))
+    _add(root, "StartDate", moment_text(calendar.morning(schedule.start)))
+    _add(root, "FinishDate", moment_text(finish))
     _add(root, "CalendarUID", "1")
     _add(root, "DefaultStartTime", _first_time(calendar))
     _add(root, "MinutesPerDay", str(calendar.day_minutes))
@@ -79,17 +96,6 @@ def to_mspdi(
     _add(root, "DaysPerMonth", str(calendar.month_days))
     if schedule.currency:
         _add(root, "CurrencyCode", schedule.currency)
-    _add_calendar(root, calendar)
-    uids = {row.task.code: row.uid for row in rows if row.task is not None}
-    tasks = SubElement(root, _name("Tasks"))
-    origin = calendar.position(start)
-    for number, row in enumerate(rows, 1):
-        _add_task(tasks, number, row)
-        if row.task is not None:
-            wait = waits.get(row.task.code, FirstDayWait())
-            _add_constraint(tasks[-1], calendar, origin, wait, schedule.unit_minutes)
-            _add_links(tasks[-1], links.get(row.task.code, []), uids, schedule.unit_minutes)
-    return _bytes(root)
 
 
 def _rows(schedule: Schedule) -> Iterator[_Row]:
@@ -137,31 +143,44 @@ def _span(tasks: Sequence[ScheduledTask], path: tuple[str, ...]) -> tuple[dateti
     return start, finish
 
 
-def _add_task(tasks: Element, number: int, row: _Row) -> None:
-    element = SubElement(tasks, _name("Task"))
+def cents_text(amount: int, money_scale: int) -> str:
+    """Returns an amount of a deck in hundredths of the currency."""
+    return str(round(Fraction(amount * 100, money_scale)))
+
+
+def _add_task(tasks: Element, number: int, row: _Row, money_scale: int) -> None:
+    element = SubElement(tasks, name_of("Task"))
     _add(element, "UID", str(row.uid))
     _add(element, "ID", str(number))
-    _add(element, "Name", _xml_text(row.name))
+    _add(element, "Name", xml_text(row.name))
     _add(element, "Manual", "0")
     _add(element, "OutlineLevel", str(row.level))
-    _add(element, "Start", _moment(row.start))
-    _add(element, "Finish", _moment(row.finish))
+    _add(element, "Start", moment_text(row.start))
+    _add(element, "Finish", moment_text(row.finish))
     if row.task is None:
         _add(element, "Milestone", "0")
         _add(element, "Summary", "1")
         return
-    _add(element, "Duration", _duration(row.task.chosen_minutes))
-    _add(element, "DurationFormat", str(_IN_DAYS))
+    _add(element, "Duration", duration_text(row.task.chosen_minutes))
+    _add(element, "DurationFormat", str(IN_DAYS))
     _add(element, "Estimated", "0")
     _add(element, "Milestone", "1" if row.task.is_milestone else "0")
     _add(element, "Summary", "0")
     _add(element, "Critical", "1" if row.task.is_critical else "0")
+    if row.task.cost:
+        _add(element, "FixedCost", cents_text(row.task.cost, money_scale))
     if row.task.percent:
         _add(element, "PercentComplete", row.task.percent.partition(".")[0])
+    if row.task.cost:
+        _add(element, "Cost", cents_text(row.task.cost, money_scale))
 
 
 def _add_constraint(
-    element: Element, calendar: Calendar, origin: int, wait: FirstDayWait, unit_minutes: int
+    element: Element,
+    calendar: Calendar,
+    origin: int,
+    wait: FirstDayWait,
+    unit_minutes: int,
 ) -> None:
     """Adds the first moment at which a task may start or finish, if it waits for the calendar.
 
@@ -175,43 +194,43 @@ def _add_constraint(
         _add(element, "ConstraintType", "0")
         return
     _add(element, "ConstraintType", str(kind))
-    _add(element, "ConstraintDate", _moment(moment))
+    _add(element, "ConstraintDate", moment_text(moment))
 
 
 def _add_links(
     element: Element, links: Sequence[RealLink], uids: dict[str, int], unit_minutes: int
 ) -> None:
     for link in links:
-        part = SubElement(element, _name("PredecessorLink"))
+        part = SubElement(element, name_of("PredecessorLink"))
         _add(part, "PredecessorUID", str(uids[link.predecessor]))
         _add(part, "Type", str(_LINK_TYPES[link.kind]))
         _add(part, "LinkLag", str(link.lag * unit_minutes * _TENTHS))
-        _add(part, "LagFormat", str(_IN_DAYS))
+        _add(part, "LagFormat", str(IN_DAYS))
 
 
 def _add_calendar(root: Element, calendar: Calendar) -> None:
-    calendars = SubElement(root, _name("Calendars"))
-    element = SubElement(calendars, _name("Calendar"))
+    calendars = SubElement(root, name_of("Calendars"))
+    element = SubElement(calendars, name_of("Calendar"))
     _add(element, "UID", "1")
-    _add(element, "Name", _xml_text(calendar.name) or "Standard")
+    _add(element, "Name", xml_text(calendar.name) or "Standard")
     _add(element, "IsBaseCalendar", "1")
-    days = SubElement(element, _name("WeekDays"))
+    days = SubElement(element, name_of("WeekDays"))
     for number in range(1, 8):
         shifts = calendar.week[(number - 2) % 7]
-        day = SubElement(days, _name("WeekDay"))
+        day = SubElement(days, name_of("WeekDay"))
         _add(day, "DayType", str(number))
         _add_shifts(day, shifts)
     if not calendar.exceptions:
         return
-    exceptions = SubElement(element, _name("Exceptions"))
+    exceptions = SubElement(element, name_of("Exceptions"))
     for exception in calendar.exceptions:
-        part = SubElement(exceptions, _name("Exception"))
+        part = SubElement(exceptions, name_of("Exception"))
         _add(part, "EnteredByOccurrences", "0")
-        period = SubElement(part, _name("TimePeriod"))
+        period = SubElement(part, name_of("TimePeriod"))
         _add(period, "FromDate", f"{exception.first}T00:00:00")
         _add(period, "ToDate", f"{exception.last}T23:59:00")
         _add(part, "Occurrences", str((exception.last - exception.first).days + 1))
-        _add(part, "Name", _xml_text(exception.name))
+        _add(part, "Name", xml_text(exception.name))
         _add(part, "Type", "1")
         _add_shifts(part, exception.shifts)
 
@@ -220,138 +239,15 @@ def _add_shifts(element: Element, shifts: Sequence[Shift]) -> None:
     _add(element, "DayWorking", "1" if shifts else "0")
     if not shifts:
         return
-    times = SubElement(element, _name("WorkingTimes"))
+    times = SubElement(element, name_of("WorkingTimes"))
     for begin, end in shifts:
-        part = SubElement(times, _name("WorkingTime"))
+        part = SubElement(times, name_of("WorkingTime"))
         _add(part, "FromTime", _time(begin))
         _add(part, "ToTime", _time(end))
 
 
-def into_mspdi(
-    original: bytes, name: str, schedule: Schedule, calendar: Calendar
-) -> tuple[bytes, list[str]]:
-    """Returns the original with the durations and dates of the schedule, and what did not fit.
-
-    Tasks are found by their UID. Finished tasks stay as they are; begun ones keep their start. Each
-    task of the schedule that the original lacks is named. Raises `InputError` if the original is no
-    file of MS Project.
-    """
-    Tree.register_namespace("", NAMESPACE)
-    root = parse(Source(Path(name), original))
-    if root.tag != _name("Project"):
-        raise InputError(f"{name}: not a file of MS Project (MSPDI)")
-    elements = _elements_by_uid(root)
-    missing = []
-    for task in schedule.tasks:
-        element = elements.get(task.uid)
-        if element is None:
-            missing.append(f"{name}: no task with UID {task.uid} ({task.name})")
-        else:
-            _change_task(element, task, calendar)
-    _change_groups(root, calendar)
-    finish = root.find(_name("FinishDate"))
-    if finish is not None and schedule.tasks:
-        finish.text = _moment(max(task.finish for task in schedule.tasks))
-    return _bytes(root), missing
-
-
-def _text(element: Element, tag: str) -> str:
-    return (element.findtext(_name(tag)) or "").strip()
-
-
-def _tasks(root: Element) -> list[Element]:
-    return list(root.iterfind(f"{_name('Tasks')}/{_name('Task')}"))
-
-
-def _elements_by_uid(root: Element) -> dict[str, Element]:
-    return {_text(element, "UID"): element for element in _tasks(root)}
-
-
-def _change_task(element: Element, task: ScheduledTask, calendar: Calendar) -> None:
-    percent = decimal(_text(element, "PercentComplete")) or 0
-    if percent >= 100:
-        return
-    start, finish = task.start, task.finish
-    begun = moments.moment(_text(element, "ActualStart"))
-    if begun is not None:
-        start, finish = begun, calendar.end_of(begun, task.chosen_minutes)
-    changes = dict.fromkeys(("Start", "EarlyStart", "ManualStart"), _moment(start))
-    changes |= dict.fromkeys(("Finish", "EarlyFinish", "ManualFinish"), _moment(finish))
-    is_elapsed = whole(_text(element, "DurationFormat")) in _ELAPSED
-    if not is_elapsed or task.chosen_minutes != task.normal_minutes:
-        left = round(task.chosen_minutes * (100 - Fraction(percent)) / 100)
-        changes |= dict.fromkeys(("Duration", "ManualDuration"), _duration(task.chosen_minutes))
-        changes |= {"RemainingDuration": _duration(left)}
-        if is_elapsed:
-            changes |= {"DurationFormat": str(_IN_DAYS)}
-    _set(element, changes)
-
-
-def _set(element: Element, changes: Mapping[str, str]) -> None:
-    """Sets the texts of those children that the element has."""
-    for tag, text in changes.items():
-        found = element.find(_name(tag))
-        if found is not None:
-            found.text = text
-
-
-def _change_groups(root: Element, calendar: Calendar) -> None:
-    """Sets the dates and durations of rows with rows below them to those of these."""
-    open_groups: list[tuple[Element, int, list[Element]]] = []
-    for element in _tasks(root):
-        if _text(element, "IsNull") == "1":
-            continue
-        level = whole(_text(element, "OutlineLevel"))
-        level = 1 if level is None else level
-        while open_groups and open_groups[-1][1] >= level:
-            _close_group(open_groups, calendar)
-        open_groups.append((element, level, []))
-    while open_groups:
-        _close_group(open_groups, calendar)
-
-
-def _close_group(open_groups: list[tuple[Element, int, list[Element]]], calendar: Calendar) -> None:
-    """Ends the last open row: it takes the span of the rows below it and counts for its group."""
-    element, _, below = open_groups.pop()
-    starts = [moments.moment(_text(each, "Start")) for each in below]
-    finishes = [moments.moment(_text(each, "Finish")) for each in below]
-    start = min((moment for moment in starts if moment is not None), default=None)
-    finish = max((moment for moment in finishes if moment is not None), default=None)
-    if start is not None and finish is not None:
-        changes = {"Start": _moment(start), "Finish": _moment(finish)}
-        changes |= {"EarlyStart": _moment(start), "EarlyFinish": _moment(finish)}
-        if whole(_text(element, "DurationFormat")) not in _ELAPSED:
-            changes["Duration"] = _duration(max(0, calendar.between(start, finish)))
-        _set(element, changes)
-    if open_groups and _text(element, "Active") != "0":
-        open_groups[-1][2].append(element)
-
-
-def _name(tag: str) -> str:
-    return f"{{{NAMESPACE}}}{tag}"
-
-
 def _add(element: Element, tag: str, text: str) -> None:
-    SubElement(element, _name(tag)).text = text
-
-
-def _bytes(root: Element) -> bytes:
-    body = Tree.tostring(root, encoding="unicode")
-    return f'<?xml version="1.0" encoding="UTF-8" standalone="yes"?>\n{body}\n'.encode()
-
-
-def _xml_text(text: str) -> str:
-    """Returns the text without the characters that XML 1.0 cannot hold."""
-    return "".join(char if _is_xml_char(char) else "\ufffd" for char in text)
-
-
-def _is_xml_char(char: str) -> bool:
-    code = ord(char)
-    return char in "\t\n\r" or (code >= 0x20 and not 0xD800 <= code <= 0xDFFF and code < 0xFFFE)
-
-
-def _moment(moment: datetime) -> str:
-    return moment.strftime("%Y-%m-%dT%H:%M:%S")
+    SubElement(element, name_of(tag)).text = text
 
 
 def _time(minute: int) -> str:
@@ -362,7 +258,3 @@ def _time(minute: int) -> str:
 def _first_time(calendar: Calendar) -> str:
     begins = [shifts[0][0] for shifts in calendar.week if shifts]
     return _time(min(begins, default=8 * 60))
-
-
-def _duration(minutes: int) -> str:
-    return f"PT{minutes // 60}H{minutes % 60}M0S"

@@ -5,12 +5,13 @@ from collections.abc import Sequence
 from dataclasses import dataclass
 from datetime import date, timedelta
 
-from pert_companion.schedule import Schedule, ScheduledTask
-from pert_companion.writers.csv_file import days_text
+from pert_companion.analysis.schedule import Schedule, ScheduledTask
+from pert_companion.model.figures import day_words, days_text, money_text
+from pert_companion.state.remaining import State
 
 BOLD_RED = "\x1b[1;31m"
 RESET = "\x1b[0m"
-LEAST_BAR = 10
+LEAST_BAR = 20
 LEAST_NAME = 12
 MOST_NAME = 40
 
@@ -27,10 +28,11 @@ class TableOptions:
 def to_text(schedule: Schedule, tasks: Sequence[ScheduledTask], options: TableOptions) -> str:
     """Returns a heading and a row for each of the tasks, in the order that is given."""
     rows = [_cells(task, schedule) for task in tasks]
-    widths = _widths(rows)
+    headings = _headings(schedule, tasks)
+    widths = _widths(headings, rows)
     name_width = _name_width(tasks, widths, options)
     lines = _heading(schedule)
-    lines.append(_line(_HEADINGS, widths, "TASK", name_width).rstrip())
+    lines.append(_line(headings, widths, "NAME", name_width).rstrip())
     scale = _scale(schedule, tasks, widths, name_width, options)
     for task, cells in zip(tasks, rows):
         line = _line(cells, widths, task.name or task.code, name_width)
@@ -41,41 +43,79 @@ def to_text(schedule: Schedule, tasks: Sequence[ScheduledTask], options: TableOp
     return "".join(f"{line}\n" for line in lines)
 
 
-_HEADINGS = ["ROW", "CODE", "START", "FINISH", "DAYS", "FLOAT", ""]
-_RIGHT = (True, False, False, False, True, True, False)
+_RIGHT = (True, False, False, False, False, True, True, False, True, False)
+
+
+def _headings(schedule: Schedule, tasks: Sequence[ScheduledTask]) -> list[str]:
+    """Returns the headings but for the name: states if work has begun, deadlines if there are."""
+    state = "" if schedule.rest_of is None else "STATE"
+    deadlines = ["", ""]
+    if any(task.deadline is not None for task in tasks):
+        deadlines = ["DEADLINE", "SLACK"]
+    return ["ROW", "CODE", state, "START", "FINISH", "DAYS", "FLOAT", *deadlines, ""]
 
 
 def _heading(schedule: Schedule) -> list[str]:
-    days = days_text(schedule.length * schedule.unit_minutes, schedule.day_minutes)
-    price = ""
-    if schedule.next_unit_cost is not None:
-        price = f", one unit less costs {schedule.next_unit_cost}"
-    currency = f" {schedule.currency}" if schedule.currency else ""
+    days = day_words(schedule.length * schedule.unit_minutes, schedule.day_minutes)
     title = shown(schedule.title or schedule.code)
+    if schedule.rest_of is not None:
+        days = f"{days} left from {schedule.rest_of} on"
+    elif schedule.is_past_plan:
+        days = f"as planned {days}"
+    currency = f" {schedule.currency}" if schedule.currency else ""
     return [
-        f"{title}: {days} days, {schedule.start} to {schedule.end}, "
-        f"cost {schedule.cost}{currency}{price}"
+        f"{title}: {days}, {schedule.start} to {schedule.end}, "
+        f"cost {money_text(schedule.cost, schedule.money_scale)}{currency}{_price(schedule)}",
+        *_missed(schedule),
     ]
+
+
+def _missed(schedule: Schedule) -> list[str]:
+    """Returns a line that names the tasks which end after their deadlines, if there are any."""
+    late = []
+    for task in schedule.tasks:
+        if task.is_late:
+            days = day_words(-(task.deadline_slack_minutes or 0), schedule.day_minutes)
+            late.append(f"{task.code} by {days}")
+    if not late:
+        return []
+    number = "1 deadline is" if len(late) == 1 else f"{len(late)} deadlines are"
+    return [f"{number} missed: {', '.join(late)}"]
+
+
+def _price(schedule: Schedule) -> str:
+    """Returns what a day less costs, or an empty text at the shortest length."""
+    step = schedule.next_step
+    if step is None:
+        return ""
+    days = day_words(step.minutes, schedule.day_minutes)
+    less = "a day less costs" if days == "1 day" else f"{days} less cost"
+    return f", {less} {money_text(step.cost, schedule.money_scale)}"
 
 
 def _cells(task: ScheduledTask, schedule: Schedule) -> list[str]:
     row = "" if task.row is None else str(task.row)
+    slack = task.deadline_slack_minutes
+    is_done = task.state is State.FINISHED
     marks = "*" if task.is_critical else ""
     if task.pauses:
         marks += "~"
     return [
         row,
         task.code,
+        task.state.value if schedule.rest_of is not None else "",
         task.first_day.isoformat(),
         task.last_day.isoformat(),
         days_text(task.chosen_minutes, schedule.day_minutes),
-        days_text(task.total_float_minutes, schedule.day_minutes),
+        "" if is_done else days_text(task.total_float_minutes, schedule.day_minutes),
+        "" if task.deadline is None else task.deadline.isoformat(),
+        "" if slack is None else days_text(slack, schedule.day_minutes),
         marks,
     ]
 
 
-def _widths(rows: Sequence[Sequence[str]]) -> list[int]:
-    columns = zip(_HEADINGS, *rows)
+def _widths(headings: Sequence[str], rows: Sequence[Sequence[str]]) -> list[int]:
+    columns = zip(headings, *rows)
     return [max(map(len, column)) for column in columns]
 
 
@@ -92,7 +132,10 @@ def _name_width(
     tasks: Sequence[ScheduledTask], widths: Sequence[int], options: TableOptions
 ) -> int:
     """Returns the columns for names: as many as they need, within what the terminal leaves."""
-    needed = max((text_width(shown(task.name or task.code)) for task in tasks), default=LEAST_NAME)
+    needed = max(
+        (text_width(shown(task.name or task.code)) for task in tasks),
+        default=LEAST_NAME,
+    )
     if options.width is None:
         return max(needed, LEAST_NAME)
     others = sum(width + 2 for width in widths if width)

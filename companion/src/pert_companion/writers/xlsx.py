@@ -5,27 +5,26 @@ heads of all sheets are frozen, and the curve is a chart of the spreadsheet's ow
 """
 
 import io
-from collections.abc import Iterable, Sequence
+from collections.abc import Sequence
 from dataclasses import dataclass
 from datetime import date, datetime
 from decimal import Decimal
+from fractions import Fraction
 
 from openpyxl import Workbook
-from openpyxl.cell.cell import ILLEGAL_CHARACTERS_RE, Cell
 from openpyxl.chart import Reference, ScatterChart
 from openpyxl.chart.series_factory import SeriesFactory
-from openpyxl.styles import Font
-from openpyxl.utils import get_column_letter
 from openpyxl.worksheet.worksheet import Worksheet
 
-from pert_companion.deck import Deck
-from pert_companion.results import Breakpoint, Load, SummaryRow, Value
-from pert_companion.schedule import Schedule, ScheduledTask
-
-CellValue = str | int | Decimal | date | None
-MOST_TEXT = 32_767
-"""The characters that a cell may have."""
-_WIDE = 40
+from pert_companion.analysis.performance import Performance
+from pert_companion.analysis.schedule import Schedule, ScheduledTask
+from pert_companion.model.deck import Deck
+from pert_companion.model.figures import day_words
+from pert_companion.model.losses import Loss
+from pert_companion.programs.results import Breakpoint, Load, SummaryRow, Value, cost_at
+from pert_companion.writers.csv_file import HEADINGS
+from pert_companion.writers.performance_xlsx import add_performance
+from pert_companion.writers.sheets import CellValue, in_currency, new_sheet, put_row
 
 
 @dataclass(frozen=True)
@@ -38,8 +37,13 @@ class Workbooks:
     summary: dict[str, SummaryRow] | None = None
     value: Value | None = None
     load: Load | None = None
+    """What the schedule needs in each period, and what it costs."""
     periods: Sequence[date] = ()
     """The first day of each period of `load`."""
+    accepted: Sequence[Loss] = ()
+    """What the deck does not have of its source, as the user accepted it."""
+    performance: Performance | None = None
+    """Earned value by the plan of the deck, of a project that has begun."""
 
 
 def to_xlsx(content: Workbooks) -> bytes:
@@ -49,91 +53,51 @@ def to_xlsx(content: Workbooks) -> bytes:
     _schedule_sheet(book, content.schedule)
     _curve_sheet(book, content)
     if content.summary is not None:
-        _summary_sheet(book, content.deck, content.summary)
+        _summary_sheet(book, content, content.summary)
     if content.value is not None:
-        _value_sheet(book, content.deck, content.value)
+        _value_sheet(book, content, content.value)
     if content.load is not None:
-        _load_sheet(book, content.deck, content.load, content.periods)
+        _load_sheet(book, content, content.load)
+    if content.accepted:
+        _accepted_sheet(book, content.accepted)
+    if content.performance is not None:
+        add_performance(book, content.performance, content.schedule.money_scale)
     data = io.BytesIO()
     book.save(data)
     return data.getvalue()
 
 
-def _sheet(book: Workbook, title: str, headings: Sequence[str]) -> Worksheet:
-    sheet = book.create_sheet(title)
-    for column, heading in enumerate(headings, 1):
-        cell = sheet.cell(1, column, heading)
-        cell.font = Font(bold=True)
-        width = _WIDE if heading in ("Name", "Title", "Outline") else max(12, len(heading) + 2)
-        sheet.column_dimensions[get_column_letter(column)].width = width
-    sheet.freeze_panes = "A2"
-    return sheet
-
-
-def _add_row(sheet: Worksheet, row: int, values: Iterable[CellValue]) -> None:
-    for column, value in enumerate(values, 1):
-        if value is not None:
-            _put(sheet.cell(row, column), value)
-
-
-def _put(cell: Cell, value: CellValue) -> None:
-    """Writes a value with its own type."""
-    if isinstance(value, str):
-        text = ILLEGAL_CHARACTERS_RE.sub("\ufffd", value)[:MOST_TEXT]
-        cell.value = text
-        cell.data_type = "s"
-        cell.quotePrefix = text.startswith(("=", "+", "-", "@"))
-    elif isinstance(value, date):
-        cell.value = value
-        cell.number_format = "yyyy-mm-dd"
-    else:
-        cell.value = value
-
-
-_SCHEDULE_HEADINGS = (
-    "Row",
-    "Id",
-    "Code",
-    "Outline",
-    "Name",
-    "Predecessors",
-    "Normal days",
-    "Chosen days",
-    "Start",
-    "Finish",
-    "Slack days",
-    "Critical",
-    "Cost",
-    "% complete",
-    "Resources",
-)
-
-
 def _schedule_sheet(book: Workbook, schedule: Schedule) -> None:
-    sheet = _sheet(book, "Schedule", _SCHEDULE_HEADINGS)
+    sheet = new_sheet(book, "Schedule", HEADINGS)
     for row, task in enumerate(schedule.tasks, 2):
-        _add_row(sheet, row, _schedule_cells(task, schedule.day_minutes))
+        put_row(sheet, row, _schedule_cells(task, schedule))
     sheet.auto_filter.ref = sheet.dimensions
 
 
-def _schedule_cells(task: ScheduledTask, day_minutes: int) -> list[CellValue]:
+def _schedule_cells(task: ScheduledTask, schedule: Schedule) -> list[CellValue]:
+    day_minutes = schedule.day_minutes
     percent = Decimal(task.percent) if task.percent else None
+    slack = task.deadline_slack_minutes
     return [
         task.row,
-        task.uid,
         task.code,
+        task.uid,
         " / ".join(task.outline),
         task.name,
-        ", ".join(task.predecessors),
+        "; ".join(task.predecessors),
         days(task.normal_minutes, day_minutes),
         days(task.chosen_minutes, day_minutes),
         _day(task.start),
         _day(task.finish),
         days(task.total_float_minutes, day_minutes),
         "yes" if task.is_critical else "no",
-        task.cost,
+        in_currency(task.cost, schedule.money_scale),
         percent,
-        ", ".join(task.resources),
+        "; ".join(task.resources),
+        task.state.value,
+        days(task.left_minutes, day_minutes),
+        task.deadline,
+        None if slack is None else days(slack, day_minutes),
     ]
 
 
@@ -150,14 +114,34 @@ def days(minutes: int, day_minutes: int) -> int | Decimal:
 
 def _curve_sheet(book: Workbook, content: Workbooks) -> None:
     schedule = content.schedule
-    sheet = _sheet(book, "Curve", ("Length", "Days", "Least cost", "Next unit costs", "Chosen"))
-    for row, point in enumerate(content.curve, 2):
+    sheet = new_sheet(book, "Curve", ("Days", "Least cost", "A day less costs", "Chosen"))
+    points = _points(content)
+    for row, point in enumerate(points, 2):
         length_days = days(point.length * schedule.unit_minutes, schedule.day_minutes)
         chosen = schedule.cost if point.length == schedule.length else None
-        _add_row(sheet, row, (point.length, length_days, point.cost, point.slope, chosen))
-    last = len(content.curve) + 1
-    if len(content.curve) > 1:
-        sheet.add_chart(_curve_chart(sheet, last), "G2")
+        price = _day_price(point, schedule)
+        amounts = (in_currency(each, schedule.money_scale) for each in (point.cost, price, chosen))
+        put_row(sheet, row, (length_days, *amounts))
+    last = len(points) + 1
+    if len(points) > 1:
+        sheet.add_chart(_curve_chart(sheet, last), "F2")
+
+
+def _points(content: Workbooks) -> list[Breakpoint]:
+    """Returns the breakpoints with the chosen length between them, from the longest length down."""
+    length = content.schedule.length
+    points = list(content.curve)
+    if all(point.length != length for point in points):
+        cost, slope = cost_at(points, length)
+        points.append(Breakpoint(length, cost, slope))
+    return sorted(points, key=lambda point: -point.length)
+
+
+def _day_price(point: Breakpoint, schedule: Schedule) -> Fraction | None:
+    """Returns the price of shortening below a breakpoint, for a day, in units of money."""
+    if point.slope is None:
+        return None
+    return Fraction(point.slope * schedule.day_minutes, schedule.unit_minutes)
 
 
 def _curve_chart(sheet: Worksheet, last: int) -> ScatterChart:
@@ -168,8 +152,8 @@ def _curve_chart(sheet: Worksheet, last: int) -> ScatterChart:
     chart.x_axis.delete = False
     chart.y_axis.delete = False
     chart.legend = None
-    lengths = Reference(sheet, min_col=2, min_row=2, max_row=last)
-    costs = Reference(sheet, min_col=3, min_row=2, max_row=last)
+    lengths = Reference(sheet, min_col=1, min_row=2, max_row=last)
+    costs = Reference(sheet, min_col=2, min_row=2, max_row=last)
     series = SeriesFactory(costs, lengths, title="Least cost")
     series.marker.symbol = "circle"
     chart.series.append(series)
@@ -180,30 +164,62 @@ def _titles(deck: Deck) -> dict[str, str]:
     return {item.code: item.title for item in deck.items}
 
 
-def _summary_sheet(book: Workbook, deck: Deck, rows: dict[str, SummaryRow]) -> None:
-    headings = ("Item", "Level", "Budget", "Actual", "To go", "Latest", "Overrun", "Title")
-    sheet = _sheet(book, "Summary", headings)
-    titles = _titles(deck)
+def _summary_sheet(book: Workbook, content: Workbooks, rows: dict[str, SummaryRow]) -> None:
+    headings = (
+        "Item",
+        "Level",
+        "Budget",
+        "Actual",
+        "To go",
+        "Latest",
+        "Overrun",
+        "Title",
+    )
+    sheet = new_sheet(book, "Summary", headings)
+    titles, scale = _titles(content.deck), content.schedule.money_scale
     for at, (code, row) in enumerate(rows.items(), 2):
-        cells = (row.level, row.budget, row.actual, row.to_go, row.latest, row.overrun)
-        _add_row(sheet, at, (code, *cells, titles[code]))
+        amounts = (row.budget, row.actual, row.to_go, row.latest, row.overrun)
+        cells = (in_currency(amount, scale) for amount in amounts)
+        put_row(sheet, at, (code, row.level, *cells, titles[code]))
 
 
-def _value_sheet(book: Workbook, deck: Deck, value: Value) -> None:
-    headings = ("Item", "Level", "Budget", "Actual", "Value", "Overrun", "Slack days", "Title")
-    sheet = _sheet(book, "Value", headings)
-    titles = _titles(deck)
+def _value_sheet(book: Workbook, content: Workbooks, value: Value) -> None:
+    headings = (
+        "Item",
+        "Level",
+        "Budget",
+        "Actual",
+        "Value",
+        "Overrun",
+        "Slack days",
+        "Title",
+    )
+    sheet = new_sheet(book, "Value", headings)
+    titles, scale = _titles(content.deck), content.schedule.money_scale
     for at, (code, row) in enumerate(value.items.items(), 2):
         slack = None if row.slack is None else days(row.slack, 6)
-        cells = (row.level, row.budget, row.actual, row.value, row.overrun, slack)
-        _add_row(sheet, at, (code, *cells, titles[code]))
+        amounts = (row.budget, row.actual, row.value, row.overrun)
+        cells = (in_currency(amount, scale) for amount in amounts)
+        put_row(sheet, at, (code, row.level, *cells, slack, titles[code]))
 
 
-def _load_sheet(book: Workbook, deck: Deck, load: Load, periods: Sequence[date]) -> None:
+def _load_sheet(book: Workbook, content: Workbooks, load: Load) -> None:
+    deck, schedule = content.deck, content.schedule
+    length = day_words(schedule.length * schedule.unit_minutes, schedule.day_minutes)
+    periods = content.periods
     names = [resource.title or resource.code for resource in deck.resources]
-    sheet = _sheet(book, "Load", ("From", "Cost", *names))
+    sheet = new_sheet(book, "Load", ("From", f"Cost in {length}", *names))
     top: dict[int, int] = next(iter(load.items.values()), {})
     for period in range(load.periods):
         first = periods[period] if period < len(periods) else None
         amounts = [load.resources[r.code].get(period, 0) for r in deck.resources]
-        _add_row(sheet, period + 2, (first, top.get(period, 0), *amounts))
+        cost = in_currency(top.get(period, 0), content.schedule.money_scale)
+        put_row(sheet, period + 2, (first, cost, *amounts))
+
+
+def _accepted_sheet(book: Workbook, accepted: Sequence[Loss]) -> None:
+    headings = ("Kind", "Place", "Task", "Field", "In the source", "Why it is not carried over")
+    sheet = new_sheet(book, "Not carried over", headings)
+    for at, loss in enumerate(accepted, 2):
+        cells = (loss.kind.value, loss.where, loss.name, loss.field, loss.text, loss.why)
+        put_row(sheet, at, cells)

@@ -1,0 +1,1 @@
+"""Functions of one or two states of a project, with plain results."""

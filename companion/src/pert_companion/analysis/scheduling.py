@@ -1,0 +1,363 @@
+"""Builds the schedule of the real tasks of a deck at one length.
+
+`pert` computes the durations (`point`) and the times (`times` of the same network with these
+durations as its estimates). This module reads both by real task and turns counts into moments of
+the plan's calendar. `total_float` has the float of tasks whose finish waits for others.
+"""
+
+from collections.abc import Mapping
+from dataclasses import dataclass, replace
+from datetime import date, datetime, timedelta
+
+from pert_companion.analysis.actuals import Actuals
+from pert_companion.analysis.lengths import LengthChoice, check_length, chosen_length, next_step
+from pert_companion.analysis.schedule import Schedule, ScheduledTask
+from pert_companion.analysis.total_float import SIXTHS, LateDates
+from pert_companion.model.calendar import Calendar
+from pert_companion.model.cards import AccountCard, ActivityCard, EventCard, PieceCard
+from pert_companion.model.clock import Clock
+from pert_companion.model.deck import Deck
+from pert_companion.model.errors import ProgramError
+from pert_companion.model.parts import with_costs_over_parts
+from pert_companion.model.predecessors import real_links
+from pert_companion.model.sidefile import SideFile, SideTask
+from pert_companion.programs import results
+from pert_companion.state.project import ProjectState
+from pert_companion.state.remaining import State
+from pert_companion.state.work import Work
+
+
+def schedule_at(work: Work, length: int) -> Schedule:
+    """Returns the cheapest schedule for a length in units, as `pert point` has it.
+
+    Raises `InputError` that says which lengths there are if this is none of them.
+    """
+    check_length(work, length)
+    return schedule_of(work, work.point(length))
+
+
+def normal_schedule(work: Work) -> Schedule:
+    """Returns the schedule in which nothing is shortened."""
+    return schedule_of(work, work.normal)
+
+
+def chosen_schedule(work: Work, choice: LengthChoice) -> Schedule:
+    """Returns the schedule of the length that somebody chose, as the program has it for the choice.
+
+    Raises `InputError` or `ProgramError` if there is no such length.
+    """
+    if choice.days is None and choice.by is None:
+        return schedule_of(work, work.optimum.point if choice.cheapest else work.normal)
+    return schedule_at(work, chosen_length(work, choice))
+
+
+def plan_schedule(state: ProjectState, choice: LengthChoice) -> Schedule:
+    """Returns the schedule of the plan of the first day, whatever has been done since."""
+    schedule = chosen_schedule(state.plan, choice)
+    return replace(schedule, is_past_plan=state.rest is not state.plan)
+
+
+def rest_schedule(state: ProjectState, choice: LengthChoice = LengthChoice()) -> Schedule:
+    """Returns the schedule of what is left of a state, with the actual dates of what is done.
+
+    A finished task has its actual dates, and one under way its actual start; both have the float of
+    what is left. If nothing has begun, this is the schedule of the plan.
+    """
+    schedule = chosen_schedule(state.rest, choice)
+    if state.rest is state.plan:
+        return schedule
+    actuals = Actuals(state)
+    tasks = tuple(
+        _with_actuals(task, entry, actuals)
+        for task, entry in zip(schedule.tasks, state.side.tasks, strict=True)
+    )
+    ends = [task.last_day for task in tasks]
+    starts = [task.first_day for task in tasks]
+    return replace(schedule, tasks=tasks, start=min(starts), end=max(ends), rest_of=state.as_of)
+
+
+def deadline_slack(calendar: Calendar, deadline: date | None, finish: datetime) -> int | None:
+    """Returns the working minutes from a finish to the end of a deadline; negative if it is late.
+
+    None without a deadline.
+    """
+    if deadline is None:
+        return None
+    evening = datetime(deadline.year, deadline.month, deadline.day) + timedelta(days=1)
+    return calendar.position(evening) - calendar.position(finish)
+
+
+def _with_actuals(task: ScheduledTask, entry: SideTask, actuals: Actuals) -> ScheduledTask:
+    """Returns a task of the schedule of what is left with its actual dates."""
+    state = actuals.states[task.code]
+    task = replace(task, state=state, normal_minutes=entry.minutes)
+    begun = actuals.start(entry)
+    if state is State.WAITING or begun is None:
+        return task
+    calendar = actuals.state.side.calendar
+    if state is State.FINISHED:
+        ended = actuals.finish(entry) or begun
+        lasted = calendar.between(begun, ended) if entry.normal else 0
+        return replace(
+            task,
+            start=begun if entry.normal else ended,
+            finish=ended,
+            deadline_slack_minutes=deadline_slack(calendar, task.deadline, ended),
+            chosen_minutes=lasted,
+            total_float_minutes=0,
+            is_critical=False,
+        )
+    done = max(0, entry.minutes - task.normal_left_minutes)
+    return replace(
+        task,
+        start=begun,
+        chosen_minutes=done + task.left_minutes,
+        left_start=task.start,
+    )
+
+
+def schedule_of(work: Work, point: results.Point) -> Schedule:
+    """Returns the real tasks of a schedule that is at hand, with the cost that the curve has.
+
+    Raises `ProgramError` if the durations do not cost this.
+    """
+    cost, _ = results.cost_at(work.curve, point.length)
+    builder = _Builder(work, point)
+    if cost != point.cost or builder.total_cost() != point.cost:
+        raise ProgramError(f"the costs of the schedule for {point.length} do not add up")
+    project, side = work.deck.project, work.side
+    return Schedule(
+        title=project.title,
+        code=project.code,
+        length=point.length,
+        unit_minutes=side.unit_minutes,
+        day_minutes=side.calendar.day_minutes,
+        start=side.start,
+        end=builder.end(point.length).date(),
+        cost=point.cost,
+        next_step=next_step(work, point.length),
+        tasks=builder.tasks(),
+        currency=side.currency,
+        money_scale=side.money_scale,
+    )
+
+
+@dataclass(frozen=True)
+class TaskDates:
+    """When a real task is done in a schedule."""
+
+    code: str
+    start: datetime
+    """The first working moment."""
+    finish: datetime
+    """The moment at which work ends: an evening if it ends with the day."""
+    is_milestone: bool
+
+    @property
+    def first_day(self) -> date:
+        """Returns the day on which the task begins."""
+        return self.start.date()
+
+    @property
+    def last_day(self) -> date:
+        """Returns the last day of work."""
+        return self.finish.date()
+
+
+def normal_dates(work: Work) -> tuple[TaskDates, ...]:
+    """Returns the dates of the tasks if nothing is shortened, in the order of the plan.
+
+    It asks for no curve and no float: it is what an import compares with its file, and what a
+    forecast compares with a baseline.
+    """
+    point = work.normal
+    cards = {card.code: card for card in work.network.activities}
+    return tuple(_dates(work, task, cards, point) for task in work.side.tasks)
+
+
+def _dates(
+    work: Work, task: SideTask, cards: Mapping[str, ActivityCard], point: results.Point
+) -> TaskDates:
+    start, finish = span(task, cards, point.events, point.durations)
+    is_work = any(point.durations[part] for part in task.parts)
+    begins, ends = moments(work.clock, start, finish, is_work)
+    return TaskDates(task.code, begins, ends, task.normal == 0)
+
+
+def moments(clock: Clock, start: int, finish: int, is_work: bool) -> tuple[datetime, datetime]:
+    """Returns the moments of a task between two counts of units.
+
+    Work begins on a morning and ends on an evening; a milestone is at the end of a day of work.
+    """
+    if not is_work:
+        moment = clock.end_moment(start)
+        return moment, moment
+    return clock.begin_moment(start), clock.end_moment(finish)
+
+
+def span(
+    task: SideTask,
+    cards: Mapping[str, ActivityCard],
+    events: Mapping[str, int],
+    durations: Mapping[str, int],
+) -> tuple[int, int]:
+    """Returns when a task begins and ends, in units after the start.
+
+    A task whose end waits for another one is done in one piece, as late as that allows, unless its
+    start moment ties its beginning. `cards` are those of the network, `events` its early times.
+    """
+    last = cards[task.parts[-1]]
+    finish = events[last.begins] + durations[last.code]
+    if task.finish_moment is not None:
+        finish = events[cards[task.finish_moment].begins]
+        if task.start_moment is None:
+            return finish - sum(durations[part] for part in task.parts), finish
+    return events[cards[task.parts[0]].begins], finish
+
+
+def in_one_piece(network: Deck, side: SideFile, point: results.Point) -> Deck:
+    """Returns a network in which tasks begin when `span` says, so that money and work come then.
+
+    `point` is the network at its normal durations. A card that could begin earlier gets a wait
+    before it, as long as what it begins too early; the waits cost nothing, and the length stays.
+    The cost of a task is that of all its parts, by their durations.
+    """
+    network = with_costs_over_parts(network, side)
+    cards = {card.code: card for card in network.activities}
+    waits: list[ActivityCard] = []
+    for task in side.tasks:
+        first = cards[task.parts[0]]
+        start, _ = span(task, cards, point.events, point.durations)
+        units = start - point.events[first.begins]
+        if units > 0:
+            code = f"_h{len(waits)}"
+            days = (units,) * 5
+            waits.append(ActivityCard(code, first.begins, code, first.item, *days, 0, 0))
+            cards[first.code] = replace(first, begins=code)
+    activities = (*cards.values(), *waits)
+    events = (*network.events, *(EventCard(wait.code) for wait in waits))
+    return replace(network, activities=activities, events=events)
+
+
+def network_at(network: Deck, point: results.Point) -> Deck:
+    """Returns a network in which the durations of a schedule are the only ones, at their cost.
+
+    Each item has one account with what its activities cost, and no charges.
+    """
+    pieces = _pieces_of(network)
+    activities = []
+    budgets: dict[str, int] = {}
+    for card in network.activities:
+        units = point.durations[card.code]
+        cost = cost_of(card, pieces.get(card.code, []), units)
+        days = dict.fromkeys(("optimistic", "likely", "pessimistic", "normal", "crash"), units)
+        activities.append(replace(card, **days, cost=cost, slope=0))
+        budgets[card.item] = budgets.get(card.item, 0) + cost
+    return replace(
+        network,
+        activities=tuple(activities),
+        pieces=(),
+        accounts=tuple(AccountCard(item, item, budget) for item, budget in budgets.items()),
+        charges=(),
+        to_go=(),
+    )
+
+
+def _pieces_of(network: Deck) -> dict[str, list[PieceCard]]:
+    pieces: dict[str, list[PieceCard]] = {}
+    for piece in network.pieces:
+        pieces.setdefault(piece.activity, []).append(piece)
+    return pieces
+
+
+def cost_of(card: ActivityCard, pieces: list[PieceCard], duration: int) -> int:
+    """Returns the cost of an activity at a duration: each unit less at the slope of its piece."""
+    shorter = card.normal - duration
+    further = sum(piece.units for piece in pieces)
+    first = card.normal - card.crash - further
+    cost = card.cost
+    for units, slope in [
+        (first, card.slope),
+        *((piece.units, piece.slope) for piece in pieces),
+    ]:
+        taken = min(units, shorter)
+        cost += taken * slope
+        shorter -= taken
+    return cost
+
+
+class _Builder:
+    """Reads the figures of one schedule by real task."""
+
+    def __init__(self, work: Work, point: results.Point) -> None:
+        deck, side, network = work.deck, work.side, work.network
+        times = work.times_at(point)
+        self.side = side
+        self.clock = work.clock
+        self.point = point
+        self.late = LateDates(network, side, point.durations, times)
+        self.activities = {card.code: card for card in network.activities}
+        self.early = {code: event.early // SIXTHS for code, event in times.events.items()}
+        self.links = real_links(deck, side)
+        self.unit = "d" if side.unit_minutes == side.calendar.day_minutes else "u"
+        self.resources = _resource_names(deck)
+        pieces = _pieces_of(network)
+        self.costs = {
+            card.code: cost_of(card, pieces.get(card.code, []), point.durations[card.code])
+            for card in network.activities
+        }
+
+    def total_cost(self) -> int:
+        """Returns the cost of all activities at the chosen durations."""
+        return sum(self.costs.values())
+
+    def end(self, units: int) -> datetime:
+        """Returns the moment at which work ends so many units after the start."""
+        return self.clock.end_moment(units)
+
+    def tasks(self) -> tuple[ScheduledTask, ...]:
+        """Returns the real tasks in the order of the plan."""
+        return tuple(self.task(task) for task in self.side.tasks)
+
+    def task(self, task: SideTask) -> ScheduledTask:
+        """Returns a real task with its dates; a milestone is at the end of a day of work."""
+        cards = self.activities
+        chosen = sum(self.point.durations[part] for part in task.parts)
+        start, finish = span(task, self.activities, self.early, self.point.durations)
+        slack = self.late.total_float(task, start * SIXTHS, finish * SIXTHS)
+        begins, ends = moments(self.clock, start, finish, chosen > 0)
+        links = self.links.get(task.code, [])
+        return ScheduledTask(
+            code=task.code,
+            uid=task.uid,
+            row=task.row,
+            name=task.name,
+            outline=task.outline,
+            normal_minutes=task.minutes,
+            chosen_minutes=chosen * self.side.unit_minutes,
+            left_minutes=chosen * self.side.unit_minutes,
+            shortened_minutes=(task.normal - chosen) * self.side.unit_minutes,
+            shortest_minutes=sum(cards[part].crash for part in task.parts) * self.side.unit_minutes,
+            normal_cost=sum(cards[part].cost for part in task.parts),
+            slope=max(cards[part].slope for part in task.parts),
+            start=begins,
+            finish=ends,
+            total_float_minutes=slack * self.side.unit_minutes // SIXTHS,
+            cost=sum(self.costs[part] for part in task.parts),
+            is_critical=slack <= 0,
+            is_milestone=task.normal == 0,
+            predecessors=tuple(link.text(self.unit) for link in links),
+            percent="" if task.percent is None else f"{task.percent.normalize():f}",
+            resources=tuple(self.resources.get(task.code, [])),
+            deadline=task.deadline,
+            deadline_slack_minutes=deadline_slack(self.side.calendar, task.deadline, ends),
+        )
+
+
+def _resource_names(deck: Deck) -> dict[str, list[str]]:
+    """Returns the names of the resources of each task card, in the order of the LOAD cards."""
+    titles = {resource.code: resource.title or resource.code for resource in deck.resources}
+    names: dict[str, list[str]] = {}
+    for load in deck.loads:
+        names.setdefault(load.activity, []).append(titles[load.resource])
+    return names

@@ -1,0 +1,303 @@
+"""`pert-ledger`: vouchers, amounts to go and progress of a month become a state of the project."""
+
+import argparse
+import sys
+from collections.abc import Iterable
+from dataclasses import replace
+from datetime import date
+from pathlib import Path
+
+from pert_companion.carry.charges import close_of
+from pert_companion.cli.choosing import add_bin_option, programs_of
+from pert_companion.cli.common import CommandParser, say
+from pert_companion.cli.importing import column_word
+from pert_companion.cli.opening import opened
+from pert_companion.cli.words import day_word
+from pert_companion.cli.writing import (
+    add_output_options,
+    check_deck,
+    check_json,
+    deck_outputs,
+    is_file,
+    named,
+    outputs_of,
+)
+from pert_companion.importing.conversion import read_source
+from pert_companion.importing.month_end import Books, Lists, MonthEnd, close_month
+from pert_companion.importing.outcomes import ledger_outcome
+from pert_companion.model.bookings import MEANINGS, BookingKind, Finding, not_accepted
+from pert_companion.model.figures import money_text
+from pert_companion.model.ledger import Ledger, ledger_path, read_ledger, to_bytes
+from pert_companion.model.output import LEDGER, Output, Outputs
+from pert_companion.programs.client import Programs
+from pert_companion.readers.base import ReaderOptions
+from pert_companion.readers.estimates import read_progress, read_to_go
+from pert_companion.readers.vouchers import read_vouchers
+from pert_companion.state.project import ProjectState
+from pert_companion.writers.json_file import result_text
+
+NAME = "pert-ledger"
+MOST_LINES = 20
+"""So many findings are named one by one; the others are counted."""
+EXAMPLES = """\
+  pert-ledger april.csv vouchers.xlsx                    what booking them would do
+  pert-ledger april.csv vouchers.xlsx -o april.csv --overwrite
+                                                         april.csv and its ledger
+  pert-ledger march.csv april.csv --as-of 2026-04-30 --progress done.csv --to-go togo.csv \\
+      -o april.csv                                       the next state: schedule, status, money
+  pert-ledger april.csv v.csv --column account=Kostenart a heading that is remembered
+  pert-ledger april.csv v.csv --accept later,closed -o .. what is odd and meant so
+
+Columns are found by their headings, in any order: date, account, amount (or debit and credit, or
+amount and D/C), number, text, currency. Without -o nothing is written. What is odd has these kinds
+for --accept:
+"""
+
+
+def parser() -> CommandParser:
+    """Returns the parser of the command's words."""
+    kinds = "\n".join(f"  {kind.value:<12}{meaning}" for kind, meaning in MEANINGS.items())
+    command = CommandParser(
+        NAME,
+        "Books vouchers (.csv, .xlsx) on the accounts of a deck. The ledger next to it keeps every"
+        " voucher; the deck has its balances at the close of the data date.",
+        EXAMPLES + kinds + "\n",
+    )
+    command.add_argument("deck", type=Path, help="the deck, with its side file and ledger")
+    command.add_argument("vouchers", type=Path, nargs="*", help="lists of vouchers")
+    add_output_options(command, "DECK", "the deck to write, with its side file and ledger")
+    command.add_argument(
+        "--as-of",
+        metavar="DATE",
+        type=day_word,
+        help="the data date: the close of this day (default: that of the deck)",
+    )
+    command.add_argument(
+        "--ledger",
+        metavar="LEDGER",
+        type=Path,
+        help="the ledger so far, if it is not the one next to the deck",
+    )
+    _add_list_options(command)
+    command.add_argument("--json", action="store_true", help="print what was done as JSON")
+    add_bin_option(command)
+    return command
+
+
+def _add_list_options(command: argparse.ArgumentParser) -> None:
+    """Adds the options for further lists, and for how lists are read."""
+    command.add_argument(
+        "--to-go",
+        metavar="LIST",
+        type=Path,
+        action="append",
+        default=[],
+        help="amounts to go",
+    )
+    command.add_argument(
+        "--progress",
+        metavar="LIST",
+        type=Path,
+        action="append",
+        default=[],
+        help="percent complete, remaining duration, actual dates of tasks",
+    )
+    command.add_argument(
+        "--accept",
+        metavar="KINDS",
+        type=kinds_word,
+        action="append",
+        default=[],
+        help="what to accept, by kind, as later,closed",
+    )
+    command.add_argument(
+        "--column",
+        metavar="FIELD=HEADING",
+        type=column_word,
+        action="append",
+        default=[],
+        help="the heading of a column of vouchers; later lists may have it too",
+    )
+    _add_style_options(command)
+
+
+def _add_style_options(command: argparse.ArgumentParser) -> None:
+    """Adds the options for how lists are read."""
+    command.add_argument("--sheet", default="", help="the sheet of a workbook of vouchers")
+    command.add_argument("--decimal", choices=(".", ","), default="", help="the decimal mark")
+    command.add_argument("--encoding", default="", metavar="NAME", help="the character set")
+    which = command.add_mutually_exclusive_group()
+    which.add_argument(
+        "--day-first", action="store_true", default=None, help="03/04/2026 is 3 April"
+    )
+    which.add_argument(
+        "--month-first",
+        action="store_false",
+        dest="day_first",
+        help="03/04/2026 is 4 March",
+    )
+
+
+def kinds_word(word: str) -> frozenset[BookingKind]:
+    """Returns the kinds of findings in a word such as `later,closed`."""
+    found = set()
+    for part in word.split(","):
+        try:
+            found.add(BookingKind(part.strip().lower()))
+        except ValueError:
+            known = ", ".join(kind.value for kind in BookingKind)
+            raise argparse.ArgumentTypeError(f"{part.strip()!r} is none of {known}") from None
+    return frozenset(found)
+
+
+def run(options: argparse.Namespace) -> int:
+    """Books the lists and returns the status: 1 if something is odd and not accepted."""
+    check_json(options, "the deck")
+    outputs = _outputs(options)
+    programs = programs_of(options)
+    state = opened([options.deck], programs)[0]
+    if options.ledger is not None:
+        state = replace(state, ledger=read_ledger(options.ledger))
+    month = close_month(_books(state), _lists(state, options), options.as_of)
+    for note in month.notes:
+        say(NAME, f"note: {note}")
+    is_accepted = _is_accepted(month.findings, frozenset().union(*options.accept))
+    if is_accepted:
+        _book(month, programs, outputs, options)
+    if options.json:
+        sys.stdout.write(_json(month, is_accepted, options))
+    return 0 if is_accepted else 1
+
+
+def _book(
+    month: MonthEnd, programs: Programs, outputs: Outputs, options: argparse.Namespace
+) -> None:
+    """Checks the new deck, says what was booked, and writes the files if they are asked for."""
+    books = month.books
+    form = "arrows" if books.deck.is_of_tasks else "check"
+    programs.pert(books.deck.to_bytes(), form)
+    for line in _credit_lines(month):
+        say(NAME, line)
+    say(NAME, month.sums.line(books.ledger.currency or books.side.currency))
+    if options.output is None:
+        say(NAME, "nothing is written; say -o DECK")
+    else:
+        outputs.write(*_files(books, options.output))
+        say(NAME, _summary(month, options.output))
+
+
+def _json(month: MonthEnd, is_accepted: bool, options: argparse.Namespace) -> str:
+    """Returns what was done as JSON."""
+    deck = str(options.output) if is_accepted and options.output is not None else ""
+    outcome = ledger_outcome(month, frozenset().union(*options.accept), deck)
+    return result_text(NAME, month.books.side, outcome)
+
+
+def _outputs(options: argparse.Namespace) -> Outputs:
+    """Returns what writes the files; refuses to write over what is read, unless it is meant."""
+    lists = (*options.vouchers, *options.to_go, *options.progress, options.ledger)
+    outputs = outputs_of(options, [options.deck], [ledger_path(options.deck), *lists])
+    check_deck(outputs, options.output)
+    if is_file(options.output):
+        outputs.check(ledger_path(options.output), LEDGER)
+    return outputs
+
+
+def _books(state: ProjectState) -> Books:
+    ledger = state.ledger or Ledger()
+    has_ledger = state.ledger is not None
+    renames = state.registers.renames
+    return Books(state.deck, state.side, state.has_side_file, ledger, has_ledger, renames)
+
+
+def _lists(state: ProjectState, options: argparse.Namespace) -> Lists:
+    """Returns the lists of the words; headings that were named once are known."""
+    calendar = state.side.calendar
+    words = ReaderOptions(
+        decimal=options.decimal,
+        day_first=options.day_first,
+        encoding=options.encoding,
+        day_minutes=calendar.day_minutes,
+        week_minutes=calendar.week_minutes,
+    )
+    of_vouchers = ReaderOptions(
+        decimal=options.decimal,
+        day_first=options.day_first,
+        encoding=options.encoding,
+        sheet=options.sheet,
+        columns=tuple(options.column),
+    )
+    remembered = dict(() if state.ledger is None else state.ledger.headings)
+    vouchers = []
+    for path in options.vouchers:
+        vouchers.append(read_vouchers(read_source(path), of_vouchers, tuple(remembered.items())))
+        remembered.update(vouchers[-1].headings)
+    close: date = options.as_of or close_of(state.deck)
+    return Lists(
+        tuple(vouchers),
+        tuple(read_to_go(read_source(path), words, close) for path in options.to_go),
+        tuple(read_progress(read_source(path), words) for path in options.progress),
+    )
+
+
+def _is_accepted(findings: Iterable[Finding], accepted: frozenset[BookingKind]) -> bool:
+    """Names what is odd, and says whether the user accepts it."""
+    listed = list(findings)
+    refused = not_accepted(listed, accepted)
+    taken = [finding for finding in listed if finding.kind in accepted]
+    if taken:
+        say(NAME, f"accepted: {_counted(taken)}")
+    for finding in refused[:MOST_LINES]:
+        say(NAME, finding.line())
+    if len(refused) > MOST_LINES:
+        say(NAME, f"and {len(refused) - MOST_LINES} more")
+    if refused:
+        kinds = ",".join(dict.fromkeys(finding.kind.value for finding in refused))
+        say(
+            NAME,
+            f"not booked: {_counted(refused)}; change the list, or say --accept {kinds}; nothing is"
+            " written",
+        )
+    return not refused
+
+
+def _counted(findings: Iterable[Finding]) -> str:
+    """Returns how many findings there are of each kind: `3 later, 1 closed`."""
+    counts: dict[str, int] = {}
+    for finding in findings:
+        counts[finding.kind.value] = counts.get(finding.kind.value, 0) + 1
+    return ", ".join(f"{count} {kind}" for kind, count in counts.items())
+
+
+def _credit_lines(month: MonthEnd) -> Iterable[str]:
+    """Yields a line for each new credit, with the days of the charges that it reduces."""
+    scale = month.books.side.money_scale
+    vouchers = month.books.booked_ledger.vouchers
+    new = {(each.account, each.day) for each in vouchers[len(vouchers) - month.count :]}
+    credits = [credit for credit in month.booked.credits if (credit.account, credit.day) in new]
+    for credit in credits[:MOST_LINES]:
+        days = ", ".join(str(day) for day, _ in credit.reduced)
+        yield (
+            f"credit: {credit.account} {credit.day}, {money_text(credit.amount, scale)}, reduces"
+            f" what was charged on {days}"
+        )
+    if len(credits) > MOST_LINES:
+        yield f"and {len(credits) - MOST_LINES} credits more"
+
+
+def _files(books: Books, path: Path) -> list[Output]:
+    """Returns the deck, its side file if it has one, and its ledger, as files to write."""
+    side = replace(books.side, deck_name=path.name) if books.has_side_file else None
+    files = deck_outputs(path, books.deck.to_bytes(), side)
+    if is_file(path):
+        files.append(Output(ledger_path(path), LEDGER, to_bytes(books.ledger)))
+    return files
+
+
+def _summary(month: MonthEnd, path: Path) -> str:
+    vouchers = len(month.books.ledger.vouchers)
+    close = close_of(month.books.deck)
+    return (
+        f"{named(path)} and its ledger: {month.count} new of {vouchers} vouchers, at the close of"
+        f" {close}"
+    )

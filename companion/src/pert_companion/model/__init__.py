@@ -1,0 +1,1 @@
+"""What everything else stands on: plans, calendars, decks, side files, losses, errors, output."""

@@ -1,0 +1,177 @@
+"""Has other hosts make rows, by GNU parallel over ssh.
+
+A host that fails or answers anything but rows of the decks that it got is left out, and its decks
+go to the other hosts in a next round.
+"""
+
+import base64
+import json
+import os
+import subprocess
+import tempfile
+from collections.abc import Iterator, Mapping, Sequence
+from dataclasses import dataclass, field
+from pathlib import Path
+
+from pert_companion.model.errors import CompanionError, UsageError
+from pert_companion.model.sidefile import side_path
+from pert_companion.portfolio.job import Job
+from pert_companion.portfolio.row import Row
+from pert_companion.portfolio.stored import row_from
+
+TOGETHER = 4
+"""The decks that go to a host in one connection."""
+
+Answers = Iterator[tuple[int, Row]]
+
+
+@dataclass
+class Hosts:
+    """The other hosts: GNU parallel's file of logins, and the command that runs there."""
+
+    logins: Path
+    command: str
+    left_out: list[str] = field(default_factory=list)
+    """Hosts that failed, each with what was wrong."""
+
+    def rows(self, jobs: Sequence[tuple[int, Job]]) -> Answers:
+        """Yields rows as they come; a deck that no host answers for has none."""
+        waiting = dict(jobs)
+        lines = _logins(self.logins)
+        while waiting and lines:
+            found = _Round(lines, self.command, waiting)
+            for number, row in found.rows():
+                del waiting[number]
+                yield number, row
+            faults = found.faults()
+            if not faults and waiting:
+                raise CompanionError(f"{self.logins}: parallel left decks out")
+            self.left_out += [f"{host}: {fault}" for host, fault in faults.items()]
+            lines = [line for line in lines if host_of(line) not in faults]
+
+
+def host_of(line: str) -> str:
+    """Returns the login of a line: `planner@alpha` for `4/planner@alpha`."""
+    count, slash, login = line.partition("/")
+    return login if slash and count.isdigit() else line
+
+
+def _logins(path: Path) -> list[str]:
+    """Returns the lines with logins of a file."""
+    lines = (line.strip() for line in path.read_text("utf-8", "surrogateescape").splitlines())
+    return [line for line in lines if line and not line.startswith("#")]
+
+
+class _Round:
+    """One run of parallel: decks go over as lines of JSON, `TOGETHER` at a time, to some hosts.
+
+    Each line that comes back begins with the number of the connection, from 1 on.
+    """
+
+    def __init__(self, logins: Sequence[str], command: str, jobs: Mapping[int, Job]) -> None:
+        self._logins = logins
+        self._command = command
+        self._jobs = dict(jobs)
+        numbers = list(self._jobs)
+        self._sent = {
+            at // TOGETHER + 1: set(numbers[at : at + TOGETHER])
+            for at in range(0, len(numbers), TOGETHER)
+        }
+        self._wrong: set[int] = set()
+        """The connections on which something else came."""
+        self._log: list[list[str]] = []
+
+    def rows(self) -> Answers:
+        """Runs parallel, and yields rows as they come."""
+        with tempfile.TemporaryDirectory() as name:
+            folder = Path(name)
+            text = "".join(f"{line}\n" for line in self._logins)
+            (folder / "logins").write_text(text, "utf-8", "surrogateescape")
+            with open(folder / "decks", "w+b") as lines:
+                for number, job in self._jobs.items():
+                    lines.write(packed(number, job).encode() + b"\n")
+                lines.seek(0)
+                with _started(self._words(folder), lines.fileno()) as running:
+                    yield from self._read(running)
+            self._log = _log(folder / "log")
+        if not self._log:
+            raise CompanionError(f"parallel ended with {running.returncode}")
+
+    def _words(self, folder: Path) -> list[str]:
+        words = ["parallel", "--will-cite", "--plain", "--sshloginfile", str(folder / "logins")]
+        words += ["--joblog", str(folder / "log"), "--tagstring", "{#}"]
+        words += ["--pipe", "-N", str(TOGETHER), "--line-buffer"]
+        return [*words, f"{self._command} --worker"]
+
+    def _read(self, running: "subprocess.Popen[bytes]") -> Answers:
+        """Yields the rows that hosts write."""
+        assert running.stdout is not None
+        try:
+            for line in running.stdout:
+                found = self._unpacked(line)
+                if found is not None:
+                    yield found
+        except BaseException:
+            running.terminate()  # with a second signal, parallel does not wait for its jobs
+            raise
+
+    def _unpacked(self, line: bytes) -> tuple[int, Row] | None:
+        """Returns the number of a deck and its row; None, and a wrong connection, for others."""
+        tag, _, answer = line.decode("utf-8", "replace").rstrip("\n").partition("\t")
+        word, _, text = answer.partition(" ")
+        connection, number = _count(tag), _count(word)
+        if number in self._sent.get(connection, ()):
+            row = row_from(text, self._jobs[number].name)
+            if row is not None:
+                self._sent[connection].discard(number)
+                return number, row
+        self._wrong.add(connection)
+        return None
+
+    def faults(self) -> dict[str, str]:
+        """Returns the hosts that are to be left out, each with what was wrong."""
+        found: dict[str, str] = {}
+        for connection, host, status, number in (
+            (_count(line[0]), line[1], line[6], line[7]) for line in self._log
+        ):
+            if connection in self._wrong:
+                found.setdefault(host, "answered something that is no row of its decks")
+            elif status != "0" or number != "0":
+                what = f"status {status}" if number == "0" else f"signal {number}"
+                found.setdefault(host, f"ended with {what}")
+            elif self._sent.get(connection):
+                found.setdefault(host, "did not answer for all of its decks")
+        return found
+
+
+def _started(words: Sequence[str], lines: int) -> "subprocess.Popen[bytes]":
+    """Returns parallel; without SHELL it would start nothing."""
+    environment = {**os.environ, "SHELL": "/bin/sh"}
+    try:
+        return subprocess.Popen(words, stdin=lines, stdout=subprocess.PIPE, env=environment)
+    except FileNotFoundError:
+        raise UsageError("no program parallel: apt install parallel") from None
+
+
+def _log(path: Path) -> list[list[str]]:
+    """Returns the cells of the lines of a log of parallel; none if there is no log."""
+    try:
+        lines = path.read_text("utf-8", "surrogateescape").splitlines()[1:]
+    except OSError:
+        return []
+    return [cells for cells in (line.split("\t") for line in lines) if len(cells) > 7]
+
+
+def _count(word: str) -> int:
+    """Returns a number that is written with few digits; -1 for anything else."""
+    return int(word) if word.isascii() and word.isdigit() and len(word) < 10 else -1
+
+
+def packed(number: int, job: Job) -> str:
+    """Returns a deck, its side file and the ones before as one line."""
+    files = {}
+    for role, path in job.decks():
+        for kind, part in (("", path), (".side", side_path(path))):
+            if part.is_file():
+                files[role + kind] = base64.b64encode(part.read_bytes()).decode()
+    return json.dumps({"number": number, "name": job.name, "files": files})

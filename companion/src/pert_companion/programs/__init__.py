@@ -1,0 +1,1 @@
+"""Calls `pert`, `pert_check` and `pert_whatif`, and reads what they print."""

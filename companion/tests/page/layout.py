@@ -1,0 +1,180 @@
+"""Measures the layout of a page in the browser: overlaps, cut texts, broken words, contrast."""
+
+from page.browser import Page
+
+MEASURE = """
+(() => {
+    const ROUNDING = 1;         // pixels by which boxes of letters may touch
+    const found = [];
+    const add = (what, text) => found.push(`${what}: ${text.trim().slice(0, 60)}`);
+
+    function isShown(element) {
+        if (element.closest(".unseen, .skip, script, style, title")) return false;
+        for (let box = element; box !== null; box = box.parentElement)
+            if (getComputedStyle(box).display === "none") return false; // drawings keep boxes of hidden texts
+        return element.checkVisibility({ contentVisibilityAuto: false, visibilityProperty: true });
+    }
+
+    // ---- The lines of all texts that are seen
+    const texts = [];
+    const walker = document.createTreeWalker(document.body, NodeFilter.SHOW_TEXT);
+    for (let node = walker.nextNode(); node !== null; node = walker.nextNode()) {
+        if (node.data.trim() === "" || !isShown(node.parentElement)) continue;
+        const range = document.createRange();
+        range.selectNodeContents(node);
+        const rects = [...range.getClientRects()].filter(({ width, height }) => width > 0 && height > 0);
+        if (rects.length > 0) texts.push({ node, rects, element: node.parentElement });
+    }
+
+    // ---- Overlaps: boxes of letters are as high as the line, so the middle of each counts
+    const lines = texts.flatMap(({ node, rects }) => rects.map((rect) => {
+        const margin = rect.height * 0.22;
+        return { node, left: rect.left, right: rect.right, top: rect.top + margin, bottom: rect.bottom - margin };
+    }));
+    lines.sort((a, b) => a.top - b.top);
+    lines.forEach((one, at) => {
+        for (let next = at + 1; next < lines.length && lines[next].top < one.bottom; next += 1) {
+            const other = lines[next];
+            if (other.node === one.node) continue;
+            const across = Math.min(one.right, other.right) - Math.max(one.left, other.left);
+            if (across > ROUNDING && !isScrolledAway(one) && !isScrolledAway(other))
+                add("overlap", `${one.node.parentElement.closest("[class]")?.getAttribute("class")}: ${one.node.data.trim().slice(0, 25)} / ${other.node.data.trim().slice(0, 25)}`);
+        }
+    });
+
+    // Whether a line is outside the part of a scrolled region that is seen.
+    function isScrolledAway({ node, left, right }) {
+        const region = node.parentElement.closest(".wide");
+        if (region === null) return false;
+        const box = region.getBoundingClientRect();
+        return right > box.right || left < box.left;
+    }
+
+    // ---- Touching texts: words of two elements with no space between them
+    for (const { node, rects } of texts) {
+        if (node.parentElement.namespaceURI.endsWith("svg")) continue;
+        for (const other of texts) {
+            if (other.node === node || other.element === node.parentElement) continue;
+            if (!other.element.closest("td, th") || other.element.closest("td, th") === node.parentElement.closest("td, th")) continue;
+            const touches = rects.some((a) => other.rects.some((b) =>
+                Math.abs(a.top - b.top) < 4 && b.left >= a.right - 1 && b.left - a.right < 3));
+            if (touches) add("touching", `${node.data.trim().slice(-20)} / ${other.node.data.trim().slice(0, 20)}`);
+        }
+    }
+
+    // ---- Cut texts
+    for (const { node, rects, element } of texts) {
+        for (let box = element; box !== null && box !== document.documentElement; box = box.parentElement) {
+            const style = getComputedStyle(box);
+            if (box.matches(".wide")) break;
+            const isClipped = style.overflowX === "hidden" || style.overflowX === "clip";
+            if (!isClipped || box === document.body) continue;
+            const { left, right } = box.getBoundingClientRect();
+            if (rects.some((rect) => rect.left < left - ROUNDING || rect.right > right + ROUNDING)) add("cut", node.data);
+        }
+        if (element.closest(".wide") === null && rects.some((rect) => rect.left < -ROUNDING || rect.right > innerWidth + ROUNDING))
+            add("outside the window", node.data);
+    }
+
+    // ---- Broken words
+    for (const { node, element } of texts) {
+        if (element.closest("code, .digest")) continue;
+        for (const match of node.data.matchAll(/[\\p{L}\\p{N}.,]+/gu)) {
+            const range = document.createRange();
+            range.setStart(node, match.index);
+            range.setEnd(node, match.index + match[0].length);
+            const tops = new Set([...range.getClientRects()].map((rect) => Math.round(rect.top)));
+            if (tops.size > 1 && match[0].length < 24) add("broken word", match[0]);
+        }
+    }
+
+    // ---- Contrast
+    const canvas = document.createElement("canvas").getContext("2d", { willReadFrequently: true });
+
+    function channels(color) {
+        canvas.clearRect(0, 0, 1, 1);
+        canvas.fillStyle = color;
+        canvas.fillRect(0, 0, 1, 1);
+        return [...canvas.getImageData(0, 0, 1, 1).data];
+    }
+
+    function luminance(rgb) {
+        const [r, g, b] = rgb.slice(0, 3).map((part) => {
+            const share = part / 255;
+            return share <= 0.04045 ? share / 12.92 : ((share + 0.055) / 1.055) ** 2.4;
+        });
+        return 0.2126 * r + 0.7152 * g + 0.0722 * b;
+    }
+
+    function groundOf(element) {
+        for (let box = element; box !== null; box = box.parentElement) {
+            const rgba = channels(getComputedStyle(box).backgroundColor);
+            if (rgba[3] > 250) return rgba;
+        }
+        return [255, 255, 255, 255];
+    }
+
+    for (const { node, element } of texts) {
+        const style = getComputedStyle(element);
+        const isDrawn = element.namespaceURI.endsWith("svg");
+        const ink = luminance(channels(isDrawn ? style.fill : style.color));
+        const ground = luminance(groundOf(element));
+        const ratio = (Math.max(ink, ground) + 0.05) / (Math.min(ink, ground) + 0.05);
+        const size = parseFloat(style.fontSize);
+        const isLarge = size >= 24 || (size >= 18.6 && Number(style.fontWeight) >= 700);
+        if (ratio < (isLarge ? 3 : 4.5)) add(`contrast ${ratio.toFixed(1)}`, node.data);
+    }
+
+    const extra = document.documentElement.scrollWidth - document.documentElement.clientWidth;
+    if (extra > 0) add("wider than the window", `${extra} pixels`);
+    return [...new Set(found)];
+})()
+"""
+
+STRUCTURE = """
+(() => {
+    const found = [];
+    const controls = document.querySelectorAll("input, button, select, textarea, a, summary, [tabindex='0']");
+    for (const control of controls) {
+        const labels = control.labels === undefined || control.labels === null ? [] : [...control.labels];
+        const named = (control.getAttribute("aria-labelledby") ?? "").split(" ").filter((id) => id !== "");
+        const name = [control.getAttribute("aria-label"), control.textContent, ...labels.map((it) => it.textContent),
+            ...named.map((id) => document.getElementById(id)?.textContent)].join("").trim();
+        if (name === "") found.push(`no name: ${control.outerHTML.slice(0, 60)}`);
+    }
+    for (const [name, attribute] of [["aria-labelledby", "id"], ["aria-describedby", "id"]])
+        for (const element of document.querySelectorAll(`[${name}]`))
+            for (const id of element.getAttribute(name).split(" "))
+                if (document.getElementById(id) === null) found.push(`${name} of nothing: ${id}`);
+    const ids = [...document.querySelectorAll("[id]")].map((element) => element.id);
+    ids.filter((id, at) => ids.indexOf(id) !== at).forEach((id) => found.push(`id twice: ${id}`));
+    for (const link of document.querySelectorAll("a[href^='#']"))
+        if (document.getElementById(link.getAttribute("href").slice(1)) === null) found.push(`link to nothing: ${link.getAttribute("href")}`);
+    let level = 0;
+    for (const heading of document.querySelectorAll("h1, h2, h3, h4")) {
+        const now = Number(heading.localName[1]);
+        if (now > level + 1) found.push(`heading skips a level: ${heading.textContent.trim()}`);
+        level = now;
+    }
+    if (document.querySelectorAll("h1").length !== 1) found.push("not one h1");
+    for (const table of document.querySelectorAll("table"))
+        if (table.caption === null && !table.getAttribute("aria-label")) found.push("a table without a caption");
+    for (const drawing of document.querySelectorAll("svg"))
+        if (!drawing.closest("[aria-hidden='true'], [role='img']")) found.push("a drawing that is read out");
+    for (const drawing of document.querySelectorAll("[role='img']"))
+        if (!drawing.getAttribute("aria-label")) found.push("a picture without a label");
+    return found;
+})()
+"""
+
+
+def problems(page: Page) -> list[str]:
+    """Returns what is wrong with the layout of a page at the size of its window, each once."""
+    found: list[str] = page.run(MEASURE)
+    return found
+
+
+def faults_of_structure(page: Page) -> list[str]:
+    """Returns what a screen reader or a keyboard would miss."""
+    found: list[str] = page.run(STRUCTURE)
+    return found
