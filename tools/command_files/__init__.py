@@ -1,1 +1,1 @@
-"""Manual pages and completion of the companion's commands, made from their parsers."""
+"""Manual pages of the companion's commands, made from their parsers, and completion of all."""

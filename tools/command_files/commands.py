@@ -2,7 +2,6 @@
 
 import argparse
 import importlib
-import re
 import sys
 from dataclasses import dataclass
 from pathlib import Path
@@ -48,21 +47,20 @@ def commands_of(top: Path) -> list[Command]:
 
     # Errors
 
-    `ImportError` if the module that a command runs cannot be imported.
+    `KeyError` if the package has no such command, `ImportError` if its module cannot be imported.
     """
     sys.path.insert(0, str(top / "companion/src"))
-    return [_command(path) for path in sorted((top / "companion/bin").iterdir())]
+    modules = importlib.import_module("pert_companion.__main__").COMMANDS
+    names = sorted(path.name for path in (top / "companion/bin").iterdir())
+    return [_command(name, modules[name]) for name in names]
 
 
-def _command(path: Path) -> Command:
-    found = re.search(r"-m pert_companion (\w+)", path.read_text(encoding="utf-8"))
-    if found is None:
-        raise ImportError(f"{path.name}: runs no module of the package")
-    parser = importlib.import_module(f"pert_companion.cli.{found[1]}").parser()
+def _command(name: str, module: str) -> Command:
+    parser = importlib.import_module(f"pert_companion.cli.{module}").parser()
     parser.formatter_class = _wide
     words = tuple(_word(action) for action in parser._actions)
     usage = " ".join(parser.format_usage().removeprefix("usage:").split())
-    return Command(path.name, parser.description or "", parser.epilog or "", usage, words)
+    return Command(name, parser.description or "", parser.epilog or "", usage, words)
 
 
 def _wide(prog: str) -> argparse.HelpFormatter:
@@ -76,5 +74,7 @@ def _word(action: argparse.Action) -> Word:
     if not action.option_strings:
         value = str(action.metavar or action.dest)
     is_file = takes and (action.type is Path or value in ("file", "FILE", "DECK", "deck"))
-    text = " ".join((action.help or "").replace("%(prog)s", "the command").split())
+    text = " ".join(
+        (action.help or "").replace("%(prog)s", "the command").replace("%%", "%").split()
+    )
     return Word(tuple(action.option_strings), str(value) if takes else "", choices, is_file, text)

@@ -1,4 +1,4 @@
-"""Completion of the commands for bash, zsh and fish."""
+"""Completion of the companion's commands for bash, zsh and fish."""
 
 from command_files.commands import Command, Word
 
@@ -57,7 +57,7 @@ def zsh(commands: list[Command]) -> str:
         lines.append(f"    {command.name})")
         lines.append("        _arguments \\")
         for option in command.options():
-            lines += [f"            {_quoted(spec)} \\" for spec in _zsh_specs(option)]
+            lines += [f"            {quoted(spec)} \\" for spec in _zsh_specs(option)]
         lines += ["            '*:file:_files'", "        ;;"]
     return "\n".join(lines + ["esac"]) + "\n"
 
@@ -81,7 +81,7 @@ def fish(command: Command) -> str:
         for name in option.names:
             words.append(f"-l {name[2:]}" if name.startswith("--") else f"-s {name[1:]}")
         if option.choices:
-            words.append(f"-x -a {_quoted(' '.join(option.choices))}")
+            words.append(f"-x -a {quoted(' '.join(option.choices))}")
         elif option.value:
             words.append("-r -F" if option.is_file else "-x")
         words.append(f"-d {_fish_quoted(option.help)}")
@@ -89,7 +89,8 @@ def fish(command: Command) -> str:
     return "\n".join(lines) + "\n"
 
 
-def _quoted(text: str) -> str:
+def quoted(text: str) -> str:
+    """Returns a text as one word of a shell."""
     return "'" + text.replace("'", "'\\''") + "'"
 
 

@@ -5,19 +5,19 @@ import re
 import sys
 from pathlib import Path
 
-from command_files import completion, manual
+from command_files import completion, manual, programs
 from command_files.commands import commands_of
 from command_files.texts import TEXTS
 
 USAGE = """\
-Writes the manual pages of the companion's commands, and their completion, from their parsers.
+Writes the manual pages of the companion's commands, and completion of these and the programs.
 
     tools/command-files             writes docs/man/pert-*.1 and tools/completion/
     tools/command-files --check     names each file that is not as it would be written
 
 The status is 0, 1 if a file is not up to date, or 2 for wrong words.
 """
-LIBRARIES = ("openpyxl", "defusedxml", "icalendar", "jinja2")
+LIBRARIES = ("openpyxl", "defusedxml", "icalendar", "jinja2", "numpy")
 
 
 def files(top: Path) -> dict[Path, str]:
@@ -31,7 +31,11 @@ def files(top: Path) -> dict[Path, str]:
     found = {
         folder / "companion.bash": completion.bash(commands),
         folder / "_pert-companion": completion.zsh(commands),
+        folder / "pert.bash": programs.bash(),
+        folder / "_pert": programs.zsh(),
     }
+    for program in programs.PROGRAMS:
+        found[folder / f"{program}.fish"] = programs.fish(program)
     for command in commands:
         found[folder / f"{command.name}.fish"] = completion.fish(command)
         if command.name in TEXTS:

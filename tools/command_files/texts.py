@@ -85,4 +85,36 @@ TEXTS = {
         "The deck or its side file cannot be used, or its figures do not agree.",
         ("pert-schedule(1)", "pert-compare(1)"),
     ),
+    "pert-ledger": Text(
+        "books vouchers on the accounts of a deck",
+        (
+            "The ledger next to the deck has its name with .ledger.csv at its end. It keeps every"
+            " voucher and every amount to go, whole and in the order in which they were brought."
+            " The deck has the balance of each account at the close of the data date: a credit"
+            " reduces the latest earlier charges of its account.",
+            "The data date is the close of a day. Vouchers of that day are in the report, as is"
+            " work that was finished on it; vouchers of the next day are not. The ASOF card has the"
+            " next morning.",
+            "pert-import(1) takes the money of a ledger that is next to the deck that it writes, so"
+            " the plan and the vouchers of a month can come in either order.",
+            SIDE_FILE,
+            WHOLE,
+        ),
+        "A list cannot be used, or something in it is odd and not accepted; nothing is written.",
+        ("pert-import(1)", "pert-compare(1)", "pert-check-status(1)"),
+    ),
+    "pert-check-status": Text(
+        "names what of a state is hard to believe",
+        (
+            "Nothing that is named is wrong in itself. Each line says what the state has, and what"
+            " that does to the estimate or to the forecast: amounts to go of 0 on work that has not"
+            " begun, amounts to go on finished work, amounts to go that did not fall by what was"
+            " spent, money spent on work that has not begun, finished work with remaining duration,"
+            " work out of sequence, percent and remaining duration that disagree, critical work"
+            " without progress, and budgets that moved without a row in changes.csv.",
+            SIDE_FILE,
+        ),
+        "The deck or its side file cannot be used; or something is named and --strict is given.",
+        ("pert-ledger(1)", "pert-compare(1)"),
+    ),
 }

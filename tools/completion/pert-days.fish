@@ -8,4 +8,6 @@ complete -c pert-days -l calendar -d 'write the side file of a deck written by h
 complete -c pert-days -l weekdays -x -d 'the days of work, as mon-fri or sun-thu,sat'
 complete -c pert-days -l holidays -r -F -d 'a file of days that are not worked'
 complete -c pert-days -l unit -x -a 'days hours' -d 'what the durations of the deck are counted in'
-complete -c pert-days -s o -l output -r -F -d 'where a deck goes (standard output)'
+complete -c pert-days -s o -l output -r -F -d 'the deck to write (default: to standard output); - is standard output'
+complete -c pert-days -l overwrite -d 'replace files of another kind, and files that are read, too'
+complete -c pert-days -l json -d 'with --count: print JSON'

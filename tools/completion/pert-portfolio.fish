@@ -1,8 +1,10 @@
 # Completion of the companion's commands; tools/command-files writes this file.
 complete -c pert-portfolio -s h -l help -d 'show this help message and exit'
 complete -c pert-portfolio -l version -d 'show program\'s version number and exit'
-complete -c pert-portfolio -s o -l output -r -F -d 'the page to write'
+complete -c pert-portfolio -s o -l output -r -F -d 'the page to write; - is standard output'
+complete -c pert-portfolio -l overwrite -d 'replace files of another kind, and files that are read, too'
 complete -c pert-portfolio -l csv -d 'write the rows as CSV too, next to the page'
+complete -c pert-portfolio -l json -d 'print the rows as JSON, with or without a page'
 complete -c pert-portfolio -l previous -r -F -d 'a folder with the decks of the report before, under the same names'
 complete -c pert-portfolio -l stale -x -d 'flag figures that are so many days older than the newest (31)'
 complete -c pert-portfolio -l cache -r -F -d 'where rows are kept (the user\'s cache)'

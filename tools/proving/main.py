@@ -3,9 +3,12 @@
     tools/prove PROGRAM..      leaves each program at crates/PROGRAM/out/PROGRAM, built by this run,
                                or leaves nothing there
 
-All crates are proved in one run of `rt`, side by side. Every ten seconds a line says how many are
-proved, which are under way, and how long the others take, as docs/gate.md's table has it. The
-complete output of `rt` is in out/prove.log.
+`rt` first proves the library with the most crates below it, and these, side by side. It runs in
+the library's folder, so that it reads no crate of tests. Then come the other libraries, one by one:
+over libraries that are built, `rt` does without its pass over all sources. At the end it builds
+each program, and proves it with the same reading of what is below. Every ten seconds a line says
+how long that has taken, how many crates are proved and which are under way. The complete output of
+`rt` is in out/prove.log.
 
 It shares what it proves with `rt check`: both keep their work in each crate's out/, and prove only
 what changed since. If the kit shares this work between the clones on a machine, a new clone starts
@@ -24,21 +27,29 @@ import threading
 import time
 from pathlib import Path
 
-from proving.estimate import Estimate, minutes_of, uses_of, with_those_below
-from proving.processes import crates_below
-from proving.progress import Line, Progress
+from proving.crates import uses_of, with_those_below
+from proving.processes import work_below
+from proving.progress import Line, Progress, clock
 
 EVERY = float(os.environ.get("PROVE_SECONDS", "10"))
 # The memory of one check
 KILOBYTES = 3_000_000
 # What of the log says why a crate is not proved, and the lines of `rt` that never do
-TOLD = re.compile(r"(^|: )error|not-proved|^rt: |: failed|: not run")
-USUAL = re.compile(r"rt: (chose |waiting for |the quick pass above |rt check --fix-imports )")
+TOLD = re.compile(r"(^|: )error|not[- ]proved|: no proof: |^rt: |: failed |: not run, ")
+USUAL = re.compile(
+    r"rt: (chose |waiting for |the quick pass above |rt check --fix-imports )|\(1: not proved "
+)
 
 
 def text_of(path: Path) -> str:
     """Returns the text of a file, or none if there is no such file."""
     return path.read_text(encoding="utf-8") if path.exists() else ""
+
+
+def causes(log: str) -> list[str]:
+    """Returns the lines of what `rt` said that say why a crate is not proved."""
+    lines = log.splitlines()
+    return [it for it in lines if TOLD.search(it) and not USUAL.match(it)]
 
 
 def places(processors: int, memory: str) -> int:
@@ -56,28 +67,42 @@ class Run:
 
     def __init__(self, top: Path, programs: list[str]) -> None:
         self.top, self.programs = top, programs
-        uses = uses_of(text_of(top / "crates.txt"))
-        wanted = with_those_below(uses, programs)
-        processors = len(os.sched_getaffinity(0))
-        self.jobs = places(processors, text_of(Path("/proc/meminfo")))
-        minutes = minutes_of(text_of(top / "docs" / "gate.md"))
-        shared = min(self.jobs, processors)
-        self.estimate = Estimate({it: uses[it] for it in uses if it in wanted}, minutes, shared)
-        self.progress = Progress(wanted)
+        self.uses = uses_of(text_of(top / "crates.txt"))
+        self.jobs = places(len(os.sched_getaffinity(0)), text_of(Path("/proc/meminfo")))
+        self.progress = Progress(with_those_below(self.uses, programs))
         self.log = top / "out" / "prove.log"
+        self.began = time.monotonic()
 
     def built(self, program: str) -> Path:
         """Returns where `rt` leaves a program."""
         return self.top / "crates" / program / "out" / program
 
+    def below(self, crate: str) -> set[str]:
+        """Returns a crate and those below it."""
+        return with_those_below(self.uses, [crate])
+
     def prove(self) -> bool:
-        """Proves all crates, and returns whether they are proved."""
-        # At the top `rt` has all programs in one run. Test crates have nothing to prove there.
-        at = self.top if len(self.programs) > 1 else self.top / "crates" / self.programs[0]
+        """Proves all libraries, and returns whether they are proved."""
+        others = [it for it in self.uses if it in self.progress.wanted and it not in self.programs]
+        if not others:
+            return True
+        largest = max(others, key=lambda it: len(self.below(it)))
+        self.rt(largest, "all", "check")
+        if not self.progress.are_proved(self.below(largest)):
+            return False
+        # (a crate of the list follows those that it uses)
+        for name in (it for it in others if it not in self.below(largest)):
+            if self.rt(name, "lib"):
+                return False
+            self.progress.ended.add(name)
+        return True
+
+    def rt(self, crate: str, *words: str) -> int:
+        """Runs a command of `rt` in a crate's folder, and returns its status."""
         line = Line(sys.stdout)
         with open(self.log, "a", encoding="utf-8") as log, subprocess.Popen(
-            ["rt", "all", "check", "--jobs", str(self.jobs)],
-            cwd=at,
+            ["rt", *words, "--jobs", str(self.jobs)],
+            cwd=self.top / "crates" / crate,
             stdin=subprocess.DEVNULL,
             stdout=subprocess.PIPE,
             stderr=subprocess.STDOUT,
@@ -92,7 +117,7 @@ class Run:
                 for said in running.stdout:
                     log.write(said)
                     log.flush()
-                    self.progress.read(said.rstrip("\n"), time.monotonic())
+                    self.progress.read(said.rstrip("\n"))
             except BaseException:
                 running.terminate()
                 raise
@@ -100,32 +125,21 @@ class Run:
                 ended.set()
                 watcher.join()
                 line.end()
-        return self.progress.is_proved()
+        return running.returncode
 
     def watch(self, number: int, line: Line, ended: threading.Event) -> None:
-        """Looks at the processes each second, and writes the line every ten."""
-        due = time.monotonic() + EVERY
-        while not ended.wait(min(1.0, EVERY)):
-            now, running = time.monotonic(), crates_below(number)
-            self.progress.see(running, now)
-            if now >= due:
-                line.put(self.progress.line(self.estimate, running, now))
-                due = now + EVERY
+        """Writes the line every ten seconds."""
+        while not ended.wait(EVERY):
+            line.put(self.progress.line(work_below(number), time.monotonic() - self.began))
 
     def build(self, program: str) -> bool:
-        """Builds a program over the proofs just kept, and returns whether it is there.
+        """Builds a program over the libraries, and returns whether it is there.
 
-        `rt run` also runs it, on no words and no input. The status of that run says nothing.
+        Only a proved program is built. `rt run` also runs it, on no words and no input; the status
+        of that run says nothing.
         """
-        with open(self.log, "a", encoding="utf-8") as log:
-            subprocess.run(
-                ["rt", "run", "--jobs", str(self.jobs)],
-                cwd=self.top / "crates" / program,
-                stdin=subprocess.DEVNULL,
-                stdout=log,
-                stderr=log,
-                check=False,
-            )
+        self.rt(program, "run")
+        self.progress.ended.add(program)
         return os.access(self.built(program), os.X_OK)
 
     def outcome(self) -> str:
@@ -133,9 +147,11 @@ class Run:
         now, all_of_them = len(self.progress.proved_now), len(self.progress.wanted)
         if not now:
             return "nothing has changed since an earlier check proved it"
+        took = clock(time.monotonic() - self.began)
         if now == all_of_them:
-            return f"proved all {now} crates"
-        return f"proved {now} of {all_of_them} crates; the others are as an earlier check left them"
+            return f"proved all {now} crates in {took}"
+        others = "the others are as an earlier check left them"
+        return f"proved {now} of {all_of_them} crates in {took}; {others}"
 
 
 def say(text: str) -> None:
@@ -168,16 +184,17 @@ def run(top: Path, programs: list[str]) -> int:
 
 def prove_and_build(this: Run) -> int:
     """Proves all crates, builds the programs, and returns the status."""
-    log = this.log.relative_to(this.top)
     if not this.prove():
-        say(f"make: not proved, so nothing is built; the end of {log} says why:")
-        lines = text_of(this.log).split("\n")
-        told = [it for it in lines if TOLD.search(it) and not USUAL.match(it)]
-        say("\n".join(told[-20:]))
-        return 1
-    print(this.outcome(), flush=True)
+        return failed(this, "not proved, so nothing is built")
     for program in this.programs:
         if not this.build(program):
-            say(f"make: {program} was not built; the end of {log} says why")
-            return 1
+            return failed(this, f"{program} was not built")
+    print(this.outcome(), flush=True)
     return 0
+
+
+def failed(this: Run, what: str) -> int:
+    """Says what failed and why, and returns the status."""
+    say(f"make: {what}; the end of {this.log.relative_to(this.top)} says why:")
+    say("\n".join(causes(text_of(this.log))[-20:]))
+    return 1

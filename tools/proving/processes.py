@@ -1,8 +1,17 @@
-"""Which crates the processes of a command prove, as /proc shows them."""
+"""What the processes of a command do, as /proc shows them."""
 
 from __future__ import annotations
 
 import os
+from dataclasses import dataclass
+
+
+@dataclass(frozen=True)
+class Work:
+    """The crates that are being proved, and whether `rt` reads sources before it proves any."""
+
+    crates: frozenset[str]
+    is_reading: bool
 
 
 def parent_and_words(number: int) -> tuple[int, list[str]] | None:
@@ -17,25 +26,26 @@ def parent_and_words(number: int) -> tuple[int, list[str]] | None:
 
 
 def crate_in(words: list[str]) -> str | None:
-    """Returns the crate that the command of a process checks or builds, if it is the prover.
-
-    A pass with `--only` proves nothing: `rt` first reads the sources of the programs in this way.
-    """
-    is_prover = os.path.basename(words[0]) == "rattle" and "--only" not in words
-    if not is_prover or "--crate-name" not in words[:-1]:
+    """Returns the crate that the command of a process is about, if it is the prover."""
+    if os.path.basename(words[0]) != "rattle" or "--crate-name" not in words[:-1]:
         return None
     return words[words.index("--crate-name") + 1]
 
 
-def crates_below(top: int) -> set[str]:
-    """Returns the crates that the processes below one prove now."""
+def work_below(top: int) -> Work:
+    """Returns what the processes below one do now.
+
+    A prover with `--only` proves nothing: `rt` first reads all sources of a crate in this way.
+    """
     numbers = [int(it) for it in os.listdir("/proc") if it.isdigit()]
     seen = {number: found for number in numbers if (found := parent_and_words(number))}
-    crates = set()
+    crates, is_reading = set(), False
     for number, (_, words) in seen.items():
         name, above = crate_in(words), number
         while name and above in seen and above != top:
             above = seen[above][0]
-        if name and above == top:
+        if name and above == top and "--only" in words:
+            is_reading = True
+        elif name and above == top:
             crates.add(name)
-    return crates
+    return Work(frozenset(crates), is_reading)

@@ -7,7 +7,7 @@ import re
 from collections.abc import Collection
 from typing import TextIO
 
-from proving.estimate import Estimate, in_words
+from proving.processes import Work
 
 SECTION = re.compile(r"== (\w+)$")
 VERDICT = re.compile(r"(\w+): (ok$|failed |not run)")
@@ -17,8 +17,10 @@ CHECKED = re.compile(r"crate (\w+): .* checked=[1-9]")
 class Progress:
     """Follows the output of `rt all check`, which prints all that it says of a crate at its end.
 
-    A section begins with `== CRATE`; in it, a line `crate CRATE: .. checked=N` says how much was
-    proved in this run. The last section, `== summary`, has a line `CRATE: ok` for each.
+    A section begins with `== CRATE`. If something of the crate was proved in this run, the section
+    has a line `crate CRATE: .. checked=N`. The last section, `== summary`, has a line `CRATE: ok`
+    for each. Several runs may follow one another; what an earlier one proved is kept in a later
+    one.
     """
 
     def __init__(self, wanted: Collection[str]) -> None:
@@ -26,12 +28,10 @@ class Progress:
         self.ended: set[str] = set()
         self.proved_now: set[str] = set()
         self.verdicts: dict[str, bool] = {}
-        self.begun: dict[str, float] = {}
-        self.took: dict[str, float] = {}
         self.is_summary = False
 
-    def read(self, line: str, now: float) -> None:
-        """Takes one line of the output, at a time in seconds."""
+    def read(self, line: str) -> None:
+        """Takes one line of the output."""
         section = SECTION.match(line)
         if section:
             self.is_summary = section[1] == "summary"
@@ -43,31 +43,27 @@ class Progress:
         checked = CHECKED.match(line)
         if checked and checked[1] in self.wanted:
             self.proved_now.add(checked[1])
-            if checked[1] in self.begun:
-                self.took[checked[1]] = now - self.begun[checked[1]]
 
-    def see(self, running: Collection[str], now: float) -> None:
-        """Takes the crates that are being proved at a time."""
-        for name in running:
-            self.begun.setdefault(name, now)
+    def are_proved(self, names: Collection[str]) -> bool:
+        """Returns whether all of these crates are proved, as a summary says."""
+        return all(self.verdicts.get(name, False) for name in names)
 
-    def is_proved(self) -> bool:
-        """Returns whether all crates that are wanted are proved, as the summary says."""
-        return all(self.verdicts.get(name, False) for name in self.wanted)
-
-    def line(self, estimate: Estimate, running: Collection[str], now: float) -> str:
-        """Returns the line for the terminal or the log."""
-        under_way = {it: now - self.begun.get(it, now) for it in running if it in self.wanted}
-        under_way = {it: since for it, since in under_way.items() if it not in self.ended}
-        parts = [f"{len(self.ended)} of {len(self.wanted)} crates proved"]
-        if not self.ended and not self.begun:
-            parts.append("reading the sources")
+    def line(self, work: Work, seconds: float) -> str:
+        """Returns the line for the terminal or the log, so many seconds after the beginning."""
+        under_way = sorted(it for it in work.crates if it in self.wanted and it not in self.ended)
+        parts = [f"{clock(seconds)}  {len(self.ended)} of {len(self.wanted)} crates proved"]
         if under_way:
-            parts.append(f"under way: {', '.join(sorted(under_way))}")
-        if len(self.ended) < len(self.wanted):
-            left = estimate.seconds_left(self.ended, under_way, self.took)
-            parts.append(f"{in_words(left)} left")
+            parts.append(f"under way: {', '.join(under_way)}")
+        if work.is_reading:
+            parts.append("reading the sources")
         return "; ".join(parts)
+
+
+def clock(seconds: float) -> str:
+    """Returns a duration as 0:07, 12:40 or 1:05:00."""
+    minutes, rest = divmod(int(seconds), 60)
+    hours, minutes = divmod(minutes, 60)
+    return f"{hours}:{minutes:02}:{rest:02}" if hours else f"{minutes}:{rest:02}"
 
 
 class Line:

@@ -7,10 +7,14 @@ from reading_list.calls import CALLS, clauses_of, promises
 from reading_list.definitions import BEGINS, Definition, constructors_of
 from reading_list.pages import Page, count
 from reading_list.repository import Repository
-from reading_list.tables import library_lines, sections
+from reading_list.tables import library_lines, notes, parts, sections
 
-# how many definitions and lines the headline of `run` may reach, so that it is read in one sitting
+# how many definitions and lines the headline of `run` may reach, so that it is read in a day
 MOST = (325, 1650)
+# the definition that the headline is about, how many definitions are read first, and on which line
+# of the page the last of these may end
+HEART = "PrintsWholeCurve"
+FIRST = (30, 450)
 # how many definitions all clauses of `run` together may reach
 MOST_OF_ALL = 900
 MISPLACED = "in specs/ and reached by no promise, or in specs/inside/ and reached by one"
@@ -36,6 +40,20 @@ def counts(repository: Repository) -> dict[str, list[Definition]]:
         print(f"reading list: {call}: headline {count(headline)}; all clauses {count(complete)}")
         reach[call] = complete
     return reach
+
+
+def beginning(page: Page) -> Iterator[str]:
+    """Prints how far the first definitions of the headline's page reach. Yields what is too far."""
+    number = min(FIRST[0], len(page.ends))
+    end = page.ends[number - 1] if number else 0
+    names = [definition.name for definition in page.listed]
+    heart = names.index(HEART) + 1 if HEART in names else 0
+    print(f"reading list: headline.md: the first {number} definitions end on line {end}", end="")
+    print(f"; {HEART} is number {heart}" if heart else "")
+    if end > FIRST[1]:
+        yield f"the first {number} definitions end on line {end}; at most on line {FIRST[1]}"
+    if heart > FIRST[0]:
+        yield f"{HEART} is definition {heart}; at most {FIRST[0]}"
 
 
 def too_long(headline: list[Definition], complete: list[Definition]) -> Iterator[str]:
@@ -107,6 +125,16 @@ def stale(repository: Repository) -> Iterator[str]:
             yield f"tools/reading-sections.txt: there is no {section.place}"
 
 
+def unknown(repository: Repository, headline: Page) -> Iterator[str]:
+    """The definitions that tools/reading-parts.txt and tools/reading-notes.md name and the pages
+    do not have.
+    """
+    begins = [(place, "parts.txt") for part in parts(repository) for place in part.begins]
+    for place, file in [*begins, *((place, "notes.md") for place in notes(repository))]:
+        if repository.definition_of(place) not in headline.seen:
+            yield f"tools/reading-{file}: headline.md has no definition {place}"
+
+
 def misquoted(repository: Repository) -> Iterator[str]:
     """The definitions that docs/auditor.md quotes and that are not so in specs/.
 
@@ -125,6 +153,7 @@ def flaws(
 ) -> Iterator[str]:
     """All that is wrong."""
     yield from too_long(pages[0][1].listed, complete)
+    yield from beginning(pages[0][1])
     yield from misplaced(repository)
     yield from misquoted(repository)
     for _, page in pages:
@@ -132,3 +161,4 @@ def flaws(
     yield from unprinted(pages)
     yield from unsaid(repository, pages)
     yield from stale(repository)
+    yield from unknown(repository, pages[0][1])

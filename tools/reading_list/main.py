@@ -7,11 +7,15 @@ tools/reading-list --check    writes nothing; prints the counts, and fails if
   - a word of the language or of the kit's libraries has no line in tools/library-words.txt
   - tools/reading-sections.txt names a section that no page has
   - docs/auditor.md quotes a definition incorrectly
-  - the promises reach more definitions than the limits in tools/reading_list/checks.py allow
+  - tools/reading-parts.txt or tools/reading-notes.md names a definition that headline.md lacks
+  - the promises reach more definitions than the limits in tools/reading_list/checks.py allow, or
+    the first of headline.md end further down
 
 A clause names definitions, and these name others, down to words of the language and of the kit's
 libraries, constants and plain types of the code. A definition is printed under the first clause
-that reaches it: first those that the clause names, then what they name.
+that reaches it: first those that the clause names, then what they name. What is reached only
+through the definitions of tools/reading-parts.txt comes later in headline.md, part by part, and
+tools/reading-notes.md has examples that are printed below definitions that are hard to read.
 """
 
 import sys

@@ -6,14 +6,19 @@ from reading_list.calls import CALLS, Contract, clauses_of, methods, traits_and_
 from reading_list.code import Code
 from reading_list.definitions import Definition
 from reading_list.repository import Repository
-from reading_list.tables import library_lines, section_of, sections
+from reading_list.tables import Part, library_lines, notes, parts, section_of, sections
 from reading_list.words import Alias, Words
 
 HEADLINE = (
     "The clause of `run` that says what the program is for, and below it each definition on which "
-    "it rests, once, in the order in which they are best read: those that the clause names, and "
-    "after each what it names in turn. Start with docs/auditor.md, which leads through those that "
-    "matter most."
+    "it rests, once: those that the clause names, and after each what it names in turn. What is "
+    "printed comes first, and what an accepted deck is after it. Start with docs/auditor.md, which "
+    "leads through those that matter most."
+)
+TYPES = (
+    "A plain type of the code is printed below the first definition that names it; in definitions "
+    "its integer types are ℕ, and ℤ if they have a sign. Constants and the words of the language "
+    "and of the kit's libraries are in tables at the end."
 )
 REST = (
     "Every other clause of `run`, `check_run` and `session_run`, the calls of a session, what is "
@@ -44,20 +49,56 @@ class Page:
     def __init__(self, repository: Repository, title: str, intro: str) -> None:
         self.repository = repository
         self.sections = sections(repository)
-        self.out = [f"# {title}", "", intro, ""]
+        self.notes = {repository.definition_of(at): said for at, said in notes(repository).items()}
+        self.out = [f"# {title}", "", intro, "", TYPES, ""]
         self.words = Words(repository)
         self.seen: set[Definition] = set()
         self.listed: list[Definition] = []
+        # the line on which each of them ends
+        self.ends: list[int] = []
+        self.types: set[Code] = set()
         self.last: str | None = None
 
-    def contract(self, contract: Contract, heading: str) -> None:
-        """Prints a contract, and the definitions that it reaches and that were not printed yet."""
+    def contract(self, contract: Contract, heading: str, later: Sequence[Part] = ()) -> None:
+        """Prints a contract, and the definitions that it reaches and that were not printed yet:
+        first those outside all later parts, and then each part.
+        """
+        begins = {part: self.begins(part) for part in later}
+        held = {definition for found in begins.values() for definition in found}
         listed: list[Definition] = []
-        self.repository.reach(contract.imports, None, contract.text, self.seen, listed)
+        self.repository.reach(contract.imports, None, contract.text, self.seen, listed, held)
         self.out += [f"## {heading}, {contract.place}", ""] + fenced(contract.text)
+        self.definitions(listed)
+        for part, found in begins.items():
+            held -= set(found)
+            self.part(part, found, held)
         self.words.take(contract.imports, contract.text, contract.place)
+        self.new_types()
+
+    def begins(self, part: Part) -> list[Definition]:
+        """The definitions with which a part begins."""
+        found = [self.repository.definition_of(place) for place in part.begins]
+        return [definition for definition in found if definition is not None]
+
+    def part(self, part: Part, begins: Sequence[Definition], later: set[Definition]) -> None:
+        """Prints a part: the definitions with which it begins, and what they reach."""
+        self.out += [f"## {part.heading}", "", part.said, ""]
+        self.last = None
+        for definition in begins:
+            if definition in self.seen:
+                continue
+            self.seen.add(definition)
+            listed, inner = [definition], definition.module
+            text = definition.text
+            self.repository.reach(inner.imports, inner, text, self.seen, listed, later)
+            self.definitions(listed)
+
+    def definitions(self, listed: Sequence[Definition]) -> None:
+        """Prints definitions, and notes where each ends."""
         for definition in listed:
             self.definition(definition)
+            self.ends.append(sum(line.count("\n") + 1 for line in self.out) - 1)
+            self.new_types()
         self.listed += listed
 
     def definition(self, definition: Definition) -> None:
@@ -71,15 +112,24 @@ class Page:
         if context:
             self.out += [f"({context})", ""]
         self.out += fenced(definition.whole)
+        if definition in self.notes:
+            self.out += [self.notes[definition], ""]
         self.words.take(definition.module.imports, definition.text, place)
+
+    def new_types(self) -> None:
+        """Prints the plain types of the code that were named and not printed yet."""
+        for code in list(self.words.codes.values()):
+            if code.sort == "type" and code not in self.types:
+                self.types.add(code)
+                self.out += [f"*{code.place}*", "", *fenced(code.text)]
+                self.last = None
 
     def finish(self) -> str:
         """The complete page."""
         codes = sorted(self.words.codes.values(), key=lambda code: (code.place, code.name))
         constants = [code for code in codes if code.sort == "constant"]
-        types = [code for code in codes if code.sort == "type"]
         views = [code for code in codes if code.sort == "view"]
-        lines = [*self.out, *constant_lines(constants), *type_lines(types), *view_lines(views)]
+        lines = [*self.out, *constant_lines(constants), *view_lines(views)]
         lines += alias_lines(self.words.aliases)
         lines += self.word_lines()
         return "\n".join(lines) + "\n"
@@ -104,15 +154,6 @@ def constant_lines(constants: list[Code]) -> list[str]:
     return ["## Constants", "", "| Constant | Value | Where |", "|---|---|---|", *rows, ""]
 
 
-def type_lines(types: list[Code]) -> list[str]:
-    """The plain types of the code."""
-    lines = []
-    for one in types:
-        lines += [f"*{one.place}*", "", *fenced(one.text)]
-    said = "In definitions, the integer types are ℕ, and ℤ if they have a sign."
-    return ["## Plain types of the code", "", said, "", *lines] if lines else []
-
-
 def view_lines(views: list[Code]) -> list[str]:
     """The types in place of whose values definitions see something else."""
     if not views:
@@ -135,18 +176,19 @@ def alias_lines(aliases: set[Alias]) -> list[str]:
 
 def headline_page(repository: Repository) -> tuple[str, Page]:
     """The page of the headline of `run`."""
-    page = Page(repository, "The headline, to be read in one sitting", HEADLINE)
+    page = Page(repository, "The headline: a day's reading", HEADLINE)
     for clause in clauses_of(repository, "run"):
         if clause.name in CALLS["run"]:
-            page.contract(clause, f"`{clause.name}` of `run`")
-    page.out[3:3] = ["", f"{count(page.listed)}."]
+            page.contract(clause, f"`{clause.name}` of `run`", parts(repository))
+    page.out[3] = f"\n{count(page.listed)}.\n"
+    page.ends = [end + 2 for end in page.ends]
     return page.finish(), page
 
 
 def rest_page(repository: Repository, headline: Page) -> tuple[str, Page]:
     """The page of all other promises."""
     page = Page(repository, "All other promises", REST)
-    page.seen = set(headline.seen)
+    page.seen, page.types = set(headline.seen), set(headline.types)
     for call, first in CALLS.items():
         for clause in clauses_of(repository, call):
             if call != "run" or clause.name not in first:

@@ -1,7 +1,7 @@
 """The crates of a repository, and the definitions that a text in them reaches."""
 
 import re
-from collections.abc import Iterator
+from collections.abc import Collection, Iterator
 from functools import cached_property
 from pathlib import Path
 
@@ -97,18 +97,31 @@ class Repository:
         text: str,
         seen: set[Definition],
         listed: list[Definition],
+        later: Collection[Definition] = (),
     ) -> None:
-        """Lists what a text names, and below each what that names in turn, each once."""
+        """Lists what a text names, and below each what that names in turn, each once.
+
+        A definition that is printed later is left out, with what only it reaches.
+        """
         found = []
         for word in words_of(text) + [f"◌{sign}◌" for sign in signs_of(text)]:
             definition = self.resolve(imports, local, word)
-            if definition is not None and definition not in seen:
+            if definition is not None and definition not in seen and definition not in later:
                 seen.add(definition)
                 found.append(definition)
         for definition in found:
             listed.append(definition)
             inner = definition.module
-            self.reach(inner.imports, inner, definition.text, seen, listed)
+            self.reach(inner.imports, inner, definition.text, seen, listed, later)
+
+    def definition_of(self, place: str) -> Definition | None:
+        """The definition at a place such as `pc_net/Nets.IsSound`: a crate, a file of its specs/
+        and a name. A file in a folder is written `FOLDER.FILE`.
+        """
+        crate, _, rest = place.partition("/")
+        file, _, name = rest.rpartition(".")
+        module = self.module_of(f"Rattle.{crate}.specs.{file}")
+        return module.definitions.get(name) if module else None
 
 
 def is_constructor(module: Module, name: str) -> bool:

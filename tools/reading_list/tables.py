@@ -1,5 +1,8 @@
-"""The tables beside the list: which section says a definition in words, and the kit's words."""
+"""The tables beside the list: the parts of the headline's page, notes on definitions, which section
+says a definition in words, and the kit's words.
+"""
 
+import re
 from dataclasses import dataclass
 from pathlib import Path
 
@@ -42,3 +45,29 @@ def section_of(repository: Repository, listed: list[Section], definition: Defini
         if path.startswith(section.place):
             return f'{section.page}, "{section.heading}"'
     return None
+
+
+@dataclass(frozen=True)
+class Part:
+    """A later part of the headline's page: its heading, the places of the definitions with which it
+    begins, and why it comes later.
+    """
+
+    heading: str
+    begins: tuple[str, ...]
+    said: str
+
+
+def parts(repository: Repository) -> list[Part]:
+    """The rows of tools/reading-parts.txt, in the order in which the page has them."""
+    rows = rows_of(repository.top / "tools" / "reading-parts.txt")
+    return [Part(heading, tuple(begins.split()), said) for heading, begins, said in rows]
+
+
+def notes(repository: Repository) -> dict[str, str]:
+    """The notes of tools/reading-notes.md, by the place of the definition that each explains."""
+    text = (repository.top / "tools" / "reading-notes.md").read_text(encoding="utf-8")
+    return {
+        found[1]: found[2].strip()
+        for found in re.finditer(r"^## (\S+)\n(.*?)(?=^## |\Z)", text, flags=re.M | re.S)
+    }

@@ -121,6 +121,8 @@ impl Session {
     "    IsFew n = n ≤ MOST\n",
     "tools/library-words.txt": "# word, tab, meaning\nℕ\tnumbers\n◌≤◌\tat most\n",
     "tools/reading-sections.txt": "# place, page, heading\npc_low/specs\tdeck.md\tWords\n",
+    "tools/reading-parts.txt": "# heading, definitions, what the part is\n",
+    "tools/reading-notes.md": "# Notes\n\n## pc_low/Words.IsFew\n\n*For example*, 7 is few.\n",
 }
 
 
@@ -183,6 +185,81 @@ def test_what_definitions_name_besides_is_printed(top: Path) -> None:
     assert "pub struct Colour {\n    pub depth: u8,\n}" in rest
     assert "| `HasLittle` | `HasFew` of Rattle.pc_low.specs.Words |" in rest
     assert "| `TheColour` | `Colour` of Rattle.pc_low.specs.declared.colour.Colour |" in rest
+
+
+def test_a_note_is_printed_below_its_definition(top: Path) -> None:
+    assert "IsFew n = n ≤ MOST\n```\n\n*For example*, 7 is few.\n" in page(top, "headline.md")
+
+
+def test_a_type_is_printed_below_the_first_definition_that_names_it(top: Path) -> None:
+    rest = page(top, "rest.md")
+    places = [rest.index(text) for text in ("pub record HasFew", "pub struct Colour", "## `first_")]
+    assert places == sorted(places)
+
+
+def in_two_parts(top: Path) -> None:
+    """Lets the headline reach IsEither and HasFew, the second in a part of its own."""
+    change(
+        top,
+        "crates/pc_top/src/top.rt",
+        "    ensures headline { IsFew result }\n    ensures rest",
+        "    ensures headline { HasLittle result → IsEither result }\n    ensures rest",
+    )
+    change(top, "crates/pc_top/src/top.rt", "{IsFew, HasFew", "{IsFew, IsEither, HasFew")
+    (top / "tools/reading-parts.txt").write_text(
+        "What is coloured\tpc_low/Words.HasFew\tColours come later.\n", encoding="utf-8"
+    )
+
+
+def test_a_later_part_has_what_only_its_definitions_reach(top: Path) -> None:
+    in_two_parts(top)
+    headline = page(top, "headline.md")
+    texts = (
+        "pub data IsEither",
+        "abbrev pub IsFew",
+        "## What is coloured\n\nColours come later.\n",
+        "pub record HasFew",
+        "pub struct Colour",
+    )
+    places = [headline.index(text) for text in texts]
+    assert places == sorted(places)
+    assert headline.count("pub record HasFew") == 1
+
+
+def test_how_far_the_first_definitions_reach_is_counted(
+    top: Path, capsys: pytest.CaptureFixture[str], monkeypatch: pytest.MonkeyPatch
+) -> None:
+    in_two_parts(top)
+    monkeypatch.setattr("reading_list.checks.HEART", "HasFew")
+    assert run(top, ["--check"]) == 0
+    counted = capsys.readouterr().out.splitlines()[-1]
+    lines = page(top, "headline.md").splitlines()
+    last = lines.index("```", lines.index("  pub few : IsFew colour.depth"))
+    assert counted == (
+        f"reading list: headline.md: the first 3 definitions end on line {last + 1}; "
+        "HasFew is number 3"
+    )
+    capsys.readouterr()
+    monkeypatch.setattr("reading_list.checks.FIRST", (2, 9))
+    found = refused(top, capsys)
+    assert found[0].endswith("; at most on line 9")
+    assert found[1] == "HasFew is definition 3; at most 2"
+
+
+@pytest.mark.parametrize(
+    ("name", "text"),
+    [
+        ("reading-parts.txt", "Gone\tpc_low/Words.Gone\tNothing.\n"),
+        ("reading-notes.md", "## pc_low/Words.Gone\n\nNothing.\n"),
+    ],
+)
+def test_a_part_and_a_note_name_definitions_of_the_headline(
+    top: Path, capsys: pytest.CaptureFixture[str], name: str, text: str
+) -> None:
+    (top / "tools" / name).write_text(text, encoding="utf-8")
+    assert refused(top, capsys) == [
+        f"tools/{name}: headline.md has no definition pc_low/Words.Gone"
+    ]
 
 
 def test_laws_are_printed_whether_their_body_is_empty_or_not(top: Path) -> None:

@@ -1,4 +1,4 @@
-# Completion for bash: pert's forms as its first word, files after `<` and for the other programs.
+# Completion of the programs; tools/command-files writes this file.
 _pert() {
     if [ "$COMP_CWORD" -eq 1 ]; then
         mapfile -t COMPREPLY < <(compgen -W 'check normal times summary value curve certify point outlook bench migrate optimum arrows load' -- "$2")
@@ -7,3 +7,4 @@ _pert() {
 complete -o bashdefault -o default -F _pert pert
 complete -f pert_check
 complete -f pert_whatif
+complete -f pert-recheck

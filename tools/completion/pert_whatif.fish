@@ -1,0 +1,2 @@
+# Completion of the programs; tools/command-files writes this file.
+complete -c pert_whatif -F
