@@ -16,6 +16,7 @@ order. Everything else is left to `pert check`.
 from __future__ import annotations
 
 import csv
+import io
 import re
 import sys
 from collections.abc import Callable, Container
@@ -145,9 +146,13 @@ class Deck:
 
 
 def read_cards(name: str) -> list[Card]:
-    """Returns the cards of a file. An empty line is no record, one of commas is no card."""
+    """Returns the cards of a file. An empty line is no record, one of commas is no card.
+
+    Up to two byte order marks in front are dropped, as pert does.
+    """
     with open(name, encoding="utf-8-sig", newline="") as file:
-        records = [record for record in csv.reader(file) if record]
+        text = file.read().removeprefix("\ufeff")
+    records = [record for record in csv.reader(io.StringIO(text, newline="")) if record]
     cards = [Card(number, fields) for number, fields in enumerate(records, 1) if any(fields)]
     if not cards or cards[0].kind != "PROJECT" or cards[-1].kind != "END":
         raise Refused("the first card is not PROJECT, or the last one not END")
