@@ -632,10 +632,11 @@ def test_two_hosts_by_ssh(decks: Path) -> None:
 
 
 BAD_HOSTS = {
-    "cat >/dev/null; echo 0 {}": "answered something that is no row",
+    "cat >/dev/null; echo 0 {}": "answered something that is no row of its decks",
+    "cat >/dev/null; printf 'broken off'": "answered something that is no row of its decks",
     "exit 3": "ended with status 3",
     "cat >/dev/null": "did not answer for all of its decks",
-    "kill -9 $$": "ended with",
+    "kill -9 $$": "ended with status 137",
 }
 """What a host does instead of its work, and how it is named."""
 
@@ -656,13 +657,14 @@ def stub_hosts(decks: Path, wrong: str, names: str) -> Path:
 def test_a_host_that_fails_is_left_out_and_named(
     decks: Path, wrong: str, capsys: pytest.CaptureFixture[str]
 ) -> None:
-    """Its decks go to the other host, and the page has all rows."""
+    """It alone, by its own status; its decks go to the other host, and the page has all rows."""
     if shutil.which("parallel") is None:
         pytest.skip("no GNU parallel")
     logins = stub_hosts(decks, wrong, "bad good")
     assert rows_by_hosts(decks, logins, many(decks)) == WANTED
-    said = capsys.readouterr().err
-    assert "stub-ssh bad: " + BAD_HOSTS[wrong] in said
+    said = capsys.readouterr().err.splitlines()
+    left_out = [line for line in said if "left out" in line]
+    assert left_out == [f"pert-portfolio: left out: {decks}/stub-ssh bad: {BAD_HOSTS[wrong]}"]
 
 
 def test_without_a_host_that_works_each_deck_has_a_fault(
@@ -715,9 +717,10 @@ def test_a_host_answers_a_row_for_each_line(
         Job(decks / "bad.csv", None, "bad.csv"),
     ]
     serve(PROGRAMS, [packed(number, job).encode() for number, job in enumerate(jobs)])
-    lines = sorted(capsys.readouterr().out.splitlines())
+    lines = capsys.readouterr().out.splitlines()
     rows = [row_of(PROGRAMS, job.path, job.previous, job.name) for job in jobs]
-    assert lines == [f"{number} {row_text(row)}" for number, row in enumerate(rows)]
+    assert sorted(lines[1::2]) == [f"{number} {row_text(row)}" for number, row in enumerate(rows)]
+    assert lines[0::2] == [""] * len(jobs)
     for text in (b"nonsense", b"[1]", b'{"number": "x", "name": "a", "files": {}}'):
         with pytest.raises(UsageError):
             serve(PROGRAMS, [text])

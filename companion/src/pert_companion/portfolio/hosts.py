@@ -65,7 +65,9 @@ def _logins(path: Path) -> list[str]:
 class _Round:
     """One run of parallel: decks go over as lines of JSON, `TOGETHER` at a time, to some hosts.
 
-    Each line that comes back begins with the number of the connection, from 1 on.
+    Each connection reads its own part of one file, so a host that ends early breaks no pipe of
+    parallel, which would report that signal in place of the host's status. Each line that comes
+    back begins with the number of the connection, from 1 on.
     """
 
     def __init__(self, logins: Sequence[str], command: str, jobs: Mapping[int, Job]) -> None:
@@ -87,20 +89,26 @@ class _Round:
             folder = Path(name)
             text = "".join(f"{line}\n" for line in self._logins)
             (folder / "logins").write_text(text, "utf-8", "surrogateescape")
-            with open(folder / "decks", "w+b") as lines:
-                for number, job in self._jobs.items():
-                    lines.write(packed(number, job).encode() + b"\n")
-                lines.seek(0)
-                with _started(self._words(folder), lines.fileno()) as running:
-                    yield from self._read(running)
+            self._write_decks(folder / "decks")
+            with _started(self._words(folder)) as running:
+                yield from self._read(running)
             self._log = _log(folder / "log")
         if not self._log:
             raise CompanionError(f"parallel ended with {running.returncode}")
 
+    def _write_decks(self, path: Path) -> None:
+        """Writes a line for each deck, and an empty line after those of each connection."""
+        with open(path, "wb") as lines:
+            for numbers in self._sent.values():
+                for number in sorted(numbers):
+                    lines.write(packed(number, self._jobs[number]).encode() + b"\n")
+                lines.write(b"\n")
+
     def _words(self, folder: Path) -> list[str]:
         words = ["parallel", "--will-cite", "--plain", "--sshloginfile", str(folder / "logins")]
         words += ["--joblog", str(folder / "log"), "--tagstring", "{#}"]
-        words += ["--pipe", "-N", str(TOGETHER), "--line-buffer"]
+        words += ["--pipepart", "--arg-file", str(folder / "decks")]
+        words += ["--block", "1", "--recend", r"\n\n", "--line-buffer"]
         return [*words, f"{self._command} --worker"]
 
     def _read(self, running: "subprocess.Popen[bytes]") -> Answers:
@@ -116,8 +124,14 @@ class _Round:
             raise
 
     def _unpacked(self, line: bytes) -> tuple[int, Row] | None:
-        """Returns the number of a deck and its row; None, and a wrong connection, for others."""
+        """Returns the number of a deck and its row; None, and a wrong connection, for others.
+
+        None, too, for an empty line: one comes before each row, so that a row is whole even where
+        the line of another connection broke off.
+        """
         tag, _, answer = line.decode("utf-8", "replace").rstrip("\n").partition("\t")
+        if not answer:
+            return None
         word, _, text = answer.partition(" ")
         connection, number = _count(tag), _count(word)
         if number in self._sent.get(connection, ()):
@@ -144,11 +158,13 @@ class _Round:
         return found
 
 
-def _started(words: Sequence[str], lines: int) -> "subprocess.Popen[bytes]":
-    """Returns parallel; without SHELL it would start nothing."""
-    environment = {**os.environ, "SHELL": "/bin/sh"}
+def _started(words: Sequence[str]) -> "subprocess.Popen[bytes]":
+    """Returns parallel. Without SHELL it would start nothing; it takes the caller's shell else."""
+    environment = {**os.environ, "SHELL": "/bin/sh", "PARALLEL_SHELL": "/bin/sh"}
     try:
-        return subprocess.Popen(words, stdin=lines, stdout=subprocess.PIPE, env=environment)
+        return subprocess.Popen(
+            words, stdin=subprocess.DEVNULL, stdout=subprocess.PIPE, env=environment
+        )
     except FileNotFoundError:
         raise UsageError("no program parallel: apt install parallel") from None
 

@@ -167,12 +167,15 @@ def _stop(_signal: int, _frame: FrameType | None) -> None:
 
 
 def serve(programs: Programs, lines: Iterable[bytes]) -> None:
-    """Reads decks as lines, and writes the row of each with its number: the work of a host."""
+    """Reads decks as lines, and writes the row of each with its number: the work of a host.
+
+    An empty line comes before each row, which ends a line that another host began and broke off.
+    """
     with tempfile.TemporaryDirectory() as name:
         folder = Path(name)
-        jobs = [_placed(line, folder) for line in lines]
+        jobs = [_placed(line, folder) for line in lines if line.strip()]
         for number, row in _here(programs, jobs):
-            sys.stdout.write(f"{number} {row_text(row)}\n")
+            sys.stdout.write(f"\n{number} {row_text(row)}\n")
             sys.stdout.flush()
 
 
