@@ -179,7 +179,7 @@ def test_five_thousand_tasks_fit(largest: Carried) -> None:
     assert len(largest.side.tasks) == 5000
     assert {loss.kind for loss in largest.losses} <= {LossKind.PAUSE}
     codes = {card.code for card in deck.activities}
-    assert all(part in codes for task in largest.side.tasks for part in task.parts)
+    assert all(codes.issuperset(task.parts) for task in largest.side.tasks)
 
 
 def test_a_large_plan_is_quick() -> None:

@@ -4,6 +4,7 @@ import random
 from collections.abc import Callable, Mapping, Sequence
 from datetime import date
 from fractions import Fraction
+from itertools import combinations
 
 import pytest
 from hypothesis import given, settings
@@ -18,7 +19,7 @@ UNIT = 1000
 """Units in the estimates of closed forms, so that rounding a length up counts for nothing."""
 Estimates = tuple[int, int, int]
 Arc = tuple[int, int, Estimates]
-PAIRS = [(begins, ends) for begins in range(4) for ends in range(begins + 1, 5)]
+PAIRS = list(combinations(range(5), 2))
 
 
 def network(arcs: Sequence[Arc]) -> Deck:

@@ -60,9 +60,9 @@ def test_matching_is_one_to_one_and_leaves_no_id_or_code(
     """Equal ids are matched; what is left on both sides has no id or code in common."""
     found = match_tasks(old, new)
     assert [each for each in new if each not in found.new] == [pair[1] for pair in found.pairs]
-    assert sorted(
-        each.code for each in (*found.gone, *(pair[0] for pair in found.pairs))
-    ) == sorted(each.code for each in old)
+    kept = [pair[0] for pair in found.pairs]
+    codes = sorted(each.code for each in (*found.gone, *kept))
+    assert codes == sorted(each.code for each in old)
     matched = {(one.uid, other.uid) for one, other in found.pairs}
     shared = {one.uid for one in old} & {other.uid for other in new}
     assert {(uid, uid) for uid in shared} <= matched

@@ -72,8 +72,8 @@ def test_techniques_of_tasks(technique: Technique, listed: list[Task], time: Fra
 def test_half_is_earned_at_the_start() -> None:
     """In the morning of its start nothing is planned of a task; at the end of that day half is."""
     pieces = Planned("A", Fraction(100), 3, 5).pieces(Technique.HALVES)
-    at = [sum(piece.value_at(Fraction(time)) for piece in pieces) for time in (3, 4, 5)]
-    assert at == [0, 50, 100]
+    for time, value in ((3, 0), (4, 50), (5, 100)):
+        assert sum(piece.value_at(Fraction(time)) for piece in pieces) == value
 
 
 def test_milestones_have_weights() -> None:

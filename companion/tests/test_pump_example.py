@@ -118,9 +118,8 @@ def test_the_close_of_march(states: dict[str, ProjectState]) -> None:
     """The voucher of 50,000 of 1 April is in the ledger of March, and in the costs of April."""
     ledger = find_ledger(PUMP / "march.csv")
     assert ledger is not None and ledger.vouchers[-1].day == date(2026, 4, 1)
-    months = [states[name] for name in ("march", "april")]
-    sums = [sum(card.amount for card in state.deck.charges) for state in months]
-    assert sums == [26_908_140, 34_038_140]
+    for month, spent in (("march", 26_908_140), ("april", 34_038_140)):
+        assert sum(card.amount for card in states[month].deck.charges) == spent
 
 
 def test_credits_are_no_restated_past(states: dict[str, ProjectState]) -> None:

@@ -27,7 +27,7 @@ def run(capture: Capture, *words: object) -> Outcome:
 
 def rows(sheet: Worksheet) -> list[tuple[object, ...]]:
     """Returns the values of a sheet."""
-    return [tuple(cell.value for cell in row) for row in sheet.iter_rows()]
+    return list(sheet.iter_rows(values_only=True))
 
 
 def row_of(sheet: Worksheet, first: Sequence[object]) -> tuple[object, ...]:

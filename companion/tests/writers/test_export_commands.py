@@ -330,16 +330,19 @@ def test_decks_written_by_hand(capsys: Capture) -> None:
     before = {row["Code"]: row["Predecessors"].split("; ") for row in normal}
     finish = {row["Code"]: row["Finish"] for row in normal}
     start = {row["Code"]: row["Start"] for row in normal}
-    links = [(b, code) for code, found in before.items() for b in found if b]
-    assert len(links) >= len(normal) // 2
-    assert all(b in codes and finish[b] < start[code] for b, code in links)
+    links = 0
+    for code, found in before.items():
+        for earlier in filter(None, found):
+            assert earlier in codes and finish[earlier] < start[code]
+            links += 1
+    assert links >= len(normal) // 2
 
 
 def test_tasks_of_a_resource(capsys: Capture) -> None:
     """The tasks of one resource alone."""
     deck = EXAMPLES / "house.csv"
     every = rows_of(run(capsys, "schedule", deck, "--csv").output.encode())
-    names = sorted({name for row in every for name in row["Resources"].split("; ") if name})
+    names = sorted(filter(None, "; ".join(row["Resources"] for row in every).split("; ")))
     assert names
     some = rows_of(run(capsys, "schedule", deck, "--resource", names[0], "--csv").output.encode())
     assert [row["Code"] for row in some] == [

@@ -186,8 +186,9 @@ def test_what_is_left_adds_up(capfdbinary: Capture) -> None:
     """The sums of the JSON are those of the table."""
     result = valid("pert-remaining", run(capfdbinary, ["pert-remaining", DECK, "--json"]).output)
     total = run(capfdbinary, ["pert-remaining", DECK]).output.splitlines()[-1].split()
-    sums = [str(sum(task[name] for task in result["tasks"])) for name in ("cost", "sunk")]
-    assert total[-2:] == sums
+    cost = sum(task["cost"] for task in result["tasks"])
+    sunk = sum(task["sunk"] for task in result["tasks"])
+    assert total[-2:] == [str(cost), str(sunk)]
 
 
 def test_an_import_names_losses_differences_and_the_deck(

@@ -15,7 +15,7 @@ from dataclasses import dataclass
 from fractions import Fraction
 from functools import lru_cache
 from graphlib import TopologicalSorter
-from itertools import islice
+from itertools import chain, islice
 
 import numpy as np
 from numpy.typing import NDArray
@@ -77,10 +77,8 @@ def simulate(
     draw the same chances, so that their differences are those of the durations.
     """
     drawn = [_Drawn.of(card, durations) for card in network.activities]
-    places = {card.code: place for place, card in enumerate(network.activities)}
-    listed = [[places[code] for code in codes] for codes in tasks]
-    groups = [group for group in listed if any(drawn[place].has_work for place in group)]
-    uncertain = sum(any(drawn[place].is_uncertain for place in group) for group in groups)
+    groups = _groups(network, drawn, tasks)
+    uncertain = sum(_is_uncertain(group, drawn) for group in groups)
     if not any(each.is_uncertain for each in drawn):
         return None
     runner = _Runner(network, drawn, groups)
@@ -90,6 +88,24 @@ def simulate(
     counts = zip(groups, runner.critical)
     shares = {network.activities[group[0]].code: Fraction(count, RUNS) for group, count in counts}
     return Simulation(tuple(sorted(lengths)), shares, uncertain, len(groups))
+
+
+def _groups(
+    network: Deck, drawn: "Sequence[_Drawn]", tasks: Sequence[Sequence[str]]
+) -> list[list[int]]:
+    """Returns the places of the activities of each task that has work."""
+    places = {card.code: place for place, card in enumerate(network.activities)}
+    groups = []
+    for codes in tasks:
+        group = [places[code] for code in codes]
+        if any(drawn[place].has_work for place in group):
+            groups.append(group)
+    return groups
+
+
+def _is_uncertain(group: Sequence[int], drawn: "Sequence[_Drawn]") -> bool:
+    """Returns whether an activity of a group has estimates that differ."""
+    return any(drawn[place].is_uncertain for place in group)
 
 
 @dataclass(frozen=True)
@@ -156,7 +172,7 @@ class _Runner:
         self.order = _in_order(self.events, self.arcs)
         self.tables = [each.ticks() for each in drawn]
         self.groups = groups
-        grouped = {place for group in groups for place in group}
+        grouped = set(chain.from_iterable(groups))
         self.alone = [[place] for place in range(len(self.arcs)) if place not in grouped]
         self.critical = [0] * len(groups)
 

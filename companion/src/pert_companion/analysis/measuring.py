@@ -8,6 +8,7 @@ times are units of the baseline's calendar after its start.
 from collections.abc import Iterable, Mapping, Sequence
 from dataclasses import dataclass, replace
 from fractions import Fraction
+from itertools import chain
 
 from pert_companion.model.registers import PackageRule, Technique
 
@@ -191,4 +192,4 @@ def _growth(
 
 def all_pieces(packages: Sequence[Measured]) -> list[Piece]:
     """Returns the pieces of several packages."""
-    return [piece for package in packages for piece in package.pieces]
+    return list(chain.from_iterable(package.pieces for package in packages))

@@ -6,8 +6,9 @@ finish that waits for others, is one before everything that these wait for. Of s
 one end only the longest counts.
 """
 
-from collections.abc import Iterable, Sequence
+from collections.abc import Iterable, Iterator, Sequence
 from heapq import heappop, heappush
+from itertools import chain
 
 from pert_companion.carry.model import End, Moment, Node, Tie
 from pert_companion.model.errors import InputError
@@ -31,12 +32,7 @@ def resolve(order: Sequence[Node]) -> list[Loss]:
     """
     losses: list[Loss] = []
     moments = 0
-    begins_others = {
-        tie.before
-        for node in order
-        for tie in node.starts + node.finishes
-        if tie.end is End.START and tie.before is not None
-    }
+    begins_others = set(_begun_from(order))
     for node in order:
         node.latest_early = _early_start(node)
     for node in order:
@@ -58,6 +54,14 @@ def resolve(order: Sequence[Node]) -> list[Loss]:
         for moment in node.after_start + node.after_finish:
             _note_need(moment)
     return losses
+
+
+def _begun_from(order: Sequence[Node]) -> Iterator[Node]:
+    """Yields the nodes after whose start another one comes."""
+    for node in order:
+        for tie in node.starts + node.finishes:
+            if tie.end is End.START and tie.before is not None:
+                yield tie.before
 
 
 def _early_start(node: Node) -> int:
@@ -135,7 +139,7 @@ def moments_of(ties: Iterable[Tie]) -> list[Moment]:
     except CannotCarry:
         if len(listed) < 2:
             raise
-        found = longest(moment for tie in listed for moment in _search([tie]))
+        found = longest(chain.from_iterable(_search([tie]) for tie in listed))
     return sorted(found, key=lambda moment: moment.order)
 
 

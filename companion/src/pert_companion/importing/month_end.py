@@ -9,6 +9,7 @@ from dataclasses import dataclass, replace
 from datetime import date
 from decimal import Decimal
 from fractions import Fraction
+from itertools import chain
 
 from pert_companion.carry.charges import (
     Booked,
@@ -130,13 +131,13 @@ def close_month(books: Books, lists: Lists, close: date | None = None) -> MonthE
     deck, side = books.deck, books.side
     if close is not None:
         deck, side = as_of_close(deck, side, close)
-    reported = [row for each in lists.progress for row in each.reported]
+    reported = list(chain.from_iterable(each.reported for each in lists.progress))
     progressed = with_progress(deck, side, reported, books.has_side_file)
     deck, side = progressed.deck, progressed.side
     findings.extend(_list_findings(lists))
     findings.extend(progressed.findings)
     ledger, known, new = _brought(books, lists, findings)
-    estimates = [estimate for each in lists.to_go for estimate in each.estimates]
+    estimates = list(chain.from_iterable(each.estimates for each in lists.to_go))
     ledger = ledger.with_to_go(estimates)
     state = replace(books, deck=deck, side=side, ledger=ledger, has_ledger=True)
     held = state.booked_ledger

@@ -12,6 +12,7 @@ from collections.abc import Iterable, Mapping
 from dataclasses import dataclass, field, replace
 from datetime import date
 from decimal import Decimal, InvalidOperation
+from itertools import chain
 from pathlib import Path
 
 from pert_companion.model.errors import InputError
@@ -182,7 +183,8 @@ def read_ledger(path: Path) -> Ledger:
 
 def to_bytes(ledger: Ledger) -> bytes:
     """Returns a ledger as CSV in UTF-8: named headings, vouchers, then estimates."""
-    others = dict.fromkeys(name for voucher in ledger.vouchers for name, _ in voucher.others)
+    columns = chain.from_iterable(voucher.others for voucher in ledger.vouchers)
+    others = dict.fromkeys(name for name, _ in columns)
     text = io.StringIO(newline="")
     writer = csv.writer(text, lineterminator="\n")
     writer.writerow([*_COLUMNS, *map(_guarded, others)])

@@ -175,7 +175,7 @@ def _log(path: Path) -> list[list[str]]:
         lines = path.read_text("utf-8", "surrogateescape").splitlines()[1:]
     except OSError:
         return []
-    return [cells for cells in (line.split("\t") for line in lines) if len(cells) > 7]
+    return [line.split("\t") for line in lines if line.count("\t") > 6]
 
 
 def _count(word: str) -> int:

@@ -5,6 +5,7 @@ from collections.abc import Sequence
 from dataclasses import dataclass
 from datetime import date
 from fractions import Fraction
+from itertools import chain
 from pathlib import Path
 from urllib.parse import quote
 
@@ -108,7 +109,7 @@ def render(rows: Sequence[Row], output: Path, stale_days: int) -> bytes:
 
 def filters_of(rows: Sequence[Row], fresh: Freshness) -> list[Filter]:
     """Returns a filter for each alarm that there is, the most urgent first."""
-    found = [alarm for row in rows for alarm in alarms(row, fresh)]
+    found = list(chain.from_iterable(alarms(row, fresh) for row in rows))
     return [
         Filter(alarm.name.lower(), alarm.value, found.count(alarm))
         for alarm in Alarm

@@ -32,10 +32,9 @@ def sums_of(rows: Sequence[Row]) -> list[Sum]:
 def _sum(currency: str, rows: Sequence[Row]) -> Sum:
     scale = max(row.money_scale for row in rows)
     words = Words("", shown(currency), scale)
-    latest, budget, overrun = (
-        sum((getattr(row, name) or 0) * (scale // row.money_scale) for row in rows)
-        for name in ("latest", "budget", "overrun")
-    )
+    latest = sum((row.latest or 0) * (scale // row.money_scale) for row in rows)
+    budget = sum((row.budget or 0) * (scale // row.money_scale) for row in rows)
+    overrun = sum((row.overrun or 0) * (scale // row.money_scale) for row in rows)
     return Sum(
         f"{len(rows)} projects with amounts in {shown(currency)}",
         words.money(overrun),

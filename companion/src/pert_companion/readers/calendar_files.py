@@ -6,6 +6,7 @@ and a name, in any order and form; rows above the first day are headings.
 
 import re
 from collections.abc import Iterator
+from itertools import chain
 from pathlib import Path
 
 from pert_companion.model.calendar import STANDARD_DAY, Calendar, CalendarException
@@ -67,7 +68,8 @@ def holidays_of(path: Path) -> tuple[CalendarException, ...]:
     name = shown_name(path)
     data = read_bytes(path, MAX_BYTES, "list of holidays")
     rows = _sheet_rows(data, name) if xlsx.matches(data) else list(_text_rows(data, name))
-    style = Style(day_first=is_day_first([cell for row in rows for cell in row.cells], name))
+    cells = chain.from_iterable(row.cells for row in rows)
+    style = Style(day_first=is_day_first(cells, name))
     found, losses = holidays(rows, path.name, style)
     if losses:
         loss = losses[0]
@@ -87,7 +89,7 @@ def _sheet_rows(data: bytes, file: str) -> list[GridRow]:
     names = book.visible_names
     named = [name for name in names if sheet_kind(name) == "holidays"]
     chosen = (named or names)[:1]
-    return [row for name in chosen for row in book.rows(name).rows]
+    return list(chain.from_iterable(book.rows(name).rows for name in chosen))
 
 
 def _text_rows(data: bytes, file: str) -> Iterator[GridRow]:

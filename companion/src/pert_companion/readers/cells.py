@@ -337,7 +337,9 @@ def reader_of(
 
 def common_currency(rows: Sequence[Row]) -> str:
     """Returns the currency that all amounts show which show one; none if they differ."""
-    found = {values.currency_of(row.cell(name)) for row in rows for name in AMOUNTS}
+    found: set[str] = set()
+    for row in rows:
+        found.update(values.currency_of(row.cell(name)) for name in AMOUNTS)
     found.discard("")
     return found.pop() if len(found) == 1 else ""
 

@@ -6,6 +6,7 @@ number of its digits are checked before anything is converted.
 """
 
 import re
+from collections.abc import Iterable
 from dataclasses import dataclass
 from datetime import date
 from decimal import Decimal
@@ -39,30 +40,32 @@ _ELAPSED_MINUTES = {
 NO = frozenset(("", "no", "nein", "n", "false", "falsch", "0"))
 NOTHING = frozenset(("", "na", "nv", "n/a", "-", "--", "–", "none", "keine", "keiner"))
 
-WEEKDAYS = {
-    word: number
-    for number, words in enumerate(
-        (
-            "mon monday mo montag",
-            "tue tues tuesday di dienstag",
-            "wed wednesday mi mittwoch",
-            "thu thur thurs thursday do donnerstag",
-            "fri friday fr freitag",
-            "sat saturday sa samstag sonnabend",
-            "sun sunday so sonntag",
-        )
-    )
-    for word in words.split()
-}
-MONTHS = {
-    word: number
-    for number, words in enumerate(
-        ("jan jän", "feb", "mar mär mrz", "apr", "may mai", "jun", "jul")
-        + ("aug", "sep", "oct okt", "nov", "dec dez"),
-        start=1,
-    )
-    for word in words.split()
-}
+
+def _numbered(spellings: Iterable[str], start: int) -> dict[str, int]:
+    """Returns the number of each word; the words of one number are one text."""
+    numbers = {}
+    for number, words in enumerate(spellings, start):
+        numbers.update(dict.fromkeys(words.split(), number))
+    return numbers
+
+
+WEEKDAYS = _numbered(
+    (
+        "mon monday mo montag",
+        "tue tues tuesday di dienstag",
+        "wed wednesday mi mittwoch",
+        "thu thur thurs thursday do donnerstag",
+        "fri friday fr freitag",
+        "sat saturday sa samstag sonnabend",
+        "sun sunday so sonntag",
+    ),
+    start=0,
+)
+MONTHS = _numbered(
+    ("jan jän", "feb", "mar mär mrz", "apr", "may mai", "jun", "jul")
+    + ("aug", "sep", "oct okt", "nov", "dec dez"),
+    start=1,
+)
 
 _ISO = re.compile(r"([0-9]{4})[-/.]([0-9]{1,2})[-/.]([0-9]{1,2})")
 _DOTTED = re.compile(r"([0-9]{1,2})\. ?([0-9]{1,2})\. ?([0-9]{4}|[0-9]{2})")

@@ -133,12 +133,11 @@ class Work:
 
     def length_with(self, durations: Mapping[str, int]) -> int:
         """Returns the length if activities last so many units, by code; others as they are."""
-        activities = tuple(
-            replace(card, normal=units, crash=units, slope=0)
-            for card in self.network.activities
-            for units in [durations.get(card.code, card.normal)]
-        )
-        network = replace(self.network, activities=activities, pieces=())
+        activities = []
+        for card in self.network.activities:
+            units = durations.get(card.code, card.normal)
+            activities.append(replace(card, normal=units, crash=units, slope=0))
+        network = replace(self.network, activities=tuple(activities), pieces=())
         return self.programs.normal(network).length
 
     def load(self, network: Deck, period: int) -> results.Load:

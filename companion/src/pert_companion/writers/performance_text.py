@@ -148,7 +148,9 @@ def csv_rows(lines: Iterable[Line], scale: int) -> Iterator[list[str]]:
 
 def months_to_text(months: Iterable[Month], heading: str, scale: int) -> str:
     """Returns a row for each account and month, cumulative; `-` where nothing is known."""
-    rows = [[cell or NOTHING for cell in row] for row in month_rows(months, scale)]
+    rows = []
+    for row in month_rows(months, scale):
+        rows.append([cell or NOTHING for cell in row])
     texts = [heading, *aligned(("ACCOUNT", "CLOSE", "PV", "EV", "AC"), rows, "llrrr")]
     return "".join(f"{text}\n" for text in texts)
 
