@@ -249,10 +249,13 @@ def test_wrong_words(wing: Path, capsys: Capture, tmp_path: Path) -> None:
     assert run(capsys, "export", wing, "-o", tmp_path / "o.csv", "--into", wing).status == 2
     lone = tmp_path / "lone.csv"
     lone.write_bytes(wing.read_bytes())
-    done = run(capsys, "export", lone, "-o", tmp_path / "o.xml", "--into", wing)
+    plan = wing.parent / "plan.xml"
+    done = run(capsys, "export", lone, "-o", tmp_path / "o.xml", "--into", plan)
     assert done.status == 1 and "without its side file" in done.error
     done = run(capsys, "export", wing, "-o", tmp_path / "o.xml", "--into", wing)
-    assert done.status == 1 and "no well-formed XML" in done.error
+    assert done.status == 1 and f"{wing}: no plan" in done.error
+    done = run(capsys, "export", wing, "-o", tmp_path / "o.xer", "--into", plan)
+    assert done.status == 2 and "plan.xml writes .xml" in done.error
     assert not any(path.name.startswith("o") for path in tmp_path.iterdir())
     assert run(capsys, "export", wing, "-o", tmp_path / "o.xml", "--length", "1").status == 1
 

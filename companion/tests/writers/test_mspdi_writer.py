@@ -1,37 +1,30 @@
 """MS Project's XML that is written shows the chosen schedule, by a CPM of the test's own."""
 
 from dataclasses import replace
-from decimal import Decimal
 from pathlib import Path
 from xml.etree import ElementTree
 
 import pytest
 from hypothesis import HealthCheck, assume, given, settings
 
-from cpm import Dates, dates_of
+from chosen_lengths import check_dates, in_one_piece, state_of, three_lengths
 from examples import length_count
-from pert_companion.analysis.schedule import Schedule
-from pert_companion.analysis.lengths import LengthChoice
 from pert_companion.analysis.scheduling import rest_schedule
-from pert_companion.carry import Carried, CarryOptions, carry
-from pert_companion.model.amounts import measure_of
+from pert_companion.carry import CarryOptions, carry
 from pert_companion.model.errors import InputError
-from pert_companion.model.plan import LinkKind, Plan, Task
+from pert_companion.model.plan import Plan, Task
 from pert_companion.model.predecessors import first_day_waits, real_links
 from pert_companion.model.source import Source
-from pert_companion.programs.client import Programs
 from pert_companion.programs.results import cost_at
 from pert_companion.readers import mspdi
 from pert_companion.readers.base import ReaderOptions
 from pert_companion.writers.mspdi import to_mspdi
 from pert_companion.writers.mspdi_elements import NAMESPACE
 from pert_companion.writers.mspdi_into import into_mspdi
-from pert_companion.state.project import ProjectState
 from planner_files import mspdi_bytes
 from plans import FIRST_DAY, Feature, plans
 from sample_plan import sample_plan
 
-PROGRAMS = Programs()
 FEATURES = frozenset(
     (
         Feature.LINK_KINDS,
@@ -57,50 +50,6 @@ def read(data: bytes) -> Plan:
     return mspdi.read(Source(Path("plan.xml"), data), ReaderOptions()).plan
 
 
-def in_one_piece(plan: Plan) -> Plan:
-    """Returns a plan with links that tie starts alone, so that no task pauses when shortened."""
-    kinds = {
-        LinkKind.FINISH_FINISH: LinkKind.FINISH_START,
-        LinkKind.START_FINISH: LinkKind.START_START,
-    }
-    links = tuple(replace(link, kind=kinds.get(link.kind, link.kind)) for link in plan.links)
-    return replace(plan, links=links)
-
-
-def three_lengths(carried: Carried) -> list[Schedule]:
-    """Returns the schedules of the normal, the shortest, and a length between them."""
-    state = state_of(carried)
-    measure = measure_of(state.side)
-    first, last = state.rest.shortest, state.rest.longest
-    return [
-        rest_schedule(state, LengthChoice(days=Decimal(measure.days(length))))
-        for length in dict.fromkeys((first, (first + last) // 2, last))
-    ]
-
-
-def state_of(carried: Carried) -> ProjectState:
-    """Returns the state of an import."""
-    return ProjectState(PROGRAMS, carried.deck, carried.side)
-
-
-def check_dates(data: bytes, schedule: Schedule) -> None:
-    """Compares the dates that a file lists with those that its links and durations give."""
-    plan = read(data)
-    calendar = plan.calendar
-    chosen = {task.uid: task for task in schedule.tasks}
-    found: dict[str, Dates] = dates_of(plan)
-    for task in plan.tasks():
-        assert task.minutes == chosen[task.uid].chosen_minutes
-        dates = found[task.uid]
-        listed = (task.listed_start, task.listed_finish)
-        if task.is_milestone:
-            moment = calendar.end_at(dates.start) if dates.start else calendar.at(dates.start)
-            days = {calendar.at(dates.start).date(), moment.date()}
-            assert listed[0] in days and listed[1] in days
-            continue
-        assert listed == (dates.first_day(calendar), dates.last_day(calendar)), task
-
-
 @SLOW
 @given(plans(features=FEATURES, least=2, most=9))
 def test_into_the_original(plan: Plan) -> None:
@@ -112,7 +61,7 @@ def test_into_the_original(plan: Plan) -> None:
     for schedule in three_lengths(carried):
         changed, missing = into_mspdi(data, "plan.xml", schedule, carried.side)
         assert missing == []
-        check_dates(changed, schedule)
+        check_dates(read(changed), schedule)
         check_rest(data, changed)
 
 
@@ -127,7 +76,7 @@ def test_new_file(plan: Plan) -> None:
     waits = first_day_waits(carried.deck, carried.side)
     for schedule in three_lengths(carried):
         data = to_mspdi(schedule, carried.side.calendar, links, waits)
-        check_dates(data, schedule)
+        check_dates(read(data), schedule)
         names = [task.name for task in read(data).tasks()]
         assert names == [task.name for task in plan.tasks()]
         costs = [task.cost or 0 for task in read(data).tasks()]

@@ -2,6 +2,7 @@
 
 import argparse
 from collections.abc import Iterator
+from dataclasses import dataclass
 from datetime import date
 from pathlib import Path
 
@@ -23,13 +24,14 @@ from pert_companion.model.errors import InputError, UsageError
 from pert_companion.model.lines import not_in_xml
 from pert_companion.model.output import CALENDAR_FILE, PLAN_XML, WORKBOOK, Output
 from pert_companion.model.predecessors import first_day_waits, real_links
-from pert_companion.model.source import read_bytes, shown_name
+from pert_companion.model.source import Source, read_bytes
+from pert_companion.readers import detect
 from pert_companion.state.project import ProjectState, open_state
 from pert_companion.state.work import Work
 from pert_companion.writers.csv_file import SCHEDULE_TABLE, to_csv
 from pert_companion.writers.ics import to_ics
+from pert_companion.writers.into import WAYS_BACK, WayBack
 from pert_companion.writers.mspdi import to_mspdi
-from pert_companion.writers.mspdi_into import into_mspdi
 from pert_companion.writers.xlsx import Workbooks, to_xlsx
 
 NAME = "pert-export"
@@ -46,7 +48,7 @@ EXAMPLES = """\
   pert-export wing.csv --length 76 -o wing-76.xlsx          a workbook: schedule, curve, reports
   pert-export wing.csv --by 2026-09-30 -o wing.ics          what ends by a day, as a calendar
   pert-export wing.csv --optimum -o wing.xml                a file for MS Project
-  pert-export wing.csv --length 76 --into state.xml -o new.xml   the plan it came from, in 76 days
+  pert-export wing.csv --length 76 --into plan.xer -o new.xer    the plan it came from, in 76 days
   pert-export wing.csv --normal -o wing.ics                 a calendar file"""
 
 
@@ -70,7 +72,7 @@ def parser() -> CommandParser:
         "--into",
         metavar="ORIGINAL",
         type=Path,
-        help="MS Project's file that the deck came from: its durations and dates are changed",
+        help="the planner's file that the deck came from: its durations and dates are changed",
     )
     return command
 
@@ -78,23 +80,21 @@ def parser() -> CommandParser:
 def run(options: argparse.Namespace) -> int:
     """Writes the file and returns the status: 1 if a task of the deck is not in the original."""
     ending = _ending(options)
+    original = None if options.into is None else _original(options, ending)
+    kind = FORMATS[ending] if original is None else original.way.kind
     outputs = outputs_of(options, [options.deck], [options.into])
-    outputs.check(options.output, FORMATS[ending])
+    outputs.check(options.output, kind)
     state = with_tables(open_state(options.deck, programs_of(options)))
     schedule = schedule_of_options(state, options)
     missing: list[str] = []
-    if options.into is not None:
-        data, missing = _into(state, options.into, schedule)
-    else:
+    if original is None:
         data = _new_file(ending, state, schedule)
-    outputs.write(Output(options.output, FORMATS[ending], data))
-    if ending in (".xlsx", ".xml"):
-        for line in _replaced(state.deck, schedule):
+    else:
+        data, missing = _into(state, original, schedule)
+    outputs.write(Output(options.output, kind, data))
+    if original is None:
+        for line in _about_new_file(ending, state, schedule):
             say(NAME, line)
-    if ending == ".xml" and options.into is None:
-        missing_parts = ", ".join(_left_out(state, schedule))
-        if missing_parts:
-            say(NAME, f"not in this file, but in one written with --into: {missing_parts}")
     for line in missing:
         say(NAME, line)
     say(
@@ -102,6 +102,15 @@ def run(options: argparse.Namespace) -> int:
         f"{named(options.output)}: {len(schedule.tasks)} tasks, {schedule.start} to {schedule.end}",
     )
     return 1 if missing else 0
+
+
+def _about_new_file(ending: str, state: ProjectState, schedule: Schedule) -> Iterator[str]:
+    """Yields lines on what is not in a new file, or not as it is in the deck."""
+    if ending in (".xlsx", ".xml"):
+        yield from _replaced(state.deck, schedule)
+    missing_parts = ", ".join(_left_out(state, schedule))
+    if ending == ".xml" and missing_parts:
+        yield f"not in this file, but in one written with --into: {missing_parts}"
 
 
 def _left_out(state: ProjectState, schedule: Schedule) -> Iterator[str]:
@@ -122,12 +131,36 @@ def _ending(options: argparse.Namespace) -> str:
     if options.format is not None:
         ending = f".{options.format}"
     elif not is_file(options.output):
-        ending = ".csv" if options.into is None else ".xml"
-    if ending not in FORMATS:
-        raise UsageError(f"{options.output}: the name has to end with {', '.join(FORMATS)}")
-    if options.into is not None and ending != ".xml":
-        raise UsageError("--into writes .xml")
+        ending = ".csv" if options.into is None else ""
+    endings = [*FORMATS] if options.into is None else _endings_of_planners()
+    if ending not in endings and (ending or options.into is None):
+        raise UsageError(f"{options.output}: the name has to end with {', '.join(endings)}")
     return ending
+
+
+def _endings_of_planners() -> list[str]:
+    """Returns the endings of the files into which a schedule can be put."""
+    return list(dict.fromkeys(way.ending for way in WAYS_BACK.values()))
+
+
+@dataclass(frozen=True)
+class _Original:
+    """A planner's file, and how a schedule gets into it."""
+
+    source: Source
+    way: WayBack
+
+
+def _original(options: argparse.Namespace, ending: str) -> _Original:
+    """Returns the planner's file; `ending` is that of the file to write, or empty."""
+    source = Source(options.into, read_bytes(options.into, MAX_BYTES))
+    way = WAYS_BACK.get(detect(source))
+    if way is None:
+        known = ", ".join(each.planner for each in WAYS_BACK.values())
+        raise InputError(f"{source.name}: --into changes files of {known}")
+    if ending not in ("", way.ending):
+        raise UsageError(f"{options.output}: --into {source.name} writes {way.ending}")
+    return _Original(source, way)
 
 
 def _replaced(deck: Deck, schedule: Schedule) -> Iterator[str]:
@@ -141,11 +174,11 @@ def _replaced(deck: Deck, schedule: Schedule) -> Iterator[str]:
             yield f"{code}: its title has {characters}, which is U+FFFD in the file"
 
 
-def _into(state: ProjectState, original: Path, schedule: Schedule) -> tuple[bytes, list[str]]:
+def _into(state: ProjectState, original: _Original, schedule: Schedule) -> tuple[bytes, list[str]]:
+    name = original.source.name
     if not state.has_side_file:
-        raise InputError(f"{state.path}: without its side file, tasks of {original} are not known")
-    data = read_bytes(original, MAX_BYTES)
-    return into_mspdi(data, shown_name(original), schedule, state.side)
+        raise InputError(f"{state.path}: without its side file, tasks of {name} are not known")
+    return original.way.put(original.source.data, name, schedule, state.side)
 
 
 def _new_file(ending: str, state: ProjectState, schedule: Schedule) -> bytes:

@@ -49,6 +49,8 @@ LEDGER = FileKind("a ledger", "kind,date,account,amount,")
 PAGE = FileKind("a page", "<!doctype html>")
 WORKBOOK = FileKind("a workbook", "PK\x03\x04")
 PLAN_XML = FileKind("a plan in XML", r"<\?xml |<Project")
+PLAN_GAN = FileKind("a plan of GanttProject", r"<\?xml |<project")
+PLAN_XER = FileKind("a plan in XER", "ERMHDR")
 CALENDAR_FILE = FileKind("a calendar file", "BEGIN:VCALENDAR")
 
 

@@ -4,11 +4,11 @@ The character set, the separator, the decimal mark and the order of dates are fo
 Rows end at a line feed or a carriage return alone: U+2028, U+2029 and U+0085 are part of a cell.
 """
 
-import codecs
 import csv
 import io
 from collections.abc import Callable, Iterator, Sequence
 
+from pert_companion.model.encodings import FALLBACK, MARKS, wide_encoding
 from pert_companion.model.errors import InputError
 from pert_companion.model.source import Source
 from pert_companion.readers.base import ReaderOptions, Reading
@@ -29,19 +29,11 @@ SEPARATORS = ";,\t|"
 HEAD_CHARACTERS = 4_000_000
 """How far into a text the row of headings is looked for."""
 
-_MARKS = (
-    (codecs.BOM_UTF8, "utf-8"),
-    (codecs.BOM_UTF32_LE, "utf-32-le"),
-    (codecs.BOM_UTF32_BE, "utf-32-be"),
-    (codecs.BOM_UTF16_LE, "utf-16-le"),
-    (codecs.BOM_UTF16_BE, "utf-16-be"),
-)
 _OTHER_FILES = (
     (b"PK\x03\x04", "a workbook or another archive"),
     (b"\xd0\xcf\x11\xe0", "a binary file (.xls, .mpp)"),
     (b"%PDF", "a PDF"),
 )
-_FALLBACK = "cp1252"
 
 HeadingCount = Callable[[Sequence[GridRow]], int]
 """Counts the headings that the first rows of a list have."""
@@ -97,27 +89,18 @@ def decode(data: bytes, encoding: str, file: str) -> tuple[str, str | None]:
     for mark, what in _OTHER_FILES:
         if data.startswith(mark):
             raise InputError(f"{file}: this is {what}, not a list as text")
-    for mark, name in _MARKS:
+    for mark, name in MARKS:
         if data.startswith(mark):
             return _decoded(data[len(mark) :], name, file), None
     if encoding:
         return _decoded(data, encoding, file), None
-    wide = _wide_encoding(data[:200])
+    wide = wide_encoding(data)
     if wide:
         return _decoded(data, wide, file), None
     try:
         return data.decode("utf-8"), None
     except UnicodeDecodeError:
-        return _decoded(data, _FALLBACK, file), _FALLBACK
-
-
-def _wide_encoding(data: bytes) -> str:
-    """Returns the kind of UTF-16 if every other byte is mostly 0, or an empty text."""
-    for first, name in ((1, "utf-16-le"), (0, "utf-16-be")):
-        part = data[first::2]
-        if 2 * part.count(0) > len(part):
-            return name
-    return ""
+        return _decoded(data, FALLBACK, file), FALLBACK
 
 
 def _decoded(data: bytes, encoding: str, file: str) -> str:

@@ -10,23 +10,18 @@ from collections.abc import Iterator
 from datetime import datetime
 from decimal import Decimal
 from fractions import Fraction
-from pathlib import Path
-from xml.etree import ElementTree as Tree
 from xml.etree.ElementTree import Element
 
 from pert_companion.analysis.schedule import Schedule, ScheduledTask
 from pert_companion.model import moments
 from pert_companion.model.errors import InputError
 from pert_companion.model.sidefile import SideFile
-from pert_companion.model.source import Source
-from pert_companion.model.xmltree import decimal, parse, whole
+from pert_companion.model.xmltree import decimal, whole
 from pert_companion.state.remaining import State
 from pert_companion.writers.mspdi_elements import (
     ELAPSED,
     IN_DAYS,
-    NAMESPACE,
     SHARES,
-    bytes_of,
     duration_text,
     minutes_of,
     moment_text,
@@ -34,6 +29,8 @@ from pert_companion.writers.mspdi_elements import (
     place_in_task,
 )
 from pert_companion.writers.mspdi_prices import Prices
+from pert_companion.writers.price_fields import number_text
+from pert_companion.writers.xml_edits import XmlFile
 
 _FIXED_WORK = "2"
 """The type of a task whose work stays when its duration changes, so that its units change."""
@@ -51,11 +48,11 @@ def into_mspdi(
     task of the schedule that the original lacks is named. Raises `InputError` if the original is no
     file of MS Project.
     """
-    Tree.register_namespace("", NAMESPACE)
-    root = parse(Source(Path(name), original))
+    xml = XmlFile(original, name)
+    root = xml.root
     if root.tag != name_of("Project"):
         raise InputError(f"{name}: not a file of MS Project (MSPDI)")
-    change = _Change(root, side)
+    change = _Change(xml, side)
     missing = []
     for task in schedule.tasks:
         element = change.tasks.get(task.uid)
@@ -67,16 +64,17 @@ def into_mspdi(
     change.put_groups()
     if schedule.tasks:
         change.put_moment(root, "FinishDate", max(task.finish for task in schedule.tasks))
-    return (bytes_of(root) if change.is_changed else original), missing
+    return xml.changed(), missing
 
 
 class _Change:
     """Changes the elements of one file."""
 
-    def __init__(self, root: Element, side: SideFile) -> None:
+    def __init__(self, xml: XmlFile, side: SideFile) -> None:
+        self.xml = xml
         self.calendar = side.calendar
         self.scale = Fraction(CENTS, side.money_scale)
-        self.is_changed = False
+        root = xml.root
         self.elements = list(root.iterfind(f"{name_of('Tasks')}/{name_of('Task')}"))
         self.tasks = {_text(element, "UID"): element for element in self.elements}
         self.assigned: dict[str, list[Element]] = {}
@@ -94,16 +92,14 @@ class _Change:
         """Sets the text of a child that the element has."""
         found = element.find(name_of(tag))
         if found is not None and found.text != text:
-            found.text = text
-            self.is_changed = True
+            self.xml.set_text(found, text)
 
     def require(self, element: Element, tag: str, text: str) -> None:
         """Sets the text of a child of a task, which is added in its place if it is not there."""
         if element.find(name_of(tag)) is None:
-            child = Element(name_of(tag))
-            child.tail = element[-1].tail if len(element) else None
-            element.insert(place_in_task(element, tag), child)
-        self.set(element, tag, text)
+            self.xml.add_text(element, place_in_task(element, tag), name_of(tag), text)
+        else:
+            self.set(element, tag, text)
 
     def put_moment(self, element: Element, tag: str, moment: datetime) -> None:
         """Sets a moment, unless the file has another one with no work between them."""
@@ -167,7 +163,7 @@ class _Change:
         before = decimal(_text(element, tag))
         if amount or before:
             total = Fraction(before or 0) + amount
-            self.require(element, tag, _number_text(total))
+            self.require(element, tag, number_text(total))
 
     def put_work(self, element: Element, uid: str, share: Fraction) -> Fraction:
         """Changes the assignments of a task of which a share of what was left is left.
@@ -182,7 +178,7 @@ class _Change:
                 continue
             if is_fixed:
                 units = Fraction(decimal(_text(each, "Units")) or 1)
-                self.set(each, "Units", _number_text(units / share if share else units))
+                self.set(each, "Units", number_text(units / share if share else units))
             else:
                 change = self.change_work(each, share)
                 work += change
@@ -217,9 +213,9 @@ class _Change:
         known = decimal(_text(element, "RemainingCost"))
         left = Fraction(cost - (decimal(_text(element, "ActualCost")) or 0))
         saved = Fraction(round((Fraction(known) if known is not None else left) * (1 - share)))
-        self.set(element, "Cost", _number_text(Fraction(cost) - saved))
+        self.set(element, "Cost", number_text(Fraction(cost) - saved))
         if known is not None:
-            self.set(element, "RemainingCost", _number_text(Fraction(known) - saved))
+            self.set(element, "RemainingCost", number_text(Fraction(known) - saved))
         return saved
 
     def forget_days(self, element: Element) -> None:
@@ -228,8 +224,7 @@ class _Change:
             return
         for daily in element.findall(name_of("TimephasedData")):
             if _text(daily, "Type") == _PLANNED_WORK:
-                element.remove(daily)
-                self.is_changed = True
+                self.xml.remove(element, daily)
 
     def fix_shares(self) -> None:
         """Gives lags that are a share of a shortened duration the time that they had."""
@@ -305,9 +300,3 @@ def _moments(elements: list[Element], tag: str) -> Iterator[datetime]:
 
 def _text(element: Element, tag: str) -> str:
     return (element.findtext(name_of(tag)) or "").strip()
-
-
-def _number_text(number: Fraction) -> str:
-    """Returns a number with the decimals that it has, six at most."""
-    text = f"{float(number):.6f}" if number.denominator != 1 else str(number)
-    return text.rstrip("0").rstrip(".") if "." in text else text

@@ -1,9 +1,4 @@
-"""Keeps the prices of further shortening in the custom fields of a file of MS Project.
-
-After a task was shortened, its shortest duration and the price of a day have to be what they were.
-A slope stays. A cost at the shortest duration counts from the new cost. The shortest duration of
-work under way is one of the complete task, from which what is left is computed by its share.
-"""
+"""Keeps the prices of further shortening in the custom fields of a file of MS Project."""
 
 from collections.abc import Iterator
 from fractions import Fraction
@@ -16,7 +11,9 @@ from pert_companion.model.sidefile import SideFile
 from pert_companion.model.xmltree import decimal
 from pert_companion.state.remaining import State
 from pert_companion.writers.mspdi_elements import duration_text, minutes_of, name_of
+from pert_companion.writers.price_fields import cost_at_shortest, number_text, shortest_of_begun
 
+_CENTS = 100
 _COST_FIELDS = ("cost", "kosten")
 """How the names of custom fields begin that hold amounts, in hundredths."""
 
@@ -47,27 +44,16 @@ class Prices:
             return
         least = minutes_of(_text(shortest, "Value"))
         if task.state is State.BEGUN and task.left_minutes:
-            least = self._least(task, lasting)
+            least = shortest_of_begun(task, lasting, self.side.unit_minutes)
             setter.set(shortest, "Value", duration_text(least))
         cost = next(self._fields(element, COST_NAMES), None)
         if cost is None or least is None or any(True for _ in self._fields(element, SLOPE_NAMES)):
             return
-        units = Fraction(lasting - least, self.side.unit_minutes)
-        total = decimal(_text(element, "Cost")) or 0
-        more = units * task.slope / self.side.money_scale
-        amount = Fraction(total) / 100 + more
+        total = Fraction(decimal(_text(element, "Cost")) or 0) / _CENTS
+        amount = cost_at_shortest(task, self.side, total, lasting, least)
         if self._is_amount(cost):
-            amount *= 100
-        setter.set(cost, "Value", f"{float(amount):.10g}")
-
-    def _least(self, task: ScheduledTask, lasting: int) -> int:
-        """Returns the shortest duration of work under way, in minutes.
-
-        What is left of it can be so short: its share of what is left, rounded up to units.
-        """
-        unit = self.side.unit_minutes
-        share = Fraction(task.shortest_minutes // unit * lasting, task.left_minutes)
-        return share.numerator // share.denominator * unit
+            amount *= _CENTS
+        setter.set(cost, "Value", number_text(amount))
 
     def _fields(self, element: Element, wanted: tuple[str, ...]) -> Iterator[Element]:
         """Yields the fields of a task that have one of these names."""

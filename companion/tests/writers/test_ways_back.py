@@ -1,0 +1,280 @@
+"""A schedule in the file of P6 or GanttProject that its plan came from, and imported again."""
+
+from collections.abc import Callable
+from dataclasses import dataclass
+from pathlib import Path
+from xml.etree import ElementTree
+
+import pytest
+from hypothesis import HealthCheck, assume, given, settings
+from hypothesis import strategies as st
+
+from chosen_lengths import (
+    check_dates,
+    check_listed,
+    in_one_piece,
+    rest_dates,
+    state_of,
+    three_lengths,
+)
+from cpm import Dates
+from examples import length_count
+from p6_files import DURATION_TYPES, full_pmxml, full_xer, xer_tables, xml_bytes
+from pert_companion import readers
+from pert_companion.analysis.schedule import Schedule
+from pert_companion.analysis.scheduling import rest_schedule
+from pert_companion.carry import Carried, CarryOptions, carry
+from pert_companion.model.plan import Plan, Task
+from pert_companion.model.source import Source
+from pert_companion.programs.results import cost_at
+from pert_companion.readers.base import ReaderOptions
+from pert_companion.state.remaining import State
+from pert_companion.writers.into import WAYS_BACK
+from planner_files import gan_bytes
+from plans import Feature, plans
+
+PLANNED = frozenset(
+    (
+        Feature.LINK_KINDS,
+        Feature.LAGS,
+        Feature.CRASH,
+        Feature.CRASH_COST,
+        Feature.COSTS,
+        Feature.HOLIDAYS,
+        Feature.WEEKS,
+        Feature.LISTED_DATES,
+        Feature.RESOURCES,
+    )
+)
+RUNNING = PLANNED | {Feature.PROGRESS}
+SLOW = settings(
+    max_examples=length_count(12),
+    deadline=None,
+    suppress_health_check=list(HealthCheck),
+)
+Fields = dict[tuple[str, str], dict[str, str]]
+"""The fields of each row or element, by its kind and id."""
+
+
+@dataclass(frozen=True)
+class Format:
+    """A format: how a test writes a plan, and which fields a schedule may change."""
+
+    name: str
+    write: Callable[[Plan, str], bytes]
+    fields: Callable[[bytes], Fields]
+    changed: dict[str, frozenset[str]]
+    features: frozenset[Feature] = RUNNING
+    lists_finishes: bool = True
+    """Whether it lists when tasks under way end."""
+
+
+def xer_fields(data: bytes) -> Fields:
+    """Returns the fields of a file: those of a table by the place of the row."""
+    found: Fields = {}
+    for table, rows in xer_tables(data).items():
+        for number, row in enumerate(rows):
+            found[table, str(number)] = row
+    return found
+
+
+def pmxml_fields(data: bytes) -> Fields:
+    """Returns the fields of the elements of a file that have elements, by their places."""
+    found: Fields = {}
+    for element in ElementTree.fromstring(data).iter():
+        kind = element.tag.rpartition("}")[2]
+        number = sum(1 for known, _ in found if known == kind)
+        leaves = [child for child in element if not len(child)]
+        texts = {child.tag.rpartition("}")[2]: child.text or "" for child in leaves}
+        if texts:
+            found[kind, str(number)] = texts
+    return found
+
+
+def gan_fields(data: bytes) -> Fields:
+    """Returns the attributes of the elements of a file, by their places."""
+    found: Fields = {}
+    for number, element in enumerate(ElementTree.fromstring(data).iter()):
+        found[element.tag, str(number)] = dict(element.attrib)
+    return found
+
+
+def started_gan(plan: Plan, _: str) -> bytes:
+    """Returns a plan as GanttProject has it, with the percentages and starts of its tasks."""
+    root = ElementTree.fromstring(gan_bytes(plan))
+    tasks = {task.uid: task for task in plan.tasks()}
+    for element in root.iter("task"):
+        task = tasks.get(element.get("id", ""))
+        if task is not None and task.progress.percent is not None:
+            element.set("complete", str(task.progress.percent))
+            element.set("start", str(task.progress.actual_start))
+    return xml_bytes(root)
+
+
+XER_DATES = frozenset(
+    "target_start_date target_end_date early_start_date early_end_date restart_date reend_date"
+    " late_start_date late_end_date".split()
+)
+FORMATS = {
+    "xer": Format(
+        "xer",
+        full_xer,
+        xer_fields,
+        {
+            "PROJECT": frozenset(("scd_end_date",)),
+            "TASK": XER_DATES
+            | frozenset(
+                "target_drtn_hr_cnt remain_drtn_hr_cnt total_float_hr_cnt target_work_qty"
+                " remain_work_qty".split()
+            ),
+            "TASKRSRC": XER_DATES
+            | frozenset(
+                "target_qty remain_qty target_qty_per_hr remain_qty_per_hr target_cost"
+                " remain_cost".split()
+            ),
+            "UDFVALUE": frozenset(("udf_text", "udf_number")),
+        },
+        RUNNING | {Feature.CONSTRAINTS},
+    ),
+    "pmxml": Format(
+        "pmxml",
+        full_pmxml,
+        pmxml_fields,
+        {
+            "Project": frozenset(("ScheduledFinishDate",)),
+            "Activity": frozenset(
+                "PlannedDuration RemainingDuration AtCompletionDuration DurationPercentComplete"
+                " StartDate FinishDate PlannedStartDate PlannedFinishDate RemainingEarlyFinishDate"
+                " RemainingLateFinishDate TotalFloat PlannedLaborUnits RemainingLaborUnits"
+                " AtCompletionLaborUnits".split()
+            ),
+            "ResourceAssignment": frozenset(
+                "PlannedUnits RemainingUnits AtCompletionUnits PlannedUnitsPerTime"
+                " RemainingUnitsPerTime PlannedCost RemainingCost AtCompletionCost".split()
+            ),
+            "UDF": frozenset(("TextValue", "CostValue")),
+        },
+        RUNNING | {Feature.CONSTRAINTS},
+    ),
+    "gan": Format(
+        "gan",
+        started_gan,
+        gan_fields,
+        {
+            "task": frozenset("start duration complete cost-manual-value cost-calculated".split()),
+            "customproperty": frozenset(("value",)),
+        },
+        lists_finishes=False,
+    ),
+}
+NEW_EXPENSES = ("PROJCOST", "ActivityExpense")
+EVERY = pytest.mark.parametrize("format_name", FORMATS)
+
+
+def read(data: bytes, plan: Plan) -> Plan:
+    """Reads a file. GanttProject's has no date of the progress."""
+    options = ReaderOptions(data_date=plan.data_date)
+    return readers.read(Source(Path("plan"), data), options).plan
+
+
+def into(name: str, data: bytes, schedule: Schedule, carried: Carried) -> bytes:
+    """Returns a file with a schedule, which it takes completely."""
+    changed, faults = WAYS_BACK[name].put(data, "plan", schedule, carried.side)
+    assert faults == []
+    return changed
+
+
+def check_rest(form: Format, before: bytes, after: bytes) -> None:
+    """Checks that nothing changed but the fields that may, and expenses that are added."""
+    old, new = form.fields(before), form.fields(after)
+    added = [key for key in new if key not in old]
+    assert [key for key in old if key not in new] == []
+    assert all(kind in NEW_EXPENSES for kind, _ in added)
+    for key, fields in old.items():
+        wanted = form.changed.get(key[0], frozenset())
+        if "Shortening" in new[key].values():
+            continue
+        kept = {name: text for name, text in fields.items() if name not in wanted}
+        found = {name: text for name, text in new[key].items() if name not in wanted}
+        assert kept == found, key
+        if form.name != "gan":
+            assert set(fields) == set(new[key])
+
+
+@EVERY
+@SLOW
+@given(st.data())
+def test_dates_of_the_chosen_durations(format_name: str, data: st.DataObject) -> None:
+    """At three lengths a plan that has not begun shows the dates of the CPM."""
+    form = FORMATS[format_name]
+    features = form.features - {Feature.PROGRESS}
+    plan = in_one_piece(data.draw(plans(features=features, least=2, most=9)))
+    assume(any(isinstance(entry, Task) for entry in plan.outline))
+    original = form.write(plan, data.draw(st.sampled_from(DURATION_TYPES)))
+    carried = carry(read(original, plan))
+    for schedule in three_lengths(carried):
+        changed = into(format_name, original, schedule, carried)
+        check_rest(form, original, changed)
+        check_dates(read(changed, plan), schedule)
+
+
+def check_left(plan: Plan, schedule: Schedule) -> None:
+    """Compares the dates that a running plan lists with those of what is left of each task."""
+    left = {
+        task.uid: task.left_minutes for task in schedule.tasks if task.state is not State.FINISHED
+    }
+    calendar = plan.calendar
+    tasks = {task.uid: task for task in plan.tasks()}
+    for uid, (start, finish) in rest_dates(plan, left).items():
+        task = tasks[uid]
+        if task.progress.actual_start is not None:
+            days = {calendar.end_at(finish).date()}
+            days |= {calendar.at(start).date()} if task.is_milestone else set()
+            assert task.listed_finish in days
+            continue
+        check_listed(plan, task, Dates(start, finish, start, finish))
+
+
+@EVERY
+@SLOW
+@given(st.data())
+def test_running_plans_come_back(format_name: str, data: st.DataObject) -> None:
+    """An export at any length, imported again, has the curve of what was left from there on."""
+    form = FORMATS[format_name]
+    plan = in_one_piece(data.draw(plans(features=form.features, least=2, most=9)))
+    assume(any(isinstance(entry, Task) for entry in plan.outline))
+    original = form.write(plan, data.draw(st.sampled_from(DURATION_TYPES)))
+    carried = carry(read(original, plan))
+    unit = CarryOptions(unit=str(carried.side.unit_minutes))
+    before = state_of(carried).rest.curve
+    for schedule in three_lengths(carried):
+        changed = into(format_name, original, schedule, carried)
+        check_rest(form, original, changed)
+        again = carry(read(changed, plan), unit)
+        after = state_of(again).rest.curve
+        assert (after[0].length, after[-1].length) == (schedule.length, before[-1].length)
+        for length in range(after[-1].length, schedule.length + 1):
+            assert cost_at(after, length)[0] == cost_at(before, length)[0]
+        normal = rest_schedule(state_of(again))
+        assert [task.left_minutes for task in normal.tasks] == [
+            task.left_minutes for task in schedule.tasks
+        ]
+        assert [task.finish for task in normal.tasks] == [task.finish for task in schedule.tasks]
+        if form.lists_finishes:
+            check_left(read(changed, plan), schedule)
+
+
+@EVERY
+@SLOW
+@given(st.data())
+def test_what_has_its_dates_stays(format_name: str, data: st.DataObject) -> None:
+    """A plan that has not begun and has its dates stays as it is, byte for byte."""
+    form = FORMATS[format_name]
+    features = form.features - {Feature.PROGRESS}
+    plan = in_one_piece(data.draw(plans(features=features, least=2, most=9)))
+    assume(any(isinstance(entry, Task) for entry in plan.outline))
+    original = form.write(plan, DURATION_TYPES[0])
+    carried = carry(read(original, plan))
+    schedule = rest_schedule(state_of(carried))
+    dated = into(format_name, original, schedule, carried)
+    assert into(format_name, dated, schedule, carried) == dated
