@@ -15,6 +15,7 @@ from pert_companion.model.plan import (
     ConstraintKind,
     Group,
     Lag,
+    LagCalendar,
     Link,
     LinkKind,
     Plan,
@@ -57,6 +58,16 @@ WEEKDAYS = (
     "Saturday",
     "Sunday",
 )
+XER_LAGS = {
+    LagCalendar.PLAN: "rcal_ProjDefault",
+    LagCalendar.PREDECESSOR: "rcal_Predecessor",
+    LagCalendar.SUCCESSOR: "rcal_Successor",
+}
+PMXML_LAGS = {
+    LagCalendar.PLAN: "Project Default Calendar",
+    LagCalendar.PREDECESSOR: "Predecessor Activity Calendar",
+    LagCalendar.SUCCESSOR: "Successor Activity Calendar",
+}
 FINISH_KINDS = (
     ConstraintKind.MUST_FINISH,
     ConstraintKind.FINISH_NO_EARLIER,
@@ -114,6 +125,12 @@ def exception_days(calendar: Calendar) -> Iterator[tuple[date, str, tuple[Shift,
             day += timedelta(days=1)
 
 
+def calendar_number(plan: Plan, task: Task, first: int) -> int:
+    """Returns the number of a task's calendar: the plan's has the first one."""
+    names = [plan.calendar.name, *(calendar.name for calendar in plan.calendars)]
+    return first + names.index(task.calendar or plan.calendar.name)
+
+
 # MS Project's XML
 
 
@@ -126,7 +143,7 @@ def _mspdi_shifts(shifts: Sequence[Shift]) -> str:
     return working + (f"<WorkingTimes>{times}</WorkingTimes>" if shifts else "")
 
 
-def _mspdi_calendar(calendar: Calendar) -> str:
+def _mspdi_calendar(calendar: Calendar, uid: int) -> str:
     days = ""
     for number in range(1, 8):
         shifts = calendar.week[(number - 2) % 7]
@@ -140,9 +157,9 @@ def _mspdi_calendar(calendar: Calendar) -> str:
             "</Exception>"
         )
     return (
-        f"<Calendars><Calendar><UID>1</UID>{tag('Name', calendar.name)}<IsBaseCalendar>1"
+        f"<Calendar><UID>{uid}</UID>{tag('Name', calendar.name)}<IsBaseCalendar>1"
         f"</IsBaseCalendar><BaseCalendarUID>-1</BaseCalendarUID><WeekDays>{days}</WeekDays>"
-        f"<Exceptions>{exceptions}</Exceptions></Calendar></Calendars>"
+        f"<Exceptions>{exceptions}</Exceptions></Calendar>"
     )
 
 
@@ -248,30 +265,36 @@ def mspdi_bytes(plan: Plan) -> bytes:
     tasks = "<Task><UID>0</UID><ID>0</ID><Name>All</Name><OutlineLevel>0</OutlineLevel></Task>"
     for entry in plan.outline:
         links = [link for link in plan.links if link.successor == entry.uid]
-        body = _mspdi_task(entry) if isinstance(entry, Task) else tag("Summary", 1)
+        body = tag("Summary", 1)
+        if isinstance(entry, Task):
+            number = calendar_number(plan, entry, 1) if entry.calendar else -1
+            body = _mspdi_task(entry) + tag("CalendarUID", number)
         tasks += (
             f"<Task><UID>{entry.uid}</UID><ID>{entry.uid}</ID>{tag('Name', entry.name)}"
             f"<OutlineLevel>{level[entry.uid]}</OutlineLevel>{body}{_mspdi_links(links)}</Task>"
         )
     fields = ""
-    for number, name, alias in (
+    for code, name, alias in (
         ("188743783", "Duration1", "Crash"),
         ("188743786", "Cost1", "Slope"),
         ("188743787", "Cost2", "Crash cost"),
     ):
         fields += (
-            f"<ExtendedAttribute><FieldID>{number}</FieldID>{tag('FieldName', name)}"
+            f"<ExtendedAttribute><FieldID>{code}</FieldID>{tag('FieldName', name)}"
             f"{tag('Alias', alias)}</ExtendedAttribute>"
         )
     status = None if plan.data_date is None else evening(plan.data_date)
     calendar = plan.calendar
+    calendars = ""
+    for number, each in enumerate((calendar, *plan.calendars), 1):
+        calendars += _mspdi_calendar(each, number)
     return (
         '<?xml version="1.0" encoding="UTF-8" standalone="yes"?>'
         f'<Project xmlns="http://schemas.microsoft.com/project">{tag("Title", plan.name)}'
         f"{tag('StartDate', morning(plan.start))}{tag('StatusDate', status)}"
         f"<CalendarUID>1</CalendarUID>{tag('MinutesPerDay', calendar.day_minutes)}"
         f"{tag('MinutesPerWeek', calendar.week_minutes)}{tag('DaysPerMonth', calendar.month_days)}"
-        f"<ExtendedAttributes>{fields}</ExtendedAttributes>{_mspdi_calendar(calendar)}"
+        f"<ExtendedAttributes>{fields}</ExtendedAttributes><Calendars>{calendars}</Calendars>"
         f"<Tasks>{tasks}</Tasks>{_mspdi_resources(plan)}</Project>"
     ).encode()
 
@@ -323,14 +346,14 @@ def _hours(minutes: int) -> str:
     return f"{Decimal(minutes) / 60:f}"
 
 
-def _p6_task(task: Task, codes: bool) -> dict[str, object]:
+def _p6_task(task: Task, codes: bool, plan: Plan) -> dict[str, object]:
     """Returns the row of an activity under XER's names."""
     progress, constraint = task.progress, task.constraint
     row: dict[str, object] = {
         "task_id": task.uid,
         "proj_id": 1,
         "wbs_id": "top" if task.parent is None else task.parent,
-        "clndr_id": 7,
+        "clndr_id": calendar_number(plan, task, 7),
         "task_code": f"T{task.uid}" if codes else f"A{task.uid}",
         "task_name": task.name,
         "task_type": "TT_Mile" if task.is_milestone else "TT_Task",
@@ -446,12 +469,7 @@ def xer_bytes(plan: Plan, codes: bool = False, encoding: str = "utf-8") -> bytes
         for task in tasks
         if task.cost is not None
     ]
-    calendar = plan.calendar
-    lengths = {
-        "day_hr_cnt": _hours(calendar.day_minutes),
-        "week_hr_cnt": _hours(calendar.week_minutes),
-        "month_hr_cnt": _hours(calendar.month_days * calendar.day_minutes),
-    }
+    options = {"proj_id": 1, "sched_calendar_on_relationship_lag": XER_LAGS[plan.lag_calendar]}
     units = {resource.unit for resource in plan.resources if resource.unit != "h"}
     tables = [
         _xer_table("UMEASURE", [{"unit_id": u, "unit_abbrev": u} for u in sorted(units)]),
@@ -469,20 +487,11 @@ def xer_bytes(plan: Plan, codes: bool = False, encoding: str = "utf-8") -> bytes
                 }
             ],
         ),
-        _xer_table(
-            "CALENDAR",
-            [
-                {
-                    "clndr_id": 7,
-                    "clndr_name": calendar.name,
-                    **lengths,
-                    "clndr_data": xer_calendar_text(calendar),
-                }
-            ],
-        ),
+        _xer_table("CALENDAR", _xer_calendars(plan)),
+        _xer_table("SCHEDOPTIONS", [options] if plan.calendars else []),
         _xer_table("PROJWBS", groups),
         _xer_table("RSRC", _p6_resources(plan)),
-        _xer_table("TASK", [_p6_task(task, codes) for task in tasks]),
+        _xer_table("TASK", [_p6_task(task, codes, plan) for task in tasks]),
         _xer_table("TASKPRED", _xer_links(plan)),
         _xer_table("TASKRSRC", _p6_assignments(plan)),
         _xer_table("PROJCOST", costs),
@@ -496,6 +505,21 @@ def xer_bytes(plan: Plan, codes: bool = False, encoding: str = "utf-8") -> bytes
         _xer_table("UDFVALUE", values),
     ]
     return f"ERMHDR\t19.12\t2026-03-02\r\n{''.join(tables)}%E\r\n".encode(encoding)
+
+
+def _xer_calendars(plan: Plan) -> list[dict[str, object]]:
+    rows: list[dict[str, object]] = []
+    for number, calendar in enumerate((plan.calendar, *plan.calendars), 7):
+        row = {
+            "clndr_id": number,
+            "clndr_name": calendar.name,
+            "day_hr_cnt": _hours(calendar.day_minutes),
+            "week_hr_cnt": _hours(calendar.week_minutes),
+            "month_hr_cnt": _hours(calendar.month_days * calendar.day_minutes),
+            "clndr_data": xer_calendar_text(calendar),
+        }
+        rows.append(row)
+    return rows
 
 
 def _xer_links(plan: Plan) -> list[dict[str, object]]:
@@ -522,7 +546,7 @@ def _pmxml_times(shifts: Sequence[Shift]) -> str:
     )
 
 
-def _pmxml_calendar(calendar: Calendar) -> str:
+def _pmxml_calendar(calendar: Calendar, number: int) -> str:
     week = "".join(
         f"<StandardWorkHours><DayOfWeek>{name}</DayOfWeek>{_pmxml_times(shifts)}"
         "</StandardWorkHours>"
@@ -534,7 +558,7 @@ def _pmxml_calendar(calendar: Calendar) -> str:
         for day, _, shifts in exception_days(calendar)
     )
     return (
-        f"<Calendar><ObjectId>7</ObjectId>{tag('Name', calendar.name)}"
+        f"<Calendar><ObjectId>{number}</ObjectId>{tag('Name', calendar.name)}"
         f"{tag('HoursPerDay', _hours(calendar.day_minutes))}"
         f"{tag('HoursPerWeek', _hours(calendar.week_minutes))}"
         f"{tag('HoursPerMonth', _hours(calendar.month_days * calendar.day_minutes))}"
@@ -550,8 +574,8 @@ _PMXML_STATUS = {
 }
 
 
-def _pmxml_task(task: Task, codes: bool) -> str:
-    row = _p6_task(task, codes)
+def _pmxml_task(task: Task, codes: bool, plan: Plan) -> str:
+    row = _p6_task(task, codes, plan)
     constraint = task.constraint
     percent = task.progress.percent
     user = ""
@@ -572,7 +596,7 @@ def _pmxml_task(task: Task, codes: bool) -> str:
         tag("ActualFinishDate", row.get("act_end_date")),
         tag("StartDate", row.get("early_start_date")),
         tag("FinishDate", row.get("early_end_date")),
-        tag("CalendarObjectId", 7),
+        tag("CalendarObjectId", row["clndr_id"]),
         tag("WBSObjectId", row["wbs_id"]),
         user,
     ]
@@ -607,7 +631,7 @@ def pmxml_bytes(plan: Plan, codes: bool = False) -> bytes:
             f"<WBS>{tag('ObjectId', group.uid)}{tag('Name', group.name)}"
             f"{tag('ParentObjectId', group.parent or 'top')}{tag('SequenceNumber', number)}</WBS>"
         )
-    tasks = "".join(_pmxml_task(task, codes) for task in plan.tasks())
+    tasks = "".join(_pmxml_task(task, codes, plan) for task in plan.tasks())
     links = "".join(
         f"<Relationship>{tag('PredecessorActivityObjectId', link.predecessor)}"
         f"{tag('SuccessorActivityObjectId', link.successor)}"
@@ -633,14 +657,20 @@ def pmxml_bytes(plan: Plan, codes: bool = False) -> bytes:
         "</UDFType>"
         for n, name, _ in USER_FIELDS
     )
+    calendars = options = ""
+    for number, each in enumerate((plan.calendar, *plan.calendars), 7):
+        calendars += _pmxml_calendar(each, number)
+    if plan.calendars:
+        lags = tag("RelationshipLagCalendar", PMXML_LAGS[plan.lag_calendar])
+        options = f"<ScheduleOptions>{lags}</ScheduleOptions>"
     return (
         '<?xml version="1.0" encoding="utf-8"?><APIBusinessObjects'
         ' xmlns="http://xmlns.oracle.com/Primavera/P6/V22.12/API/BusinessObjects">'
-        f"{types}{_pmxml_calendar(plan.calendar)}{_pmxml_resources(plan)}"
+        f"{types}{calendars}{_pmxml_resources(plan)}"
         f"<Project><ObjectId>1</ObjectId><Id>P1</Id>{tag('Name', plan.name)}"
         f"{tag('PlannedStartDate', morning(plan.start))}{tag('DataDate', status)}"
         f"{tag('MustFinishByDate', evening(plan.must_finish)) if plan.must_finish else ''}"
-        f"{groups}{tasks}{links}{parts}</Project></APIBusinessObjects>"
+        f"{options}{groups}{tasks}{links}{parts}</Project></APIBusinessObjects>"
     ).encode()
 
 

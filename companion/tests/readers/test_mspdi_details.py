@@ -11,6 +11,7 @@ import pytest
 from pert_companion.model import moments
 from pert_companion.model.calendar import Calendar
 from pert_companion.model.errors import InputError
+from pert_companion.model.logic import CLOCK_NAME
 from pert_companion.model.plan import (
     Constraint,
     ConstraintKind,
@@ -146,11 +147,11 @@ def test_groups_with_more_than_a_name() -> None:
 
 
 def test_elapsed_durations() -> None:
-    """14 days by the clock are the working time from their start, and are named."""
+    """14 days by the clock are 14 times 24 hours of a calendar that never stops."""
     parts = "<Duration>PT336H0M0S</Duration><DurationFormat>8</DurationFormat>"
     reading = read(task(1, parts, "<Start>2026-03-02T08:00:00</Start>"))
-    assert first(reading).minutes == 10 * 480 and kinds(reading) == ["elapsed"]
-    assert first(read(task(1, parts))).minutes == 10 * 480
+    assert first(reading).minutes == 14 * 1440 and kinds(reading) == []
+    assert first(reading).calendar == CLOCK_NAME
 
 
 def test_manual_tasks() -> None:
@@ -470,7 +471,7 @@ def test_formats_of_elapsed_time(form: int) -> None:
     start = "<Start>2026-03-02T08:00:00</Start>"
     form_tag = f"<DurationFormat>{form}</DurationFormat>"
     reading = read(task(1, "<Duration>PT168H0M0S</Duration>", start, form_tag))
-    assert kinds(reading) == ["elapsed"] and first(reading).minutes == 5 * 480
+    assert first(reading).calendar == CLOCK_NAME and first(reading).minutes == 7 * 1440
     lag_tags = f"<LinkLag>14400</LinkLag><LagFormat>{form}</LagFormat><Type>1</Type>"
     reading = read(task(1, DAY) + task(2, DAY, link(lag_tags)))
     (found,) = reading.plan.links
@@ -482,7 +483,7 @@ def test_formats_of_working_time(form: int) -> None:
     """The other codes count working time."""
     form_tag = f"<DurationFormat>{form}</DurationFormat>"
     reading = read(task(1, "<Duration>PT168H0M0S</Duration>", form_tag))
-    assert kinds(reading) == [] and first(reading).minutes == 168 * 60
+    assert first(reading).calendar is None and first(reading).minutes == 168 * 60
     lag_tags = f"<LinkLag>14400</LinkLag><LagFormat>{form}</LagFormat><Type>1</Type>"
     (found,) = read(task(1, DAY) + task(2, DAY, link(lag_tags))).plan.links
     assert not found.lag.elapsed

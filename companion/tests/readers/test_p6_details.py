@@ -8,7 +8,14 @@ from pathlib import Path
 import pytest
 
 from pert_companion.model.errors import InputError
-from pert_companion.model.plan import Baseline, Constraint, ConstraintKind, Crash, Task
+from pert_companion.model.plan import (
+    Baseline,
+    Constraint,
+    ConstraintKind,
+    Crash,
+    LagCalendar,
+    Task,
+)
 from pert_companion.model.source import Source
 from pert_companion.readers import p6_calendars, pmxml, xer
 from pert_companion.readers.base import ReaderOptions, Reading
@@ -199,7 +206,7 @@ def calendar(uid: str, name: str, hours: str = "8", text: str = "") -> tuple[str
 
 
 def test_calendars() -> None:
-    """The calendar of most activities is the plan's; a day of another one counts as a day."""
+    """The calendar of most activities is the plan's; other activities have hours of their own."""
     tasks = [("TASK", {**TASK, "task_id": str(n), "clndr_id": "7"}) for n in (1, 2)]
     other = {**TASK, "task_id": "3", "clndr_id": "8", "target_drtn_hr_cnt": "20"}
     link = {"task_id": "1", "pred_task_id": "3", "proj_id": "1", "lag_hr_cnt": "10"}
@@ -212,8 +219,9 @@ def test_calendars() -> None:
     reading = read(*tables, ("TASKPRED", link))
     plan = reading.plan
     assert plan.calendar.name == "Days" and [t.calendar for t in plan.tasks()][2] == "Long"
-    assert [task.minutes for task in plan.tasks()] == [2400, 2400, 960]
-    assert plan.links[0].lag.minutes == 480
+    assert [task.minutes for task in plan.tasks()] == [2400, 2400, 1200]
+    assert [(each.name, each.day_minutes) for each in plan.calendars] == [("Long", 600)]
+    assert plan.links[0].lag.minutes == 600 and plan.lag_calendar is LagCalendar.PREDECESSOR
     assert read(*tables, calendar="long").plan.calendar.day_minutes == 600
     with pytest.raises(InputError, match="no calendar named 'none'"):
         read(*tables, calendar="none")

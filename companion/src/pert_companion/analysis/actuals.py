@@ -33,14 +33,14 @@ class Actuals:
     def start(self, task: SideTask) -> datetime | None:
         """Returns the first working moment of the day on which a task began, or None."""
         day = self.start_day(task)
-        return None if day is None else self.state.side.calendar.morning(day)
+        return None if day is None else self.state.side.calendar_of(task).morning(day)
 
     def finish(self, task: SideTask) -> datetime | None:
         """Returns the end of the day on which a task was finished, or None if it is not.
 
         A STATUS card has the morning after it.
         """
-        calendar = self.state.side.calendar
+        calendar = self.state.side.calendar_of(task)
         day = task.actual_finish
         if day is None:
             morning = max(self._days(task, "F"), default=None)

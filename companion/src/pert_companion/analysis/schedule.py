@@ -58,6 +58,8 @@ class ScheduledTask:
     """The last day of work by which the task is to end."""
     deadline_slack_minutes: int | None = None
     """Working minutes from its finish to the end of its deadline; negative if it is late."""
+    calendar: str = ""
+    """The name of its own calendar, whose days its durations and float are; else empty."""
 
     @property
     def normal_left_minutes(self) -> int:
@@ -112,3 +114,7 @@ class Schedule:
     """Whether this is the plan of the first day of a project that has begun."""
     money_scale: int = 1
     """How many units of money of the deck one of the currency is."""
+    counted_end: date | None = None
+    """The last day of work as the curve counts it, if that is not every task's real calendar."""
+    calendars: str = ""
+    """Which tasks have calendars of their own, and how the curve counts them, for people."""

@@ -7,13 +7,18 @@ the plan's calendar. `total_float` has the float of tasks whose finish waits for
 
 from collections.abc import Mapping
 from dataclasses import dataclass, replace
-from datetime import date, datetime, timedelta
+from datetime import date, datetime
 
 from pert_companion.analysis.actuals import Actuals
 from pert_companion.analysis.lengths import LengthChoice, check_length, chosen_length, next_step
+from pert_companion.analysis.real_dates import (
+    RealDates,
+    calendars_text,
+    deadline_slack,
+    in_plan_days,
+)
 from pert_companion.analysis.schedule import Schedule, ScheduledTask
 from pert_companion.analysis.total_float import SIXTHS, LateDates
-from pert_companion.model.calendar import Calendar
 from pert_companion.model.cards import AccountCard, ActivityCard, EventCard, PieceCard
 from pert_companion.model.clock import Clock
 from pert_companion.model.deck import Deck
@@ -76,38 +81,28 @@ def rest_schedule(state: ProjectState, choice: LengthChoice = LengthChoice()) ->
     return replace(schedule, tasks=tasks, start=min(starts), end=max(ends), rest_of=state.as_of)
 
 
-def deadline_slack(calendar: Calendar, deadline: date | None, finish: datetime) -> int | None:
-    """Returns the working minutes from a finish to the end of a deadline; negative if it is late.
-
-    None without a deadline.
-    """
-    if deadline is None:
-        return None
-    evening = datetime(deadline.year, deadline.month, deadline.day) + timedelta(days=1)
-    return calendar.position(evening) - calendar.position(finish)
-
-
 def _with_actuals(task: ScheduledTask, entry: SideTask, actuals: Actuals) -> ScheduledTask:
     """Returns a task of the schedule of what is left with its actual dates."""
-    state = actuals.states[task.code]
-    task = replace(task, state=state, normal_minutes=entry.minutes)
+    side, state = actuals.state.side, actuals.states[task.code]
+    normal = in_plan_days(side, entry, entry.minutes)
+    task = replace(task, state=state, normal_minutes=normal)
     begun = actuals.start(entry)
     if state is State.WAITING or begun is None:
         return task
-    calendar = actuals.state.side.calendar
+    calendar = side.calendar_of(entry)
     if state is State.FINISHED:
         ended = actuals.finish(entry) or begun
-        lasted = calendar.between(begun, ended) if entry.normal else 0
+        lasted = calendar.between(begun, ended) if entry.minutes else 0
         return replace(
             task,
-            start=begun if entry.normal else ended,
+            start=begun if entry.minutes else ended,
             finish=ended,
             deadline_slack_minutes=deadline_slack(calendar, task.deadline, ended),
-            chosen_minutes=lasted,
+            chosen_minutes=in_plan_days(side, entry, lasted),
             total_float_minutes=0,
             is_critical=False,
         )
-    done = max(0, entry.minutes - task.normal_left_minutes)
+    done = max(0, normal - task.normal_left_minutes)
     return replace(
         task,
         start=begun,
@@ -126,6 +121,10 @@ def schedule_of(work: Work, point: results.Point) -> Schedule:
     if cost != point.cost or builder.total_cost() != point.cost:
         raise ProgramError(f"the costs of the schedule for {point.length} do not add up")
     project, side = work.deck.project, work.side
+    tasks, end = builder.tasks(), builder.end(point.length).date()
+    real = None if side.logic is None else RealDates(side, point.durations)
+    if real is not None:
+        tasks = tuple(real.of(task, entry) for task, entry in zip(tasks, side.tasks))
     return Schedule(
         title=project.title,
         code=project.code,
@@ -133,12 +132,14 @@ def schedule_of(work: Work, point: results.Point) -> Schedule:
         unit_minutes=side.unit_minutes,
         day_minutes=side.calendar.day_minutes,
         start=side.start,
-        end=builder.end(point.length).date(),
+        end=end if real is None else real.end,
         cost=point.cost,
         next_step=next_step(work, point.length),
-        tasks=builder.tasks(),
+        tasks=tasks,
         currency=side.currency,
         money_scale=side.money_scale,
+        counted_end=None if real is None else end,
+        calendars=calendars_text(side),
     )
 
 
@@ -171,8 +172,19 @@ def normal_dates(work: Work) -> tuple[TaskDates, ...]:
     forecast compares with a baseline.
     """
     point = work.normal
+    if work.side.logic is not None:
+        return _real_dates(work.side, point)
     cards = {card.code: card for card in work.network.activities}
     return tuple(_dates(work, task, cards, point) for task in work.side.tasks)
+
+
+def _real_dates(side: SideFile, point: results.Point) -> tuple[TaskDates, ...]:
+    """Returns the dates of the tasks of a plan that has a logic."""
+    early = RealDates(side, point.durations).passes.early
+    return tuple(
+        TaskDates(task.code, early[task.code].start, early[task.code].finish, task.minutes == 0)
+        for task in side.tasks
+    )
 
 
 def _dates(

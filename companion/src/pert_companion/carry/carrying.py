@@ -7,6 +7,13 @@ from pert_companion.carry import loads, outline, units
 from pert_companion.carry.arrows import network_of
 from pert_companion.carry.codes import Codes, one_line, shortened, task_codes, title
 from pert_companion.carry.kept import constraint_notes, side_file, side_losses
+from pert_companion.carry.logic import (
+    elapsed_ties,
+    has_logic,
+    logic_from,
+    with_days_of_own,
+    with_lags,
+)
 from pert_companion.carry.model import Node
 from pert_companion.carry.moments import resolve
 from pert_companion.carry.money import Money, accounts, charges
@@ -19,6 +26,8 @@ from pert_companion.model.cards import ProjectCard, TermsCard
 from pert_companion.model.deck import Deck
 from pert_companion.model.errors import InputError
 from pert_companion.model.fitting import fitted_to
+from pert_companion.model.logic import CLOCK, CLOCK_NAME, Lasting, Logic, OwnTime, Spans
+from pert_companion.model.logic import first_moment
 from pert_companion.model.losses import Loss, LossKind
 from pert_companion.model.plan import Plan, Task
 from pert_companion.model.sidefile import SideFile
@@ -61,21 +70,41 @@ class Carried:
     notes: tuple[str, ...]
 
 
-def carry(plan: Plan, options: CarryOptions = CarryOptions(), deck_name: str = "") -> Carried:
+def carry(
+    plan: Plan,
+    options: CarryOptions = CarryOptions(),
+    deck_name: str = "",
+    spans: Spans = Spans(),
+) -> Carried:
     """Returns the deck and the side file of a plan, with what is lost.
 
-    `deck_name` is the name of the deck's file for the side file. Raises `InputError` if the plan
-    has no task, links in a circle, progress without a data date, or more than a deck can have.
+    `deck_name` is the name of the deck's file for the side file. `spans` says when the tasks of a
+    plan with a logic are done; without them each task is counted from the first day. Raises
+    `InputError` if the plan has no task, links in a circle, progress without a data date, or more
+    than a deck can have.
     """
     _check_days(plan)
-    return _Carrier(plan, options).carried(deck_name)
+    return _Carrier(plan, options, spans).carried(deck_name)
+
+
+def logic_of(
+    plan: Plan, options: CarryOptions = CarryOptions()
+) -> tuple[Logic, list[Lasting]] | None:
+    """Returns the logic of a plan, and how long its tasks take; None if it has none.
+
+    Errors are those of `carry`.
+    """
+    _check_days(plan)
+    return _Carrier(plan, options, Spans()).logic_with_tasks()
 
 
 class _Carrier:
     """Takes the steps from a plan to its deck; each adds its losses and notes."""
 
-    def __init__(self, plan: Plan, options: CarryOptions) -> None:
+    def __init__(self, plan: Plan, options: CarryOptions, spans: Spans) -> None:
         self.options = options
+        self.spans = spans
+        self.logic: Logic | None = None
         self.losses: list[Loss] = []
         self.notes: list[str] = []
         self.plan = plan = self._since_the_start(_with_contract(plan, options.terms))
@@ -89,6 +118,13 @@ class _Carrier:
         self.unit_minutes = plan.calendar.day_minutes
         self.unit_name = "days"
 
+    def logic_with_tasks(self) -> tuple[Logic, list[Lasting]] | None:
+        """Returns the logic and how long tasks take; None if units of one calendar say it all."""
+        self._add_ties()
+        if not has_logic(self.all_nodes):
+            return None
+        return logic_from(self.plan, self.all_nodes), [_lasting(node) for node in self.all_nodes]
+
     def carried(self, deck_name: str) -> Carried:
         """Returns the deck, the side file and the losses."""
         self._tie()
@@ -101,7 +137,7 @@ class _Carrier:
         data = deck.to_bytes()
         side = side_file(self.plan, self.nodes, network, self.outline.groups, self.unit_minutes)
         side = replace(side, deck_name=deck_name, money_scale=self.money.scale)
-        side = replace(side, terms=self.options.terms)
+        side = replace(side, terms=self.options.terms, logic=self.logic)
         side = fitted_to(side, deck)
         self.notes += constraint_notes(self.plan, self.nodes)
         kept = side_losses(self.plan)
@@ -131,13 +167,26 @@ class _Carrier:
                 raise InputError(f"{task.where}: a second task has the id {task.uid!r}")
             item = self.outline.item_of[task.parent]
             name = one_line(task.name)
-            nodes[task.uid] = Node(found[task.uid], item, name, task.where, task.minutes, task)
-            if task.calendar is not None and task.calendar != self.plan.calendar.name:
-                why = f"the deck has one calendar, {self.plan.calendar.name!r}, which is used"
-                self._lose(LossKind.CALENDAR, task, "calendar", task.calendar, why)
+            code = found[task.uid]
+            own = self._own_time(task, code)
+            nodes[task.uid] = Node(code, item, name, task.where, task.minutes, task, own)
         return nodes
 
-    def _tie(self) -> None:
+    def _own_time(self, task: Task, code: str) -> OwnTime | None:
+        """Returns the time of a task with a calendar of its own; one that is not there is lost."""
+        plan = self.plan
+        if task.calendar is None or task.calendar == plan.calendar.name:
+            return None
+        known = {CLOCK_NAME: CLOCK, **{calendar.name: calendar for calendar in plan.calendars}}
+        calendar = known.get(task.calendar)
+        if calendar is None:
+            why = f"the calendar {plan.calendar.name!r} of the plan is used"
+            self._lose(LossKind.CALENDAR, task, "calendar", task.calendar, why)
+            return None
+        start = self.spans.starts.get(code) or first_moment(plan.calendar, plan.start)
+        return OwnTime(plan.calendar, calendar, start)
+
+    def _add_ties(self) -> None:
         """Adds the ties of links and constraints, and puts all nodes into their order."""
         plan = self.plan
         items = {group.uid: group.code for group in self.outline.groups}
@@ -147,13 +196,25 @@ class _Carrier:
         self.losses += ties.losses
         ends = ties.milestones
         self.all_nodes += [ends[group.uid] for group in plan.groups() if group.uid in ends]
+        with_days_of_own(self.all_nodes, plan.start)
         for place, node in enumerate(self.all_nodes):
             node.place = place
         self.order = in_order(self.all_nodes)
+
+    def _tie(self) -> None:
+        """Adds the ties, and gives each its lag in working time of the plan's calendar."""
+        plan = self.plan
+        self._add_ties()
+        if has_logic(self.all_nodes):
+            self.logic = logic_from(plan, self.all_nodes)
+        for node in self.all_nodes:
+            node.minutes = node.plan_minutes(node.minutes)
+        elapsed = elapsed_ties(self.all_nodes)
+        with_lags(self.all_nodes, self.spans.lags)
         origin = plan.calendar.position(plan.calendar.morning(plan.start))
-        elapsed = find_early_dates(self.order, plan.calendar, origin)
+        find_early_dates(self.order, plan.calendar, origin)
         if elapsed:
-            number = "1 elapsed lag is" if len(elapsed) == 1 else f"{len(elapsed)} elapsed lags are"
+            number = "1 elapsed lag is" if elapsed == 1 else f"{elapsed} elapsed lags are"
             self.notes.append(f"{number} counted in the working time of its normal dates")
 
     def _set_numbers(self) -> None:
@@ -246,6 +307,10 @@ class _Carrier:
 
     def _lose(self, kind: LossKind, task: Task, name: str, text: str, why: str) -> None:
         self.losses.append(Loss(kind, task.where, task.name, name, text, why))
+
+
+def _lasting(node: Node) -> Lasting:
+    return Lasting(node.code, node.minutes, "" if node.own is None else node.own.calendar.name)
 
 
 def _with_contract(plan: Plan, terms: Terms) -> Plan:

@@ -12,7 +12,7 @@ from pert_companion.carry.ties import effective_constraint
 from pert_companion.model.calendar import Calendar
 from pert_companion.model.losses import Loss, LossKind
 from pert_companion.model.plan import Constraint, ConstraintKind, Plan, Task
-from pert_companion.model.sidefile import SideFile, SideGroup, SideTask
+from pert_companion.model.sidefile import SideFile, SideGroup, SideOwn, SideTask
 
 _NO_LATER_START = (ConstraintKind.START_NO_LATER, ConstraintKind.MUST_START)
 _NO_LATER_FINISH = (ConstraintKind.FINISH_NO_LATER, ConstraintKind.MUST_FINISH)
@@ -60,7 +60,7 @@ class _SideTasks:
         """Returns the entry of a task."""
         made = self._network.of[node]
         names = [one_line(name) for name in path_of(task, self._groups)]
-        progress = task.progress
+        progress, own = task.progress, node.own
         return SideTask(
             code=node.code,
             uid=task.uid,
@@ -81,6 +81,7 @@ class _SideTasks:
             constraint=task.constraint,
             deadline=task.deadline,
             baselines=task.baselines,
+            own=None if own is None else SideOwn(own.calendar.name, own.start),
         )
 
 
@@ -106,7 +107,8 @@ def constraint_notes(plan: Plan, nodes: Mapping[str, Node]) -> list[str]:
     notes = []
     last = plan.start
     for task in plan.tasks():
-        dates = _Dates(plan.calendar, task, origin + nodes[task.uid].early)
+        node = nodes[task.uid]
+        dates = _Dates(plan.calendar, task, origin + node.early, node.minutes)
         last = max(last, dates.last_day())
         why = dates.broken()
         if why:
@@ -165,6 +167,8 @@ class _Dates:
     calendar: Calendar
     task: Task
     start: int
+    minutes: int
+    """The working minutes of the plan's calendar that it takes."""
 
     def broken(self) -> str:
         """Returns how the early dates break the constraint of the task; empty if they hold it."""
@@ -183,6 +187,6 @@ class _Dates:
 
     def last_day(self) -> date:
         """Returns the last day of work; of a milestone the day of its moment."""
-        if self.task.minutes == 0:
+        if self.minutes == 0:
             return self.calendar.at(self.start).date()
-        return self.calendar.end_at(self.start + self.task.minutes).date()
+        return self.calendar.end_at(self.start + self.minutes).date()

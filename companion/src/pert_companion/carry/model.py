@@ -1,8 +1,10 @@
 """The tasks of a plan on their way to cards: each with the ties of its start and of its finish."""
 
 from dataclasses import dataclass, field
+from datetime import date
 from enum import Enum
 
+from pert_companion.model.logic import OwnTime
 from pert_companion.model.plan import Link, Task
 
 
@@ -27,6 +29,10 @@ class Tie:
     """Whether the lag is still in minutes by the clock."""
     link: Link | None = None
     """The link of the source; None for a constraint."""
+    calendar: str = ""
+    """The name of the calendar by which the lag runs; empty for the plan's."""
+    day: date | None = None
+    """The day of the calendar that it waits for; None for a link."""
 
 
 @dataclass(eq=False)
@@ -39,9 +45,11 @@ class Node:
     name: str
     where: str
     minutes: int
-    """The normal duration in working minutes, as the source has it."""
+    """The normal duration in working minutes of the plan's calendar."""
     task: Task | None = None
     """The task of the plan; None for the end of a group."""
+    own: OwnTime | None = None
+    """The time of a task that has a calendar of its own."""
     normal: int = 0
     crash: int = 0
     estimates: tuple[int, int, int] = (0, 0, 0)
@@ -64,6 +72,10 @@ class Node:
     """Its earliest start at normal durations, in working minutes after the start of the project."""
     latest_early: int = 0
     """The same in units: at shorter durations it can start by then too."""
+
+    def plan_minutes(self, minutes: int) -> int:
+        """Returns so many working minutes of the task as minutes of the plan's calendar."""
+        return minutes if self.own is None else self.own.span(minutes)
 
     @property
     def is_fixed(self) -> bool:

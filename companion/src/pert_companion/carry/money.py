@@ -50,7 +50,8 @@ class Money:
         if not 0 <= task.crash.minutes <= task.minutes:
             self._refuse_crash(task, "it is longer than the normal duration")
             return
-        crash = rounding.units(task.crash.minutes, node.where, node.name, "crash")
+        shortest = node.plan_minutes(task.crash.minutes)
+        crash = rounding.units(shortest, node.where, node.name, "crash")
         slope = self._slope(task, node, crash, calendar, rounding.unit_minutes)
         if slope is not None:
             node.crash, node.slope = crash, slope
@@ -63,7 +64,7 @@ class Money:
         assert given is not None
         if crash == node.normal:
             return 0
-        exact = _exact_slope(given, task, node.normal - crash, calendar, unit_minutes)
+        exact = _exact_slope(given, node, node.normal - crash, calendar, unit_minutes)
         if exact is None:
             self._refuse_crash(task, "nothing says what shortening costs")
             return None
@@ -92,9 +93,17 @@ class Money:
 
 
 def _exact_slope(
-    crash: Crash, task: Task, units: int, calendar: Calendar, unit_minutes: int
+    crash: Crash, node: Node, units: int, calendar: Calendar, unit_minutes: int
 ) -> Fraction | None:
-    """Returns the cost of one unit less in the plan's currency."""
+    """Returns the cost of one unit less in the plan's currency.
+
+    A task with a calendar of its own has as much of its own time to gain as these units are.
+    """
+    task = node.task
+    assert task is not None
+    if crash.slope is not None and node.own is not None:
+        days = Fraction(task.minutes - crash.minutes, node.own.calendar.day_minutes)
+        return Fraction(crash.slope) * days / units
     if crash.slope is not None:
         return Fraction(crash.slope) * unit_minutes / calendar.day_minutes
     if crash.cost is not None:

@@ -32,22 +32,19 @@ def in_order(nodes: Sequence[Node]) -> list[Node]:
     return order
 
 
-def find_early_dates(order: Sequence[Node], calendar: Calendar, origin: int) -> list[Tie]:
+def find_early_dates(order: Sequence[Node], calendar: Calendar, origin: int) -> None:
     """Gives each node its early start, and each elapsed lag the working minutes that it is then.
 
-    `origin` is the position of the project's start. Returns the ties whose lags were elapsed.
+    `origin` is the position of the project's start.
     """
-    changed: list[Tie] = []
     for node in order:
         for tie in node.starts + node.finishes:
             if tie.elapsed:
                 tie.lag = _working_lag(tie, calendar, origin)
                 tie.elapsed = False
-                changed.append(tie)
         bounds = [source_of(tie) + tie.lag for tie in node.starts]
         bounds.extend(source_of(tie) + tie.lag - node.minutes for tie in node.finishes)
         node.early = max([0, *bounds])
-    return changed
 
 
 def source_of(tie: Tie) -> int:

@@ -10,7 +10,7 @@ data date as work has been done since, so that what remains is what the source s
 
 import math
 from collections.abc import Mapping, Sequence
-from dataclasses import dataclass
+from dataclasses import dataclass, replace
 from datetime import date, datetime, timedelta
 from decimal import Decimal
 from fractions import Fraction
@@ -119,7 +119,7 @@ class Statuses:
             if node.task is None or done.started is None or done.finished is not None:
                 continue
             passed = calendar.between(_midnight(done.started), _midnight(as_of))
-            left = max(0, node.task.minutes - passed)
+            left = max(0, node.minutes - passed)
             if done.remaining is not None and done.remaining != left:
                 found.append((node.task, done.remaining))
         return found
@@ -132,12 +132,19 @@ class Statuses:
         if node.is_milestone and finished is not None:
             finished = self._moment(node, finished)
             return Done(finished, finished, 0)
-        remaining = remaining_minutes(task)
+        remaining = self._minutes_left(node, task)
         return Done(
             started,
             None if finished is None else morning_after(finished),
             0 if finished is not None else remaining,
         )
+
+    def _minutes_left(self, node: Node, task: Task) -> int:
+        """Returns the plan's working minutes from the data date in which what is left is done."""
+        minutes = remaining_minutes(task)
+        if node.own is None:
+            return minutes
+        return replace(node.own, start=_midnight(self._times.as_of)).span(minutes)
 
     def _group_end(self, node: Node) -> Done:
         """Returns what is done of the end of a group: it is reached when all its ends are."""

@@ -6,6 +6,7 @@ from the end of a group is one from its last task, or from a milestone after its
 
 import math
 from collections.abc import Mapping
+from datetime import date
 
 from pert_companion.carry.codes import Codes
 from pert_companion.carry.model import End, Node, Tie
@@ -15,6 +16,7 @@ from pert_companion.model.plan import (
     ConstraintKind,
     Group,
     Lag,
+    LagCalendar,
     Link,
     Plan,
     Task,
@@ -62,10 +64,10 @@ class Ties:
                 continue
             if constraint.kind in _START_KINDS:
                 wait = calendar.position(calendar.morning(constraint.day)) - origin
-                node.starts += _first_day_ties(wait)
+                node.starts += _first_day_ties(wait, constraint.day, node)
             elif constraint.kind in _FINISH_KINDS:
                 wait = calendar.position(calendar.evening(constraint.day)) - origin
-                node.finishes += _first_day_ties(wait)
+                node.finishes += _first_day_ties(wait, constraint.day, node)
 
     def _is_known(self, link: Link) -> bool:
         for uid in (link.predecessor, link.successor):
@@ -95,10 +97,19 @@ class Ties:
             self._lose(link, f"it ties the {end} of a group, which is not that of one task")
             return
         for source in sources:
-            tie = Tie(source, End(link.kind.value[0]), *self._lag(link, source), link=link)
+            lag, elapsed = self._lag(link, source)
             for target in targets:
                 ties = target.starts if link.kind.value[1] == "S" else target.finishes
-                ties.append(Tie(tie.before, tie.end, tie.lag, tie.elapsed, link))
+                calendar = self._lag_calendar(source, target)
+                ties.append(Tie(source, End(link.kind.value[0]), lag, elapsed, link, calendar))
+
+    def _lag_calendar(self, source: Node, target: Node) -> str:
+        """Returns the name of the calendar by which a lag between two tasks runs."""
+        kind = self._plan.lag_calendar
+        if kind is LagCalendar.PLAN:
+            return ""
+        node = source if kind is LagCalendar.PREDECESSOR else target
+        return "" if node.own is None else node.own.calendar.name
 
     def _lag(self, link: Link, source: Node) -> tuple[int, bool]:
         """Returns a lag in minutes, and whether they are elapsed ones."""
@@ -169,8 +180,11 @@ def _shown(link: Link) -> str:
     return f"{link.predecessor}{link.kind.value}"
 
 
-def _first_day_ties(wait: int) -> list[Tie]:
-    return [Tie(None, End.START, wait)] if wait > 0 else []
+def _first_day_ties(wait: int, day: date, node: Node) -> list[Tie]:
+    """Returns the tie to a day; a task with a calendar of its own may wait within free days."""
+    if wait <= 0 and node.own is None:
+        return []
+    return [Tie(None, End.START, max(0, wait), day=day)]
 
 
 def _tasks_inside(plan: Plan, nodes: Mapping[str, Node]) -> dict[str, list[Node]]:

@@ -8,7 +8,7 @@ from pert_companion.carry.model import Node, Tie
 from pert_companion.model.calendar import Calendar
 from pert_companion.model.errors import UsageError
 from pert_companion.model.losses import Loss, LossKind
-from pert_companion.model.plan import Task
+from pert_companion.model.plan import Estimates, Task
 
 MAX_UNITS = 100_000
 """The longest duration of a deck, in units."""
@@ -45,10 +45,16 @@ def _times(nodes: Iterable[Node]) -> Iterable[int]:
             yield abs(tie.lag)
         task = node.task
         if task is not None and task.crash is not None:
-            yield task.crash.minutes
+            yield node.plan_minutes(task.crash.minutes)
         if task is not None and task.estimates is not None:
-            yield from (task.estimates.optimistic, task.estimates.likely)
-            yield task.estimates.pessimistic
+            yield from _estimates(node, task.estimates)
+
+
+def _estimates(node: Node, given: Estimates) -> tuple[int, int, int]:
+    """Returns the three estimates of a task in minutes of the plan's calendar."""
+    minutes = (given.optimistic, given.likely, given.pessimistic)
+    optimistic, likely, pessimistic = map(node.plan_minutes, minutes)
+    return optimistic, likely, pessimistic
 
 
 def unit_name(minutes: int, calendar: Calendar) -> str:
@@ -92,11 +98,11 @@ class Rounding:
             node.estimates = self._estimates(node, node.task)
 
     def _estimates(self, node: Node, task: Task) -> tuple[int, int, int]:
-        given = task.estimates
-        assert given is not None
-        optimistic = self.units(given.optimistic, node.where, node.name, "optimistic")
-        likely = self.units(given.likely, node.where, node.name, "likely")
-        pessimistic = self.units(given.pessimistic, node.where, node.name, "pessimistic")
+        assert task.estimates is not None
+        given = _estimates(node, task.estimates)
+        optimistic = self.units(given[0], node.where, node.name, "optimistic")
+        likely = self.units(given[1], node.where, node.name, "likely")
+        pessimistic = self.units(given[2], node.where, node.name, "pessimistic")
         if not optimistic <= likely <= pessimistic:
             text = f"{optimistic} {likely} {pessimistic}"
             why = f"the estimates are not in order; {node.normal} is taken three times"

@@ -5,8 +5,10 @@ from dataclasses import dataclass, replace
 from pathlib import Path
 
 from pert_companion import readers
+from pert_companion.analysis.passes import spans
+from pert_companion.analysis.real_dates import calendars_text
 from pert_companion.analysis.scheduling import normal_dates, normal_schedule
-from pert_companion.carry import Carried, CarryOptions, carry
+from pert_companion.carry import Carried, CarryOptions, carry, logic_of
 from pert_companion.carry.charges import with_ledger
 from pert_companion.carry.packages import with_effort
 from pert_companion.carry.units import unit_name
@@ -81,7 +83,7 @@ def import_plan(
         plan = replace(plan, source=found)
     plan, crash_losses = _with_crash(plan, crash)
     try:
-        carried = carry(plan, carrying, "" if deck is None else deck.name)
+        carried = carried_by_dates(plan, carrying, "" if deck is None else deck.name)
     except InputError as error:
         raise _named(error, source) from None
     side = replace(carried.side, source_name=source.path.name)
@@ -90,6 +92,21 @@ def import_plan(
     if deck is None:
         losses += carried.side_losses
     return Imported(source, found, plan, carried, tuple(dict.fromkeys(losses)))
+
+
+def carried_by_dates(
+    plan: Plan, options: CarryOptions = CarryOptions(), deck_name: str = ""
+) -> Carried:
+    """Returns the deck of a plan in which each task lasts what it spans at its normal dates.
+
+    Errors are those of `carry`.
+    """
+    logic = logic_of(plan, options)
+    if logic is None:
+        return carry(plan, options, deck_name)
+    carried = carry(plan, options, deck_name, spans(plan.calendar, *logic))
+    text = calendars_text(carried.side)
+    return replace(carried, notes=(*carried.notes, text)) if text else carried
 
 
 def _with_tables(carried: Carried, path: Path | None) -> Carried:

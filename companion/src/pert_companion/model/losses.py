@@ -47,7 +47,7 @@ MEANINGS: dict[LossKind, str] = {
     LossKind.PROGRESS: "progress without a date, or with one outside of the project so far",
     LossKind.DATE: "a date that cannot be read",
     LossKind.RESOURCE: "a resource or a quantity of one that is left out",
-    LossKind.CALENDAR: "a calendar, or a part of one, that is not the plan's",
+    LossKind.CALENDAR: "a calendar, or a part of one, that is not followed",
     LossKind.LOE: "a task whose duration follows from other tasks (level of effort)",
     LossKind.TITLE: "a title of more than 80 bytes that no side file keeps",
     LossKind.CODE: "a code that an earlier task has",

@@ -8,7 +8,7 @@ Friday has Friday's date.
 
 from collections.abc import Iterator
 from dataclasses import dataclass, field
-from datetime import date
+from datetime import date, datetime
 from decimal import Decimal
 from enum import Enum
 from fractions import Fraction
@@ -149,7 +149,8 @@ class Task:
     manual: bool = False
     """A manually scheduled task: its listed dates are its dates."""
     calendar: str | None = None
-    """The name of the task's own calendar, if it differs from the plan's."""
+    """The name of the task's own calendar, if it differs from the plan's: times of the task are
+    minutes of its work. `logic.CLOCK_NAME` is that of durations by the clock."""
 
     @property
     def is_milestone(self) -> bool:
@@ -168,6 +169,14 @@ class Group:
     code: str = ""
     """The source's outline or WBS code, or an empty text."""
     row: int | None = None
+
+
+class LagCalendar(Enum):
+    """By which calendar lags in working time run."""
+
+    PLAN = "plan"
+    PREDECESSOR = "predecessor"
+    SUCCESSOR = "successor"
 
 
 class ResourceKind(Enum):
@@ -219,6 +228,11 @@ class Plan:
     currency: str = ""
     source: str = ""
     """The format that the plan came from: `xlsx`, `mspdi`, `xer`, .."""
+    calendars: tuple[Calendar, ...] = ()
+    """The calendars of tasks besides that of the plan; their names differ."""
+    lag_calendar: LagCalendar = LagCalendar.PLAN
+    begin: datetime | None = None
+    """The moment of the first day from which work may begin, if the source has one."""
     notes: tuple[str, ...] = field(default=(), compare=False)
     """What the reader assumed, one line each (decimal mark, order of day and month, first day)."""
 

@@ -7,15 +7,17 @@ strictly when it is read: each value has its type and bounds, and no key is unkn
 import json
 from collections.abc import Mapping
 from dataclasses import dataclass, replace
-from datetime import date, timedelta
+from datetime import date, datetime, timedelta
 from decimal import Decimal
 from pathlib import Path
 from typing import Any
 
 from pert_companion.model import strict
-from pert_companion.model.calendar import Calendar, CalendarException
+from pert_companion.model.calendar import Calendar
 from pert_companion.model.errors import InputError
 from pert_companion.model.lines import readable
+from pert_companion.model.logic import Logic, OwnTime
+from pert_companion.model.logic_json import calendar_json, logic_json, read_calendar, read_logic
 from pert_companion.model.losses import Loss, LossKind
 from pert_companion.model.plan import Baseline, Constraint, ConstraintKind
 from pert_companion.model.terms import NO_TERMS, Terms
@@ -28,6 +30,16 @@ MAX_BYTES = 64 * 1024 * 1024
 """A longer side file is not read."""
 MAX_MINUTES = 10**12
 """The longest time that a side file can state, in minutes: two million years."""
+
+
+@dataclass(frozen=True)
+class SideOwn:
+    """The calendar of a task that is not the plan's."""
+
+    calendar: str
+    """Its name among the calendars of the logic."""
+    start: datetime
+    """The moment from which the units of the deck count its work."""
 
 
 @dataclass(frozen=True)
@@ -50,7 +62,7 @@ class SideTask:
     normal: int = 0
     """The normal duration in units of the deck."""
     minutes: int = 0
-    """The normal duration in working minutes, as the source has it."""
+    """The normal duration in working minutes of its own calendar, as the source has it."""
     percent: Decimal | None = None
     remaining: int | None = None
     """The remaining duration in working minutes."""
@@ -62,6 +74,7 @@ class SideTask:
     constraint: Constraint | None = None
     deadline: date | None = None
     baselines: tuple[Baseline, ...] = ()
+    own: SideOwn | None = None
 
 
 @dataclass(frozen=True)
@@ -104,6 +117,20 @@ class SideFile:
     """What time costs, as it was said when the plan was imported."""
     accepted: tuple[Loss, ...] = ()
     """What is not carried over from the source, as the user accepted it."""
+    logic: Logic | None = None
+    """The calendars and links of the source, if a deck says them only in part."""
+
+    def calendar_of(self, task: SideTask) -> Calendar:
+        """Returns the calendar by which a task is done."""
+        if task.own is None or self.logic is None:
+            return self.calendar
+        return self.logic.by_name[task.own.calendar]
+
+    def own_time(self, task: SideTask) -> OwnTime | None:
+        """Returns the time of a task with a calendar of its own; None for others."""
+        if task.own is None:
+            return None
+        return OwnTime(self.calendar, self.calendar_of(task), task.own.start)
 
 
 def side_path(deck: Path) -> Path:
@@ -150,7 +177,7 @@ def to_json(side: SideFile) -> bytes:
         "money_scale": side.money_scale,
         "source": side.source,
         "source_name": readable(side.source_name),
-        "calendar": _calendar_json(side.calendar),
+        "calendar": calendar_json(side.calendar),
         "groups": [_group_json(group) for group in side.groups],
         "tasks": [_task_json(task) for task in side.tasks],
         "waits": list(side.waits),
@@ -158,6 +185,8 @@ def to_json(side: SideFile) -> bytes:
     }
     if side.terms != NO_TERMS:
         content["terms"] = _terms_json(side.terms)
+    if side.logic is not None:
+        content.update(logic_json(side.logic))
     if side.accepted:
         content["accepted"] = [_loss_json(loss) for loss in side.accepted]
     lines = []
@@ -180,27 +209,6 @@ def _day_text(day: date | None) -> str | None:
 
 def _decimal_text(value: Decimal | None) -> str | None:
     return None if value is None else f"{value:f}"
-
-
-def _calendar_json(calendar: Calendar) -> dict[str, Any]:
-    exceptions = []
-    for exception in calendar.exceptions:
-        exceptions.append(
-            {
-                "first": exception.first.isoformat(),
-                "last": exception.last.isoformat(),
-                "name": exception.name,
-                "shifts": exception.shifts,
-            }
-        )
-    return {
-        "name": calendar.name,
-        "day_minutes": calendar.day_minutes,
-        "week_minutes": calendar.week_minutes,
-        "month_days": calendar.month_days,
-        "week": calendar.week,
-        "exceptions": exceptions,
-    }
 
 
 def _terms_json(terms: Terms) -> dict[str, Any]:
@@ -252,6 +260,9 @@ def _task_json(task: SideTask) -> dict[str, Any]:
             "kind": task.constraint.kind.value,
             "day": _day_text(task.constraint.day),
         }
+    if task.own is not None:
+        start = task.own.start.isoformat(timespec="minutes")
+        content["own"] = {"calendar": task.own.calendar, "start": start}
     if task.baselines:
         content["baselines"] = [_baseline_json(baseline) for baseline in task.baselines]
     return content
@@ -284,7 +295,7 @@ def from_json(data: bytes, name: str) -> SideFile:
         deck_sha256=fields.text("sha256") if version == 1 else "",
         deck_name=fields.text("deck"),
         start=fields.day("start"),
-        calendar=_calendar(fields.inner("calendar")),
+        calendar=read_calendar(fields.inner("calendar")),
         unit_minutes=fields.integer("unit_minutes", 1, 7 * 24 * 60),
         tasks=tuple(_task(entry) for entry in fields.entries("tasks")),
         groups=tuple(_group(entry) for entry in fields.entries("groups")),
@@ -298,34 +309,12 @@ def from_json(data: bytes, name: str) -> SideFile:
         cards=None if version == 1 else fields.mapping("cards"),
         terms=_terms(fields),
         accepted=_accepted(fields),
+        logic=read_logic(fields),
     )
     fields.end()
     _check_codes(side, name)
+    _check_logic(side, name)
     return side
-
-
-def _calendar(fields: strict.Fields) -> Calendar:
-    exceptions = []
-    for entry in fields.entries("exceptions"):
-        exceptions.append(
-            CalendarException(
-                first=entry.day("first"),
-                last=entry.day("last"),
-                name=entry.text("name"),
-                shifts=entry.pairs("shifts"),
-            )
-        )
-        entry.end()
-    name = fields.text("name")
-    week = fields.lists_of_pairs("week")
-    day_minutes = fields.integer("day_minutes", 1, 24 * 60)
-    week_minutes = fields.integer("week_minutes", 1, 7 * 24 * 60)
-    month_days = fields.integer("month_days", 1, 31)
-    fields.end()
-    try:
-        return Calendar(name, week, tuple(exceptions), day_minutes, week_minutes, month_days)
-    except InputError as error:
-        raise fields.fault(str(error)) from None
 
 
 def _terms(fields: strict.Fields) -> Terms:
@@ -404,11 +393,21 @@ def _task(fields: strict.Fields) -> SideTask:
         constraint=_constraint(fields),
         deadline=fields.optional_day("deadline"),
         baselines=_baselines(fields),
+        own=_own(fields),
     )
     fields.end()
     if not task.parts or task.parts[0] != task.code:
         raise fields.fault("the first of its parts is not its code")
     return task
+
+
+def _own(fields: strict.Fields) -> SideOwn | None:
+    if not fields.has("own"):
+        return None
+    entry = fields.inner("own")
+    own = SideOwn(entry.text("calendar"), entry.moment("start"))
+    entry.end()
+    return own
 
 
 def _constraint(fields: strict.Fields) -> Constraint | None:
@@ -450,6 +449,21 @@ def _check_codes(side: SideFile, name: str) -> None:
     for code, count in _counted([group.code for group in side.groups]).items():
         if count > 1:
             raise InputError(f"{name}: two groups have the code {code[:40]!r}")
+
+
+def _check_logic(side: SideFile, name: str) -> None:
+    """Raises `InputError` if tasks have calendars that are not there, or links name no task."""
+    own = {task.own.calendar for task in side.tasks if task.own is not None}
+    known = set() if side.logic is None else set(side.logic.by_name)
+    for calendar in sorted(own - known):
+        raise InputError(f"{name}: there is no calendar {calendar[:40]!r}")
+    if side.logic is None:
+        return
+    codes = set(card_codes(side))
+    for tie in side.logic.ties:
+        for code in (tie.task, tie.before or tie.task):
+            if code not in codes:
+                raise InputError(f"{name}: a link names {code[:40]!r}, no task")
 
 
 def card_codes(side: SideFile) -> list[str]:

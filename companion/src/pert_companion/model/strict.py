@@ -2,7 +2,7 @@
 
 import json
 import re
-from datetime import date
+from datetime import date, datetime
 from decimal import Decimal
 from typing import Any
 
@@ -15,6 +15,7 @@ LAST_YEAR = 2199
 """The years that a deck can name."""
 
 _DAY = re.compile(r"[0-9]{4}-[0-9]{2}-[0-9]{2}")
+_MOMENT = re.compile(r"[0-9]{4}-[0-9]{2}-[0-9]{2}T[0-9]{2}:[0-9]{2}")
 _SURROGATE = re.compile("[\ud800-\udfff]")
 _DECIMAL = re.compile(r"-?[0-9]{1,20}(?:\.[0-9]{1,10})?")
 
@@ -142,6 +143,17 @@ class Fields:
     def optional_day(self, field: str) -> date | None:
         """Returns a date, or None for null or an absent field."""
         return self.day(field) if self.has(field) else None
+
+    def moment(self, field: str) -> datetime:
+        """Returns a moment of the years of decks that is written as YYYY-MM-DDThh:mm."""
+        text = self.text(field)
+        try:
+            moment = datetime.fromisoformat(text) if _MOMENT.fullmatch(text) else None
+        except ValueError:
+            moment = None
+        if moment is None or not FIRST_YEAR <= moment.year <= LAST_YEAR:
+            raise self.fault(f"{text[:40]!r} is no moment", field)
+        return moment
 
     def optional_decimal(self, field: str) -> Decimal | None:
         """Returns a decimal number that is written as a text, or None."""

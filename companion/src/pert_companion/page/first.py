@@ -5,6 +5,7 @@ from dataclasses import dataclass
 
 from pert_companion.analysis.options import Reason
 from pert_companion.analysis.plausibility import DoubtKind, doubts
+from pert_companion.analysis.real_dates import calendars_text
 from pert_companion.analysis.sureness import percent_text
 from pert_companion.model.losses import accepted_text
 from pert_companion.page.decision import decision_sentence, option_for
@@ -208,6 +209,9 @@ def alerts(gathered: Gathered) -> Iterator[Alert]:
         text = (*plain("Not carried over from "), *title(shown(side.source_name)))
         text = (*text, *plain(f", as accepted: {accepted_text(side.accepted)}"))
         yield Alert("schedule", text)
+    calendars = calendars_text(side)
+    if calendars:
+        yield Alert("schedule", title(shown(calendars)))
     yield from doubt_alerts(gathered)
 
 

@@ -2,7 +2,7 @@
 
 from collections.abc import Callable, Iterator, Mapping
 from dataclasses import replace
-from datetime import date
+from datetime import date, datetime
 from decimal import Decimal
 from fractions import Fraction
 
@@ -14,6 +14,7 @@ from pert_companion.model.plan import (
     Assignment,
     Group,
     Lag,
+    LagCalendar,
     Link,
     LinkKind,
     Plan,
@@ -34,7 +35,6 @@ from pert_companion.readers import fields, mspdi_calendars
 from pert_companion.readers.base import ReaderOptions, Reading
 from pert_companion.readers.fields import NamedPlace, TextReader
 from pert_companion.readers.grid import MOST_ROWS, clip
-from pert_companion.readers.mspdi_calendars import differs
 from pert_companion.readers.mspdi_tasks import (
     CONSTRAINTS,
     ELAPSED,
@@ -44,6 +44,7 @@ from pert_companion.readers.mspdi_tasks import (
     length,
     title,
 )
+from pert_companion.readers.own_calendars import differs
 from pert_companion.readers.values import Unreadable
 
 NAMESPACE = "http://schemas.microsoft.com/project"
@@ -143,6 +144,9 @@ class _Reader:
             data_date=self.options.data_date or self.day_of_project("StatusDate"),
             currency=self.project.text("CurrencyCode")[:8],
             source="mspdi",
+            calendars=self.tasks.own.calendars,
+            lag_calendar=LagCalendar.SUCCESSOR,
+            begin=self.begin(),
             notes=tuple(self.notes),
         )
         return Reading(plan, tuple(self.losses))
@@ -195,6 +199,11 @@ class _Reader:
         if start is None:
             raise InputError(f"{self.source.name}: no start date; give one with --start")
         return start
+
+    def begin(self) -> datetime | None:
+        """Returns the moment of the first day from which work may begin, or None."""
+        moment = moments.moment(self.project.text("StartDate"))
+        return moment if moment is not None and moment.date() == self.start else None
 
     def rows(self) -> list[Row]:
         """Returns the rows that are tasks or groups: no blank ones, and not the project itself.
@@ -298,7 +307,7 @@ class _Reader:
             found = self.calendars.by_uid(node.text("CalendarUID"))
             if node.text("UID") not in used or found is None:
                 continue
-            if differs(found, self.calendar):
+            if differs(replace(found, day_minutes=self.calendar.day_minutes), self.calendar):
                 why = "the resource has its own working time; its tasks count by the plan's"
                 place = NamedPlace(f"resource {clip(title(node.text('Name')), 60)}")
                 kind = LossKind.CALENDAR
@@ -321,7 +330,7 @@ class _Reader:
                 continue
             quantity = self.quantity(task, part, resource)
             if quantity:
-                if resource.kind is ResourceKind.WORK:
+                if resource.kind is ResourceKind.WORK and task.uid not in self.tasks.alone:
                     used.add(uid)
                 yield Assignment(task.uid, uid, quantity)
         self.name_other_hours(used)

@@ -211,8 +211,3 @@ def _minute(text: str) -> int | None:
         return None
     minute = numbers[0] * 60 + numbers[1]
     return minute if 0 <= minute < _MIDNIGHT else None
-
-
-def differs(one: Calendar, other: Calendar) -> bool:
-    """Says whether two calendars have different working time."""
-    return one.week != other.week or set(one.exceptions) != set(other.exceptions)

@@ -2,12 +2,14 @@
 
 import re
 from collections.abc import Iterator, Mapping
-from dataclasses import dataclass, field
+from dataclasses import dataclass, field, replace
 from datetime import date
 from decimal import Decimal
+from functools import cached_property
 
 from pert_companion.model import moments
 from pert_companion.model.calendar import Calendar
+from pert_companion.model.logic import CLOCK, CLOCK_NAME
 from pert_companion.model.losses import LossKind
 from pert_companion.model.plan import (
     Baseline,
@@ -22,7 +24,8 @@ from pert_companion.readers import crashing, fields
 from pert_companion.readers.base import ReaderOptions
 from pert_companion.readers.fields import TextReader
 from pert_companion.readers.grid import clip
-from pert_companion.readers.mspdi_calendars import Calendars, differs
+from pert_companion.readers.mspdi_calendars import Calendars
+from pert_companion.readers.own_calendars import OwnCalendars, has_work
 from pert_companion.readers.values import Unreadable
 
 _DURATION = re.compile(
@@ -127,17 +130,23 @@ class TaskReader:
     is_of_taskjuggler: bool
     silent: set[str] = field(default_factory=set)
     """The rows that are left out together with their links."""
+    alone: set[str] = field(default_factory=set)
+    """The tasks whose own calendar holds whatever those of their resources are."""
+
+    @cached_property
+    def own(self) -> OwnCalendars:
+        """Returns the calendars of tasks that are not the plan's."""
+        return OwnCalendars(self.calendar)
 
     def task(self, row: Row, parent: str | None, above: list[Row]) -> Task | None:
         """Returns the task of a row below groups, or None and a loss."""
         if self._is_left_out(row):
             return None
-        minutes = self._minutes(row)
+        name, calendar = self._own_calendar(row)
+        minutes = self._minutes(row, calendar)
         if minutes is None:
             return None
-        calendar = self._own_calendar(row)
-        if calendar is None:
-            self._name_split(row, minutes)
+        self._name_split(row, minutes, calendar)
         cost = self.reader.read(row, "Cost", money)
         return Task(
             uid=row.uid,
@@ -150,12 +159,12 @@ class TaskReader:
             cost=cost,
             constraint=self._constraint(row, above),
             deadline=self.reader.read(row, "Deadline", fields.finish_day(self.calendar)),
-            listed_start=self._start_day(row, "Start", minutes),
-            listed_finish=self._listed_finish(row, minutes),
-            progress=self._progress(row, minutes),
+            listed_start=self._start_day(row, "Start", minutes, calendar),
+            listed_finish=self._listed_finish(row, minutes, calendar),
+            progress=self._progress(row, minutes, calendar),
             baselines=tuple(self._baselines(row)),
             manual=row.flag("Manual") and not self.is_of_taskjuggler,
-            calendar=calendar,
+            calendar=name,
         )
 
     def _is_left_out(self, row: Row) -> bool:
@@ -172,22 +181,22 @@ class TaskReader:
             return True
         return False
 
-    def _start_day(self, row: Row, name: str, minutes: int) -> date | None:
+    def _start_day(self, row: Row, name: str, minutes: int, calendar: Calendar) -> date | None:
         """Returns the first day of work; a milestone has the day of its moment."""
-        convert = fields.day if minutes == 0 else fields.start_day(self.calendar)
+        convert = fields.day if minutes == 0 else fields.start_day(calendar)
         return self.reader.read(row, name, convert)
 
-    def _finish_day(self, row: Row, name: str, minutes: int) -> date | None:
+    def _finish_day(self, row: Row, name: str, minutes: int, calendar: Calendar) -> date | None:
         """Returns the last day of work; a milestone has the day of its moment."""
-        convert = fields.day if minutes == 0 else fields.finish_day(self.calendar)
+        convert = fields.day if minutes == 0 else fields.finish_day(calendar)
         return self.reader.read(row, name, convert)
 
-    def _listed_finish(self, row: Row, minutes: int) -> date | None:
+    def _listed_finish(self, row: Row, minutes: int, calendar: Calendar) -> date | None:
         if minutes == 0 and not row.text("Finish"):
             return moments.day(row.text("Start"))
-        return self._finish_day(row, "Finish", minutes)
+        return self._finish_day(row, "Finish", minutes, calendar)
 
-    def _name_split(self, row: Row, minutes: int) -> None:
+    def _name_split(self, row: Row, minutes: int, calendar: Calendar) -> None:
         """Adds a loss of a task that takes more working time from start to finish than its own.
 
         What is left of work under way may wait for the data date, and for other tasks.
@@ -197,31 +206,28 @@ class TaskReader:
         start, finish = moments.moment(row.text("Start")), moments.moment(row.text("Finish"))
         if start is None or finish is None or row.flag("Manual"):
             return
-        span = self.calendar.between(start, finish)
-        if span > minutes and row.duration_format not in ELAPSED:
+        span = calendar.between(start, finish)
+        if span > minutes:
             why = (
                 f"it takes {span} working minutes from start to finish and works {minutes}: it is"
                 " split, or waits for its resources; here it is done in one piece"
             )
             self.reader.lose(row, "Duration", why, kind=LossKind.PAUSE)
 
-    def _minutes(self, row: Row) -> int | None:
-        """Returns the duration of a task in working minutes, or None and a loss."""
+    def _minutes(self, row: Row, calendar: Calendar) -> int | None:
+        """Returns the duration of a task in minutes of its calendar, or None and a loss."""
         text = row.text("Duration")
         if not text and row.flag("Manual"):
-            return self._manual_minutes(row)
+            return self._manual_minutes(row, calendar)
         if not text and row.flag("Milestone"):
             return 0
         minutes = duration(text)
         if minutes is None:
             why = "no duration; the task is left out"
             self.reader.lose(row, "Duration", why, kind=LossKind.TASK)
-            return None
-        if row.duration_format in ELAPSED:
-            return self._elapsed_minutes(row, minutes)
         return minutes
 
-    def _manual_minutes(self, row: Row) -> int | None:
+    def _manual_minutes(self, row: Row, calendar: Calendar) -> int | None:
         """Returns the duration of a manual task that has dates alone."""
         start = moments.moment(row.text("ManualStart") or row.text("Start"))
         finish = moments.moment(row.text("ManualFinish") or row.text("Finish"))
@@ -229,17 +235,7 @@ class TaskReader:
             why = "a manual task without dates or duration"
             self.reader.lose(row, "Start", why, kind=LossKind.TASK)
             return None
-        return self.calendar.between(start, finish)
-
-    def _elapsed_minutes(self, row: Row, minutes: int) -> int:
-        """Returns the working minutes in a duration by the clock, counted from the task's start."""
-        calendar = self.calendar
-        start = moments.moment(row.text("Start")) or calendar.morning(self.start)
-        end = calendar.add_elapsed(start, minutes)
-        counted = calendar.between(start, end)
-        why = f"elapsed time counts as {counted} working minutes from its listed start"
-        self.reader.lose(row, "Duration", why, kind=LossKind.ELAPSED)
-        return counted
+        return calendar.between(start, finish)
 
     def _crash(self, row: Row, minutes: int) -> Crash | None:
         """Returns the shortest duration and what it costs, from custom fields."""
@@ -247,7 +243,10 @@ class TaskReader:
 
         def shortest(text: str) -> int:
             known = duration(text)
-            return crashing.minutes_of(self.calendar)(text) if known is None else known
+            known = crashing.minutes_of(self.calendar)(text) if known is None else known
+            if row.duration_format not in ELAPSED:
+                return known
+            return known * CLOCK.day_minutes // self.calendar.day_minutes
 
         return crashing.crash_of(self.reader, row, found, minutes, shortest)
 
@@ -292,35 +291,51 @@ class TaskReader:
             self.reader.lose(row, "ConstraintDate", f"{kind.value} without a date")
         return None
 
-    def _progress(self, row: Row, minutes: int) -> Progress:
+    def _progress(self, row: Row, minutes: int, calendar: Calendar) -> Progress:
         """Returns what the file says of work done."""
         read = self.reader.read
         percent = read(row, "PercentComplete", fields.percentage)
-        started = self._start_day(row, "ActualStart", minutes)
+        started = self._start_day(row, "ActualStart", minutes, calendar)
         if not percent and (started is None or self.is_of_taskjuggler):
             return Progress()
         is_finished = percent is None or percent == _ALL
+        finished = None
+        if is_finished:
+            finished = self._finish_day(row, "ActualFinish", minutes, calendar)
         return Progress(
             percent=percent,
             actual_start=started,
-            actual_finish=self._finish_day(row, "ActualFinish", minutes) if is_finished else None,
+            actual_finish=finished,
             remaining=read(row, "RemainingDuration", length),
             actual_cost=read(row, "ActualCost", money),
             remaining_cost=read(row, "RemainingCost", money),
         )
 
-    def _own_calendar(self, row: Row) -> str | None:
-        """Returns the name of a task's own calendar if its working time is another one."""
+    def _own_calendar(self, row: Row) -> tuple[str | None, Calendar]:
+        """Returns the calendar of a task, with its name if its working time is not the plan's.
+
+        A duration by the clock has that as its calendar. All days are as long as the project's.
+        """
+        if row.duration_format in ELAPSED:
+            self.alone.add(row.uid)
+            return CLOCK_NAME, CLOCK
         uid = row.text("CalendarUID")
         found = self.calendars.by_uid(uid)
+        why = ""
         if found is None and uid not in ("", "-1"):
             why = "there is no calendar of this UID; the plan's is used"
+        elif found is not None and not has_work(found):
+            why = "the calendar has no working time; the plan's is used"
+        if why:
             self.reader.lose(row, "CalendarUID", why, kind=LossKind.CALENDAR)
-        if found is None or not differs(found, self.calendar):
-            return None
-        if found.name == self.calendar.name:
-            return f"{found.name} (UID {clip(uid, 20)})"
-        return found.name
+        if found is None or why:
+            return None, self.calendar
+        plan = self.calendar
+        lengths = {"day_minutes": plan.day_minutes, "week_minutes": plan.week_minutes}
+        found = replace(found, **lengths, month_days=plan.month_days)
+        if row.flag("IgnoreResourceCalendar"):
+            self.alone.add(row.uid)
+        return self.own.name_of(found, f"UID {clip(uid, 20)}"), found
 
     def _baselines(self, row: Row) -> Iterator[Baseline]:
         """Yields the saved baselines 0 to 10 of a task."""

@@ -7,7 +7,7 @@ empty field.
 from collections import Counter
 from collections.abc import Iterable, Iterator, Mapping
 from dataclasses import dataclass, field, replace
-from datetime import date
+from datetime import date, datetime
 from decimal import Decimal
 from fractions import Fraction
 from functools import cached_property
@@ -24,6 +24,7 @@ from pert_companion.model.plan import (
     Crash,
     Group,
     Lag,
+    LagCalendar,
     Link,
     LinkKind,
     Plan,
@@ -38,6 +39,7 @@ from pert_companion.readers import crashing, fields
 from pert_companion.readers.base import ReaderOptions, Reading
 from pert_companion.readers.fields import NamedPlace, TextReader
 from pert_companion.readers.grid import MOST_ROWS, clip
+from pert_companion.readers.own_calendars import OwnCalendars, has_work
 from pert_companion.readers.p6_outline import Node, outline_order
 from pert_companion.readers.values import Unreadable
 
@@ -58,6 +60,12 @@ _LINK_KINDS = {
     "PR_FF": LinkKind.FINISH_FINISH,
     "PR_SF": LinkKind.START_FINISH,
 }
+_LAG_CALENDARS = {
+    "rcal_Predecessor": LagCalendar.PREDECESSOR,
+    "rcal_Successor": LagCalendar.SUCCESSOR,
+    "rcal_ProjDefault": LagCalendar.PLAN,
+}
+_CLOCK_LAGS = "rcal_24Hour"
 _MILESTONES = frozenset(("TT_Mile", "TT_FinMile"))
 _SPANS = {
     "TT_LOE": "a level of effort spans other tasks; it is left out with its links",
@@ -189,6 +197,9 @@ class _Reader:
             must_finish=self.must_finish(),
             currency=self.currency(),
             source=self.file.format,
+            calendars=self.own.calendars,
+            lag_calendar=_LAG_CALENDARS.get(self.lag_setting, LagCalendar.PREDECESSOR),
+            begin=self.begin(),
             notes=tuple(self.notes),
         )
         return Reading(plan, tuple(dict.fromkeys(self.losses)))
@@ -239,6 +250,17 @@ class _Reader:
             raise InputError(f"{self.file.source.name}: no start date; give one with --start")
         return start
 
+    def begin(self) -> datetime | None:
+        """Returns the moment of the first day from which work may begin, or None."""
+        moment = moments.moment(self.project.text("plan_start_date"))
+        return moment if moment is not None and moment.date() == self.start else None
+
+    @cached_property
+    def lag_setting(self) -> str:
+        """Returns by which calendar lags run, as the options of scheduling say."""
+        rows = self.own_records("SCHEDOPTIONS")
+        return rows[0].text("sched_calendar_on_relationship_lag") if rows else ""
+
     def data_date(self) -> date | None:
         """Returns the day whose evening the progress is about.
 
@@ -262,24 +284,31 @@ class _Reader:
 
     def plan_calendar(self) -> Calendar:
         """Returns the calendar of most activities, or the one that is asked for."""
-        file, options = self.file, self.options
-        wanted = options.calendar.casefold()
+        if not self.calendar_key:
+            self.notes.append("the file has no calendar: Monday to Friday is assumed")
+        return self.with_lengths(self.file.calendars.get(self.calendar_key, Calendar()))
+
+    @cached_property
+    def calendar_key(self) -> str:
+        """Returns the id of the calendar of the plan; empty if the file has none."""
+        file, wanted = self.file, self.options.calendar.casefold()
         if wanted:
-            found = [each for each in file.calendars.values() if each.name.casefold() == wanted]
+            found = [key for key, each in file.calendars.items() if each.name.casefold() == wanted]
             if not found:
-                raise InputError(f"{file.source.name}: no calendar named {options.calendar!r}")
-            chosen = found[0]
-        else:
-            used = [key for key in map(self.calendar_id, self.records) if key in file.calendars]
-            counts = Counter([*used, self.project.text("clndr_id")])
-            known = [key for key, _ in counts.most_common() if key in file.calendars]
-            chosen = file.calendars[known[0]] if known else Calendar()
-            if not known:
-                self.notes.append("the file has no calendar: Monday to Friday is assumed")
-        day = options.day_minutes or chosen.day_minutes
-        week = options.week_minutes or chosen.week_minutes
-        month = options.month_days or chosen.month_days
-        return replace(chosen, day_minutes=day, week_minutes=week, month_days=month)
+                raise InputError(f"{file.source.name}: no calendar named {self.options.calendar!r}")
+            return found[0]
+        used = [key for key in map(self.calendar_id, self.records) if key in file.calendars]
+        counts = Counter([*used, self.project.text("clndr_id")])
+        known = [key for key, _ in counts.most_common() if key in file.calendars]
+        return known[0] if known else ""
+
+    def with_lengths(self, calendar: Calendar) -> Calendar:
+        """Returns a calendar with the hours of days and weeks that the user says, if any."""
+        options = self.options
+        day = options.day_minutes or calendar.day_minutes
+        week = options.week_minutes or calendar.week_minutes
+        month = options.month_days or calendar.month_days
+        return replace(calendar, day_minutes=day, week_minutes=week, month_days=month)
 
     def resource_ids_by_task(self) -> dict[str, list[str]]:
         """Returns the resources of each activity, by ids."""
@@ -300,7 +329,20 @@ class _Reader:
 
     def calendar_of(self, row: Record) -> Calendar:
         """Returns the calendar that an activity is scheduled by."""
-        return self.file.calendars.get(self.calendar_id(row), self.calendar)
+        key = self.calendar_id(row)
+        found = self.file.calendars.get(key)
+        if found is None or key == self.calendar_key or not has_work(found):
+            return self.calendar
+        return self.with_lengths(found)
+
+    def own_name(self, row: Record) -> str | None:
+        """Returns the name of the calendar of an activity if its working time is not the plan's."""
+        return self.own.name_of(self.calendar_of(row), f"id {clip(self.calendar_id(row), 20)}")
+
+    @cached_property
+    def own(self) -> OwnCalendars:
+        """Returns the calendars of activities that are not the plan's."""
+        return OwnCalendars(self.calendar)
 
     def entries(self, order: Iterable[tuple[Record, str | None, bool]]) -> Iterator[Task | Group]:
         """Yields the groups and tasks of an outline."""
@@ -332,7 +374,6 @@ class _Reader:
             return None
         self.name_unknown(row)
         constraint, deadline = self.constraints(row)
-        own = self.calendar_of(row)
         uid = row.text("task_id")
         return Task(
             uid=uid,
@@ -349,7 +390,7 @@ class _Reader:
             listed_finish=self.finish_day(row, _field_of(row, _FINISHES), minutes),
             progress=self.progress(row, minutes),
             baselines=self.file.baselines.get(row.text("task_code"), ()),
-            calendar=own.name if _differs(own, self.calendar) else None,
+            calendar=self.own_name(row),
         )
 
     def start_day(self, row: Record, name: str, minutes: int) -> date | None:
@@ -363,13 +404,10 @@ class _Reader:
         return self.fields.read(row, name, convert)
 
     def minutes(self, row: Record, name: str) -> int | None:
-        """Returns a duration of an activity in minutes of the plan's calendar, or None.
-
-        A day of the activity's own calendar counts as a day of the plan's.
-        """
+        """Returns a duration of an activity in minutes of its calendar, or None."""
 
         def convert(text: str) -> int:
-            found = _minutes(text, self.calendar_of(row), self.calendar)
+            found = _minutes(text)
             if found is None or found < 0:
                 raise Unreadable("this is no duration")
             return found
@@ -384,6 +422,10 @@ class _Reader:
             self.fields.lose(row, "wbs_id", why)
         if calendar and self.file.calendars and calendar not in self.file.calendars:
             why = "there is no calendar with this id; the plan's is used"
+            self.fields.lose(row, "clndr_id", why)
+        found = self.file.calendars.get(self.calendar_id(row))
+        if found is not None and not has_work(found):
+            why = "the calendar has no working time; the plan's is used"
             self.fields.lose(row, "clndr_id", why)
 
     def constraints(self, row: Record) -> tuple[Constraint | None, date | None]:
@@ -486,7 +528,7 @@ class _Reader:
             return next((text for text in texts if text), "")
 
         found = crashing.find_fields(look_up, self.options)
-        shortest = crashing.minutes_of(self.calendar)
+        shortest = crashing.minutes_of(self.calendar_of(row))
         return crashing.crash_of(self.fields, row, found, minutes, shortest)
 
     def links(self, tasks: Mapping[str, Task]) -> Iterator[Link]:
@@ -521,10 +563,10 @@ class _Reader:
         """Returns a link, or None and a loss."""
 
         def lag_of(text: str) -> Lag:
-            minutes = _minutes(text, self.calendar_of(before), self.calendar)
+            minutes = _minutes(text)
             if minutes is None:
                 raise Unreadable("this is no lag; the link is left out")
-            return Lag(minutes)
+            return Lag(minutes, elapsed=self.lag_setting == _CLOCK_LAGS)
 
         place = NamedPlace(row.where, after.name)
         kind = self.fields.taken(place, "pred_type", row.text("pred_type") or "PR_FS", _link_kind)
@@ -646,15 +688,12 @@ def _group(row: Record, parent: str | None) -> Group:
     return Group("W" + row.text("wbs_id"), row.where, name, parent, code)
 
 
-def _minutes(text: str, own: Calendar, plan: Calendar) -> int | None:
-    """Returns hours of a calendar as minutes of the plan's, or None if they are no number."""
+def _minutes(text: str) -> int | None:
+    """Returns hours in minutes, or None if they are no number."""
     hours = decimal(text)
     if hours is None or abs(hours) * 60 > _MOST_MINUTES:
         return None
-    minutes = Fraction(hours) * 60
-    if own.day_minutes != plan.day_minutes:
-        minutes = minutes * plan.day_minutes / own.day_minutes
-    return round(minutes)
+    return round(Fraction(hours) * 60)
 
 
 def _rounded(percent: Decimal) -> Decimal:
@@ -675,13 +714,6 @@ _FINISHES = ("act_end_date", "early_end_date", "target_end_date")
 def _field_of(row: Record, names: tuple[str, ...]) -> str:
     """Returns the first of these fields that an activity has."""
     return next((name for name in names if row.text(name)), names[-1])
-
-
-def _differs(own: Calendar, plan: Calendar) -> bool:
-    """Says whether two calendars have different working time."""
-    if (own.week, own.day_minutes) != (plan.week, plan.day_minutes):
-        return True
-    return set(own.exceptions) != set(plan.exceptions)
 
 
 def _role_id(row: Record) -> str:

@@ -55,6 +55,12 @@ _LINK_TYPES = {
     "Start to Finish": "PR_SF",
 }
 _RESOURCE_TYPES = {"Material": "RT_Mat", "Labor": "RT_Labor", "Nonlabor": "RT_Equip"}
+_LAG_CALENDARS = {
+    "Predecessor Activity Calendar": "rcal_Predecessor",
+    "Successor Activity Calendar": "rcal_Successor",
+    "Project Default Calendar": "rcal_ProjDefault",
+    "24 Hour Calendar": "rcal_24Hour",
+}
 _WORDS: dict[str, dict[str, str]] = {
     "task_type": _TASK_TYPES,
     "status_code": _STATUSES,
@@ -63,6 +69,7 @@ _WORDS: dict[str, dict[str, str]] = {
     "cstr_type2": _CONSTRAINTS,
     "pred_type": _LINK_TYPES,
     "rsrc_type": _RESOURCE_TYPES,
+    "sched_calendar_on_relationship_lag": _LAG_CALENDARS,
 }
 """The words of fields, and what XER has for them."""
 
@@ -109,6 +116,7 @@ _TASK = {
     "external_late_end_date": "ExternalLateFinishDate",
     "suspend_date": "SuspendDate",
 }
+_OPTIONS = {"sched_calendar_on_relationship_lag": "RelationshipLagCalendar"}
 _LINK = {
     "task_id": "SuccessorActivityObjectId",
     "pred_task_id": "PredecessorActivityObjectId",
@@ -156,6 +164,7 @@ _SHARED = (
 """The tables outside projects: the name in XER, the element, its fields."""
 _OF_PROJECT = (
     ("PROJWBS", "WBS", _WBS),
+    ("SCHEDOPTIONS", "ScheduleOptions", _OPTIONS),
     ("TASKPRED", "Relationship", _LINK),
     ("TASKRSRC", "ResourceAssignment", _ASSIGNMENT),
     ("PROJCOST", "ActivityExpense", _EXPENSE),

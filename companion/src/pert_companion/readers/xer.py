@@ -31,6 +31,7 @@ _FIELDS = {
         " early_end_date target_start_date target_end_date cstr_type cstr_date cstr_type2"
         " cstr_date2 external_early_start_date external_late_end_date suspend_date"
     ),
+    "SCHEDOPTIONS": "proj_id sched_calendar_on_relationship_lag",
     "TASKPRED": "task_id pred_task_id proj_id pred_proj_id pred_type lag_hr_cnt",
     "RSRC": "rsrc_id rsrc_name rsrc_short_name rsrc_type clndr_id unit_id",
     "RSRCRATE": "rsrc_id cost_per_qty start_date",

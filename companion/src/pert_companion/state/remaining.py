@@ -34,6 +34,7 @@ from pert_companion.model.cards import (
 from pert_companion.model.days import Counts
 from pert_companion.model.deck import Deck
 from pert_companion.model.errors import InputError
+from pert_companion.model.logic import Logic, OwnTime
 from pert_companion.model.sidefile import SideFile, SideTask
 
 WorkCard = ActivityCard | TaskCard
@@ -266,11 +267,20 @@ class _Maker:
     def part_left(self, card: WorkCard, task: SideTask, minutes: int) -> int:
         """Returns the units of a part that are left if so many minutes of the task are.
 
-        The parts after it are left in full, since a task is done in order.
+        The parts after it are left in full, since a task is done in order. Those of a calendar of
+        its own are counted from the as-of date on.
         """
+        own = self.own_time(task)
+        if own is not None:
+            minutes = own.span(minutes)
         following = task.parts[task.parts.index(card.code) + 1 :]
         units = _up(Fraction(minutes, self.side.unit_minutes))
         return units - sum(self.by_code[part].normal for part in following)
+
+    def own_time(self, task: SideTask) -> OwnTime | None:
+        """Returns the time from the as-of date on of a task with a calendar of its own."""
+        own = self.side.own_time(task)
+        return None if own is None else replace(own, start=_midnight(self.deck.as_of_day))
 
     def left_of(self, card: WorkCard, state: State, units: int, basis: Basis) -> Left:
         """Returns what is left if so many units are: the crash duration in proportion."""
@@ -371,12 +381,38 @@ class _Maker:
             deck_sha256="",
             start=self.deck.as_of_day,
             tasks=tuple(self.side_task(task, lefts) for task in self.side.tasks),
+            logic=self.logic(),
         )
+
+    def logic(self) -> Logic | None:
+        """Returns the logic from the as-of date on."""
+        logic = self.side.logic
+        if logic is None:
+            return None
+        return replace(logic, begin=datetime.combine(self.deck.as_of_day, logic.begin.time()))
 
     def side_task(self, task: SideTask, lefts: Mapping[str, Left]) -> SideTask:
         """Returns the entry of a real task, with what is left of it as its duration."""
         normal = sum(lefts[part].normal for part in task.parts)
-        return replace(task, normal=normal, minutes=normal * self.side.unit_minutes)
+        minutes = normal * self.side.unit_minutes
+        own, start = self.own_time(task), task.own
+        if own is None or start is None:
+            return replace(task, normal=normal, minutes=minutes)
+        states = {lefts[part].state for part in task.parts}
+        if states == {State.FINISHED}:
+            return replace(task, normal=normal, minutes=0)
+        if states == {State.WAITING}:
+            waiting = replace(own, start=start.start).minutes_in(minutes)
+            return replace(task, normal=normal, minutes=min(task.minutes, waiting))
+        left = min(own.minutes_in(minutes), _said_left(task))
+        return replace(task, normal=normal, minutes=left, own=replace(start, start=own.start))
+
+
+def _said_left(task: SideTask) -> int:
+    """Returns the most working minutes of its own calendar that are left of a task under way."""
+    if task.remaining is not None:
+        return task.remaining
+    return _up(Fraction(100 - (task.percent or 0)) * task.minutes / 100)
 
 
 def _midnight(day: date) -> datetime:

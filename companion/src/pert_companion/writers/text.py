@@ -67,6 +67,7 @@ def _heading(schedule: Schedule) -> list[str]:
         f"{title}: {days}, {schedule.start} to {schedule.end}, "
         f"cost {money_text(schedule.cost, schedule.money_scale)}{currency}{_price(schedule)}",
         *_missed(schedule),
+        *_calendars(schedule),
     ]
 
 
@@ -81,6 +82,15 @@ def _missed(schedule: Schedule) -> list[str]:
         return []
     number = "1 deadline is" if len(late) == 1 else f"{len(late)} deadlines are"
     return [f"{number} missed: {', '.join(late)}"]
+
+
+def _calendars(schedule: Schedule) -> list[str]:
+    """Returns lines on tasks with calendars of their own, if there are any."""
+    lines = [shown(schedule.calendars)] if schedule.calendars else []
+    counted = schedule.counted_end
+    if counted is not None and schedule.rest_of is None and counted != schedule.end:
+        lines.append(f"by the real calendars it ends on {schedule.end}; as counted, on {counted}")
+    return lines
 
 
 def _price(schedule: Schedule) -> str:
