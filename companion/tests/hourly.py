@@ -131,7 +131,7 @@ def _bound(link: HourLink, found: Found) -> int:
 
 
 def _placed(task: HourTask, least: int, finishes: list[int]) -> tuple[int, int]:
-    """Returns the first dates of a task in one piece; it may end in the free time after its work."""
+    """Returns the first dates of a task in one piece, which may end in free time after its work."""
     if task.hours == 0:
         moment = max([least, *finishes])
         return moment, moment

@@ -1,4 +1,4 @@
-"""Plans with several calendars in the files of planners: dates, floats and lengths, hour by hour."""
+"""Plans with several calendars in the files of planners: dates, floats, lengths, hour by hour."""
 
 import json
 from collections.abc import Callable
