@@ -422,20 +422,20 @@ def test_labels_that_say_nothing() -> None:
 
 
 def test_durations_that_are_none() -> None:
-    """Each is named, and elapsed time is counted by the week."""
+    """Each is named; elapsed time goes by the clock, and is counted by the week elsewhere."""
     reading = read(
-        "ID,Name,Duration\n1,A,3 days\n2,B,soon\n3,C,-3 days\n4,D,5m\n5,E,4 moons\n7,G,7 edays\n"
-        "8,H,0.333 days\n"
+        "ID,Name,Duration,Pess\n1,A,3 days,\n2,B,soon,\n3,C,-3 days,\n4,D,5m,\n5,E,4 moons,\n"
+        "7,G,2 edays,\n8,H,0.333 days,\n9,I,4 days,7 edays\n"
     )
     assert lines(reading) == [
         "row 3, task 'B', Duration 'soon': this is no duration [duration]",
         "row 4, task 'C', Duration '-3 days': a duration is not negative [duration]",
         "row 5, task 'D', Duration '5m': m may be minutes or months: write min or mon [duration]",
         "row 6, task 'E', Duration '4 moons': 'moons' is no unit of time [duration]",
-        "row 7, task 'G', Duration '7 edays': elapsed time counts as 5 days of work [elapsed]",
         "row 8, task 'H', Duration '0.333 days': rounded to 160 minutes of work [fraction]",
+        "row 9, task 'I', Pess '7 edays': elapsed time counts as 5 days of work [elapsed]",
     ]
-    assert [task.minutes for task in tasks(reading)] == [3 * DAY, 5 * DAY, 160]
+    assert [task.minutes for task in tasks(reading)] == [3 * DAY, 2 * 1440, 160, 4 * DAY]
 
 
 def test_units_of_headings() -> None:

@@ -19,8 +19,8 @@ from pert_companion.readers.style import is_day_first
 from pert_companion.readers.table import decode
 from pert_companion.readers.values import MOST_CHARACTERS, Style, Unreadable, day
 from pert_companion.readers.workbook import Book
+from pert_companion.readers.working_times import week_of, weekdays_in
 
-WEEKDAYS = ("mon", "tue", "wed", "thu", "fri", "sat", "sun")
 MAX_BYTES = 1024 * 1024
 
 _RANGE = re.compile(r"(.+?)\s*(?:\.\.|\s[-–]\s|–|\s(?:to|bis)\s)\s*(.+)")
@@ -37,7 +37,7 @@ def calendar_of(weekdays: str, free_days: Path | None) -> Calendar:
     Raises `UsageError` for words that are no weekdays, `InputError` for a line that is no holiday.
     """
     worked = worked_weekdays(weekdays)
-    week = tuple(STANDARD_DAY if number in worked else () for number in range(7))
+    week = week_of(worked, STANDARD_DAY)
     exceptions = () if free_days is None else holidays_of(free_days)
     name = "Standard" if weekdays == "mon-fri" else weekdays
     return Calendar(name, week, exceptions, week_minutes=480 * len(worked))
@@ -45,18 +45,10 @@ def calendar_of(weekdays: str, free_days: Path | None) -> Calendar:
 
 def worked_weekdays(text: str) -> frozenset[int]:
     """Returns the numbers of weekdays, Monday 0, of names and ranges such as `sun-thu,sat`."""
-    found: set[int] = set()
-    for part in text.lower().split(","):
-        first, mark, last = part.strip().partition("-")
-        last = last if mark else first
-        if first not in WEEKDAYS or last not in WEEKDAYS:
-            raise UsageError(
-                f"--weekdays {text}: {part.strip()!r} is no weekday such as mon, no range such as"
-                " mon-fri"
-            )
-        begin, end = WEEKDAYS.index(first), WEEKDAYS.index(last)
-        found.update((begin + number) % 7 for number in range((end - begin) % 7 + 1))
-    return frozenset(found)
+    try:
+        return weekdays_in(text)
+    except Unreadable as reason:
+        raise UsageError(f"--weekdays {text}: {reason}") from None
 
 
 def holidays_of(path: Path) -> tuple[CalendarException, ...]:

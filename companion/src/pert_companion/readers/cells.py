@@ -5,6 +5,7 @@ from datetime import date
 from decimal import Decimal
 from fractions import Fraction
 
+from pert_companion.model.calendar import MINUTES_OF_DAY
 from pert_companion.model.losses import LossKind
 from pert_companion.model.plan import (
     Baseline,
@@ -80,6 +81,7 @@ _KIND_OF_FIELD = {
     "cost": LossKind.COST,
     "actcost": LossKind.COST,
     "remcost": LossKind.COST,
+    "calendar": LossKind.CALENDAR,
     "percent": LossKind.PROGRESS,
     "remaining": LossKind.PROGRESS,
     "actstart": LossKind.PROGRESS,
@@ -140,15 +142,19 @@ class CellReader(FieldReader[Row, Cell]):
     def minutes(self, row: Row, name: str) -> int | None:
         """Returns a duration in whole working minutes; None if the cell is empty or unreadable.
 
-        Elapsed time counts by its share of a working week, and is a loss; so is a rounded minute.
+        All durations of a task that goes by the clock are minutes of the clock. Otherwise elapsed
+        time counts by its share of a working week, and is a loss; so is a rounded minute.
         """
         unit = self.head.units.get(name, "days")
         read = self.read(row, name, lambda cell: _length(cell, self.style, unit))
         if read is None:
             return None
+        by_clock = self.is_by_clock(row)
         minutes = read.minutes
-        if read.is_elapsed:
-            minutes = minutes * self.style.week_minutes / (7 * 24 * 60)
+        if by_clock and not read.is_elapsed:
+            minutes = minutes * MINUTES_OF_DAY / self.style.day_minutes
+        if read.is_elapsed and not by_clock:
+            minutes = minutes * self.style.week_minutes / (7 * MINUTES_OF_DAY)
             days = float(minutes / self.style.day_minutes)
             why = f"elapsed time counts as {days:g} days of work"
             self.lose(row, name, why, kind=LossKind.ELAPSED)
@@ -156,6 +162,16 @@ class CellReader(FieldReader[Row, Cell]):
         if not values.is_whole(minutes) and not read.is_elapsed:
             self.lose(row, name, f"rounded to {whole} minutes of work", kind=LossKind.FRACTION)
         return whole
+
+    def is_by_clock(self, row: Row) -> bool:
+        """Says whether the normal duration of a row is elapsed time: `7 edays`."""
+        cell = self.value(row, "duration") or self.value(row, "likely")
+        if not isinstance(cell, str):
+            return False
+        try:
+            return values.duration(cell, self.style, "days").is_elapsed
+        except Unreadable:
+            return False
 
     def amount(self, row: Row, name: str) -> Decimal | None:
         """Returns an amount of money that is not negative; None if there is none."""

@@ -72,6 +72,8 @@ HEADINGS: dict[str, tuple[str, ...]] = {
     "active": ("active", "aktiv"),
     "type": ("activity type", "task type", "vorgangsart", "aktivitätstyp"),
     "mode": ("task mode", "vorgangsmodus", "mode", "modus"),
+    "calendar": ("calendar", "task calendar", "calendar name", "activity calendar")
+    + ("kalender", "vorgangskalender", "kalendername"),
     "duration": ("duration", "normal", "normal duration", "original duration")
     + ("planned duration", "dauer", "normaldauer", "normale dauer", "days", "tage"),
     "opt": (

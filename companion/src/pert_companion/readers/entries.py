@@ -4,10 +4,12 @@ from collections.abc import Sequence, Set
 from dataclasses import dataclass, field, replace
 from decimal import Decimal
 
+from pert_companion.model.logic import CLOCK_NAME
 from pert_companion.model.losses import LossKind
 from pert_companion.model.plan import Group, Task
 from pert_companion.readers.cells import CellReader
 from pert_companion.readers.grid import clip
+from pert_companion.readers.list_calendars import ListCalendars
 from pert_companion.readers.outline import Node, Row
 from pert_companion.readers.values import is_nothing, is_yes, plain, text_of
 
@@ -77,7 +79,7 @@ def is_total(row: Row) -> bool:
     return row.name.casefold().strip(" :") in TOTALS
 
 
-def make_entries(nodes: Sequence[Node], reader: CellReader) -> Entries:
+def make_entries(nodes: Sequence[Node], reader: CellReader, calendars: ListCalendars) -> Entries:
     """Returns the entries of the nodes. Rows without a duration, and empty groups, are named."""
     entries = Entries()
     uids: dict[Node, str] = {}
@@ -95,7 +97,8 @@ def make_entries(nodes: Sequence[Node], reader: CellReader) -> Entries:
         else:
             code = _code(node, node.row, wbs_codes)
             basis = Task(uids[node], node.row.where, "", durations[node], parent, code)
-            entries.of_node[node] = _task(basis, node.row, reader)
+            basis = _task(basis, node.row, reader)
+            entries.of_node[node] = _with_calendar(basis, node.row, reader, calendars)
     return entries
 
 
@@ -240,6 +243,14 @@ def _task(basis: Task, row: Row, reader: CellReader) -> Task:
         baselines=reader.baselines(row),
         manual=row.text("mode").casefold() in MANUAL,
     )
+
+
+def _with_calendar(task: Task, row: Row, reader: CellReader, calendars: ListCalendars) -> Task:
+    """Returns a task with its calendar, if that is not the plan's."""
+    if reader.is_by_clock(row):
+        return replace(task, calendar=CLOCK_NAME)
+    name = reader.read(row, "calendar", lambda cell: calendars.name_of(text_of(cell)))
+    return replace(task, calendar=name)
 
 
 def check_totals(rows: Sequence[Row], entries: Entries, reader: CellReader) -> None:

@@ -34,6 +34,7 @@ RESOURCE_SHEETS = frozenset(
     )
     + ("ressourcentabelle", "sätze", "stundensätze")
 )
+CALENDAR_SHEETS = frozenset(("calendars", "kalender", "working times", "arbeitszeiten"))
 ASSIGNMENT_SHEETS = frozenset(("assignments", "assignment table", "zuordnungen"))
 
 _RATE_HEADINGS = {
@@ -56,12 +57,17 @@ _MATERIALS = frozenset(("material", "materialien"))
 
 
 def sheet_kind(name: str) -> str:
-    """Returns what a sheet is for, by its name: `holidays`, `resources`, `assignments`, `list`."""
+    """Returns what a sheet is for, by its name.
+
+    It is `holidays`, `resources`, `calendars`, `assignments` or `list`.
+    """
     plain = " ".join(name.replace("_", " ").casefold().split()).rstrip("0123456789 ")
     if plain in HOLIDAY_SHEETS:
         return "holidays"
     if plain in RESOURCE_SHEETS:
         return "resources"
+    if plain in CALENDAR_SHEETS:
+        return "calendars"
     return "assignments" if plain in ASSIGNMENT_SHEETS else "list"
 
 

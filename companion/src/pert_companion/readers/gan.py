@@ -1,6 +1,7 @@
 """Reads GanttProject's files (.gan): whole days, links, holidays, resources, custom columns."""
 
 from collections.abc import Iterator, Mapping
+from dataclasses import replace
 from datetime import date, datetime
 from decimal import Decimal
 from functools import cached_property
@@ -26,8 +27,10 @@ from pert_companion.model.source import Source
 from pert_companion.model.xmltree import Node, head_text, local_name, parse, whole
 from pert_companion.readers import crashing, fields
 from pert_companion.readers.base import ReaderOptions, Reading
+from pert_companion.readers.columns import HEADINGS
 from pert_companion.readers.fields import NamedPlace
 from pert_companion.readers.grid import clip
+from pert_companion.readers.list_calendars import ListCalendars
 from pert_companion.readers.p6_calendars import day_of
 from pert_companion.readers.task_tree import (
     Attributes,
@@ -150,6 +153,7 @@ class _Reader(TreeReader):
             listed_finish=self.finish(start, minutes),
             progress=Progress(percent=percent) if percent else Progress(),
             baselines=self.baselines.get(row.uid, ()),
+            calendar=self.own_calendar(row),
         )
 
     def minutes(self, row: Row) -> int | None:
@@ -191,13 +195,36 @@ class _Reader(TreeReader):
                 found[node.attribute("id")] = node.attribute("name").casefold()
         return found
 
-    def crash(self, row: Row, minutes: int) -> Crash | None:
-        """Returns the shortest duration and what it costs, from custom columns."""
+    def custom_values(self, row: Row) -> dict[str, str]:
+        """Returns what a task has in custom columns, by the name of the column in small letters."""
         values: dict[str, str] = {}
         for node in row.node.children("customproperty"):
             name = self.custom_columns.get(node.attribute("taskproperty-id"))
             if name is not None and node.attribute("value"):
                 values.setdefault(name, node.attribute("value"))
+        return values
+
+    @cached_property
+    def calendars(self) -> ListCalendars:
+        """Returns what finds the calendar that a custom column names."""
+        exceptions = (*self.options.holidays, *self.calendar.exceptions)
+        return ListCalendars(replace(self.calendar, exceptions=exceptions))
+
+    def own_calendars(self) -> tuple[Calendar, ...]:
+        """Returns the calendars of custom columns."""
+        return self.calendars.calendars
+
+    def own_calendar(self, row: Row) -> str | None:
+        """Returns the name of the calendar that a custom column has; None for the plan's."""
+        values = self.custom_values(row)
+        text = next((values[name] for name in HEADINGS["calendar"] if name in values), "")
+        if fields.given(text) is None:
+            return None
+        return self.fields.taken(row, "Calendar", text, self.calendars.name_of)
+
+    def crash(self, row: Row, minutes: int) -> Crash | None:
+        """Returns the shortest duration and what it costs, from custom columns."""
+        values = self.custom_values(row)
 
         def look_up(names: tuple[str, ...]) -> str:
             return next((values[name] for name in names if name in values), "")

@@ -10,6 +10,7 @@ from decimal import Decimal
 from pert_companion.model.calendar import CalendarException
 from pert_companion.model.losses import Loss
 from pert_companion.readers.values import Cell
+from pert_companion.readers.working_times import Week
 
 MOST_ROWS = 20_000
 MOST_COLUMNS = 1_024
@@ -47,6 +48,16 @@ class Rate:
 
 
 @dataclass(frozen=True)
+class NamedWeek:
+    """What a sheet of calendars says of one."""
+
+    name: str
+    week: Week
+    has_free_days: bool = True
+    """Whether the free days of the plan are free in it too."""
+
+
+@dataclass(frozen=True)
 class Grid:
     """The rows of a list, and what else of the file belongs to the plan."""
 
@@ -57,6 +68,7 @@ class Grid:
     """What separates the cells of a text; empty for a workbook."""
     exceptions: tuple[CalendarException, ...] = ()
     rates: tuple[Rate, ...] = ()
+    calendars: tuple[NamedWeek, ...] = ()
     notes: tuple[str, ...] = ()
     losses: tuple[Loss, ...] = ()
 

@@ -5,10 +5,10 @@ from dataclasses import replace
 from datetime import date
 from pathlib import Path
 
-from pert_companion.model.calendar import Calendar, Shift
+from pert_companion.model.calendar import Calendar
 from pert_companion.model.errors import InputError
 from pert_companion.model.losses import Loss
-from pert_companion.model.plan import Group, Plan
+from pert_companion.model.plan import Group, LagCalendar, Plan
 from pert_companion.readers.assigning import Assigner
 from pert_companion.readers.base import ReaderOptions, Reading
 from pert_companion.readers.cells import common_currency, reader_of
@@ -21,18 +21,17 @@ from pert_companion.readers.entries import (
 )
 from pert_companion.readers.grid import Grid, clip
 from pert_companion.readers.linking import Linker
+from pert_companion.readers.list_calendars import ListCalendars
 from pert_companion.readers.outline import (
     Labels,
+    Row,
     arrange,
     column_notes,
     labels_above,
     rows_below,
     without_heading,
 )
-
-_START_OF_DAY = 8 * 60
-_MOST_MINUTES_BEFORE_BREAK = 4 * 60
-_BREAK = 60
+from pert_companion.readers.working_times import usual_day, week_of
 
 
 def read_list(grid: Grid, options: ReaderOptions, file: str) -> Reading:
@@ -45,7 +44,8 @@ def read_list(grid: Grid, options: ReaderOptions, file: str) -> Reading:
     rows, repeated = rows_below(grid.rows, head)
     reader = reader_of(rows, head, options, grid.separator, file)
     outline = arrange(without_passed_over(rows, reader), head)
-    entries = make_entries(outline.nodes, reader)
+    calendars = _calendars(grid, rows, options)
+    entries = make_entries(outline.nodes, reader, calendars)
     if not entries.tasks():
         raise InputError(f"{file}: there is no task{_first_reason(reader.losses, file)}")
     check_totals(rows, entries, reader)
@@ -56,10 +56,11 @@ def read_list(grid: Grid, options: ReaderOptions, file: str) -> Reading:
     given = options.start or labels.day("start", reader.style)
     first, start_notes = (given, []) if given else _earliest_start(entries, file)
     notes = [*grid.notes, *labels.notes, *column_notes(head), *repeated, *reader.style_notes]
+    notes += calendars.notes
     plan = Plan(
         name=_plan_name(entries, options, labels, file),
         start=first,
-        calendar=replace(calendar_of(options), exceptions=grid.exceptions),
+        calendar=replace(calendars.plan, exceptions=grid.exceptions),
         outline=tuple(entries.of_node.values()),
         links=links,
         resources=assigner.resources,
@@ -67,6 +68,8 @@ def read_list(grid: Grid, options: ReaderOptions, file: str) -> Reading:
         data_date=options.data_date or labels.day("data date", reader.style),
         currency=common_currency(rows),
         source=grid.source,
+        calendars=calendars.calendars,
+        lag_calendar=LagCalendar.SUCCESSOR,
         notes=(*notes, *start_notes, *outline.notes, *reader.notes),
     )
     in_order = _in_order([*outline.losses, *reader.losses], head)
@@ -90,31 +93,27 @@ def _in_order(losses: Iterable[Loss], head: Head) -> list[Loss]:
     return sorted(losses, key=place)
 
 
+def _calendars(grid: Grid, rows: Sequence[Row], options: ReaderOptions) -> ListCalendars:
+    """Returns the calendars that the tasks of a list may have."""
+    exceptions = (*options.holidays, *grid.exceptions)
+    plan = replace(calendar_of(options), exceptions=exceptions)
+    return ListCalendars(
+        plan, grid.calendars, options.calendar, [row.text("calendar") for row in rows]
+    )
+
+
 def calendar_of(options: ReaderOptions) -> Calendar:
     """Returns the calendar of a list: days from 8:00 with a break, weeks from Monday."""
     day_minutes = options.day_minutes or 480
     week_minutes = options.week_minutes or 5 * day_minutes
     working_days = min(7, -(-week_minutes // day_minutes))
-    shifts = _shifts(day_minutes)
-    free: tuple[Shift, ...] = ()
-    week = (shifts,) * working_days + (free,) * (7 - working_days)
+    shifts = usual_day(day_minutes)
     return Calendar(
-        week=week,
+        week=week_of(range(working_days), shifts),
         day_minutes=day_minutes,
         week_minutes=week_minutes,
         month_days=options.month_days or 20,
     )
-
-
-def _shifts(day_minutes: int) -> tuple[Shift, ...]:
-    """Returns the working time of a day from 8:00, with an hour's break after four hours."""
-    first = min(day_minutes, _MOST_MINUTES_BEFORE_BREAK)
-    rest = day_minutes - first
-    if rest == 0 or _START_OF_DAY + day_minutes + _BREAK > 24 * 60:
-        begin = max(0, min(_START_OF_DAY, 24 * 60 - day_minutes))
-        return ((begin, begin + day_minutes),)
-    second = _START_OF_DAY + first + _BREAK
-    return ((_START_OF_DAY, _START_OF_DAY + first), (second, second + rest))
 
 
 def _earliest_start(entries: Entries, file: str) -> tuple[date, list[str]]:

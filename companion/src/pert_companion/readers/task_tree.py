@@ -55,6 +55,7 @@ _KINDS = {
     "predecessor": LossKind.LINK,
     "lag": LossKind.LINK,
     "previous-task": LossKind.BASELINE,
+    "Calendar": LossKind.CALENDAR,
 }
 """The kind of loss of each field that cannot be read."""
 
@@ -151,6 +152,10 @@ class TreeReader(ABC):
         """Yields what is to be said of the file; nothing, unless a format has something."""
         return iter(())
 
+    def own_calendars(self) -> tuple[Calendar, ...]:
+        """Returns the calendars that tasks have besides the plan's."""
+        return ()
+
     def group(self, row: Row) -> Group:
         """Returns the group of a row."""
         return Group(row.uid, row.where, row.name, row.parent, row=whole(row.uid))
@@ -176,6 +181,7 @@ class TreeReader(ABC):
             assignments=tuple(self._assignments(entries)),
             data_date=self.options.data_date,
             source=self.format,
+            calendars=self.own_calendars(),
             notes=tuple(self.notes()),
         )
         return Reading(plan, tuple(self.losses))

@@ -1,7 +1,7 @@
 """Reads task lists in workbooks (.xlsx), of MS Project's wizard and as people keep them.
 
 One sheet holds the list; `--sheet` names it if several might. A sheet `Holidays` has the free days,
-and a sheet `Resources` the rates.
+a sheet `Resources` the rates, and a sheet `Calendars` the calendars that tasks have.
 """
 
 import io
@@ -15,10 +15,12 @@ from pert_companion.model.source import Source
 from pert_companion.readers.base import ReaderOptions, Reading
 from pert_companion.readers.columns import ROWS_ABOVE_HEAD, find_head
 from pert_companion.readers.extras import holidays, rates, sheet_kind
-from pert_companion.readers.grid import Grid, Rate, clip
+from pert_companion.readers.grid import Grid, NamedWeek, Rate, clip
+from pert_companion.readers.list_calendars import named_weeks
 from pert_companion.readers.listing import read_list
 from pert_companion.readers.values import Style
 from pert_companion.readers.workbook import Book
+from pert_companion.readers.working_times import usual_day
 
 _LIST_SHEETS = (
     "task table",
@@ -36,6 +38,7 @@ class _Extras:
 
     exceptions: list[CalendarException] = field(default_factory=list)
     rates: list[Rate] = field(default_factory=list)
+    calendars: list[NamedWeek] = field(default_factory=list)
     notes: list[str] = field(default_factory=list)
     losses: list[Loss] = field(default_factory=list)
 
@@ -70,6 +73,7 @@ def read_grid(source: Source, options: ReaderOptions) -> Grid:
         source="xlsx",
         exceptions=tuple(extras.exceptions),
         rates=tuple(extras.rates),
+        calendars=tuple(extras.calendars),
         notes=(*extras.notes, *sheet.notes),
         losses=(*extras.losses, *sheet.losses),
     )
@@ -124,21 +128,32 @@ def _extras(book: Book, list_name: str, options: ReaderOptions) -> _Extras:
     )
     extras = _Extras()
     for name in book.visible_names:
-        kind = sheet_kind(name)
         if name == list_name:
             continue
-        if kind not in ("holidays", "resources"):
+        if sheet_kind(name) not in ("holidays", "resources", "calendars"):
             extras.notes.append(f"sheet {clip(name)!r} is not read")
             continue
-        sheet = book.rows(name)
-        extras.losses.extend(sheet.losses)
-        if kind == "holidays":
-            days, losses = holidays(sheet.rows, name, style)
-            extras.exceptions.extend(days)
-        else:
-            found, losses = rates(sheet.rows, name, style)
-            extras.rates.extend(found)
-        extras.losses.extend(losses)
+        _add_sheet(extras, book, name, style)
     hidden = [name for name in book.hidden_names if name != list_name]
     extras.notes.extend(f"sheet {clip(name)!r} is hidden and is not read" for name in hidden)
     return extras
+
+
+def _add_sheet(extras: _Extras, book: Book, name: str, style: Style) -> None:
+    """Adds what a sheet of free days, rates or calendars says."""
+    kind, sheet = sheet_kind(name), book.rows(name)
+    losses: list[Loss] = []
+    if kind == "holidays":
+        days, losses = holidays(sheet.rows, name, style)
+        extras.exceptions.extend(days)
+    elif kind == "resources":
+        found, losses = rates(sheet.rows, name, style)
+        extras.rates.extend(found)
+    else:
+        weeks = named_weeks(sheet.rows, name, usual_day(style.day_minutes))
+        if weeks is None:
+            extras.notes.append(f"sheet {clip(name)!r} is not read")
+            return
+        extras.calendars.extend(weeks[0])
+        losses = weeks[1]
+    extras.losses.extend((*sheet.losses, *losses))
