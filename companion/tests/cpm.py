@@ -22,6 +22,8 @@ from pert_companion.model.plan import (
 
 START_CONSTRAINTS = (ConstraintKind.START_NO_EARLIER, ConstraintKind.MUST_START)
 FINISH_CONSTRAINTS = (ConstraintKind.FINISH_NO_EARLIER, ConstraintKind.MUST_FINISH)
+LATEST_STARTS = (ConstraintKind.START_NO_LATER, ConstraintKind.MUST_START)
+LATEST_FINISHES = (ConstraintKind.FINISH_NO_LATER, ConstraintKind.MUST_FINISH)
 
 
 @dataclass(frozen=True)
@@ -75,7 +77,7 @@ def dates_of(plan: Plan, durations: Mapping[str, int] | None = None) -> dict[str
     links = list(plain_links(plan, minutes))
     early = early_starts(plan, links, minutes)
     end = max(early[uid] + minutes[uid] for uid in early)
-    late = {uid: end - minutes[uid] for uid in early}
+    late = {task.uid: latest_start(plan, task, end, minutes) for task in plan.tasks()}
     fixed = [fixed_lag(plan.calendar, link, early, minutes) for link in links]
     for _ in range(len(early) + 2):
         if not any([push_back(link, late, minutes) for link in fixed]):
@@ -84,6 +86,19 @@ def dates_of(plan: Plan, durations: Mapping[str, int] | None = None) -> dict[str
         uid: Dates(early[uid], early[uid] + minutes[uid], late[uid], late[uid] + minutes[uid])
         for uid in early
     }
+
+
+def latest_start(plan: Plan, task: Task, end: int, minutes: Mapping[str, int]) -> int:
+    """Returns the latest start of a task by itself: of the project's end, and of its constraint."""
+    calendar, constraint = plan.calendar, task.constraint
+    latest = end - minutes[task.uid]
+    if constraint is None or constraint.day is None or task.manual:
+        return latest
+    if constraint.kind in LATEST_STARTS:
+        return min(latest, calendar.position(calendar.morning(constraint.day)))
+    if constraint.kind in LATEST_FINISHES:
+        return min(latest, calendar.position(calendar.evening(constraint.day)) - minutes[task.uid])
+    return latest
 
 
 def early_starts(plan: Plan, links: list[PlainLink], minutes: Mapping[str, int]) -> dict[str, int]:

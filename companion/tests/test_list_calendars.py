@@ -1,7 +1,7 @@
 """Calendars of the tasks of a list, by words and by a sheet, and durations by the clock."""
 
 import io
-from collections.abc import Iterable, Sequence
+from collections.abc import Sequence
 from dataclasses import replace
 from datetime import date
 from pathlib import Path
@@ -25,6 +25,7 @@ from pert_companion.readers.values import Unreadable
 from pert_companion.readers.working_times import week_in
 
 H = 60
+Rows = list[list[object]]
 SHEET_OF_SITE = (
     ("Name", "Weekdays", "Hours", "Free days"),
     ("Site", "mon-sat", "06:00-16:00", "no"),
@@ -63,9 +64,9 @@ def test_words_that_say_no_working_time(words: str) -> None:
         week_in(words, ((0, 60),))
 
 
-def list_rows() -> list[list[object]]:
+def list_rows() -> Rows:
     """Returns the rows of the plan of the tests with several calendars, as a list has it."""
-    rows: list[list[object]] = [["Code", "Name", "Duration", "Predecessors", "Cost", "Calendar"]]
+    rows: Rows = [["Code", "Name", "Duration", "Predecessors", "Cost", "Calendar"]]
     for uid, (hours, calendar) in WORK.items():
         links = [
             f"T{before}{kind}" + (f"+{lag}h" if lag else "")
@@ -78,7 +79,7 @@ def list_rows() -> list[list[object]]:
     return rows
 
 
-def workbook_bytes(**sheets: Iterable[Iterable[object]]) -> bytes:
+def workbook_bytes(**sheets: Sequence[Sequence[object]]) -> bytes:
     """Returns a workbook with these sheets."""
     book = Workbook()
     book.remove(book.active)
@@ -99,7 +100,7 @@ def read_book(data: bytes, **options: object) -> Reading:
 
 def test_a_workbook_becomes_the_deck_of_the_planners_file() -> None:
     """A list with a sheet of calendars and MS Project's file of the same plan give one deck."""
-    holidays = [["Day", "Name"], [date(2026, 3, 9), "Fair"], [date(2026, 3, 18), "Fair"]]
+    holidays: Rows = [["Day", "Name"], [date(2026, 3, 9), "Fair"], [date(2026, 3, 18), "Fair"]]
     book = workbook_bytes(Plan=list_rows(), Calendars=SHEET_OF_SITE, Holidays=holidays)
     reading = read_book(book)
     assert reading.losses == ()
@@ -144,7 +145,7 @@ def test_the_calendar_of_most_tasks_is_the_plans() -> None:
 
 def test_another_calendar_for_the_plan() -> None:
     """A calendar of the sheet can be the plan's; one that no sheet has is no word for it."""
-    rows = [["Name", "Duration", "Calendar"], ["A", 3, "Site"], ["B", 2, "Nights"]]
+    rows: Rows = [["Name", "Duration", "Calendar"], ["A", 3, "Site"], ["B", 2, "Nights"]]
     book = workbook_bytes(Plan=rows, Kalender=SHEET_OF_SITE)
     plan = read_book(book, calendar="site").plan
     assert (plan.calendar.name, plan.calendar.week) == ("Site", calendar_of("Site", SITE).week)
@@ -155,14 +156,15 @@ def test_another_calendar_for_the_plan() -> None:
 
 def test_rows_of_calendars_that_are_none() -> None:
     """Each is named; a sheet without the headings of one is not read."""
-    rows = [["Name", "Duration"], ["A", 3]]
+    rows: Rows = [["Name", "Duration"], ["A", 3]]
     wrong = (("Name", "Weekdays", "Hours"), ("Site", "mon-sat", "late"), ("", "mon", ""), ("", ""))
     reading = read_book(workbook_bytes(Plan=rows, Calendars=wrong))
     assert [(loss.where, loss.why) for loss in reading.losses] == [
         ("sheet 'Calendars', row 2", "'late' is no working time such as 06:00-14:00"),
         ("sheet 'Calendars', row 3", "this calendar has no name"),
     ]
-    reading = read_book(workbook_bytes(Plan=rows, Calendars=[["Crew", "Shift"], ["A", "early"]]))
+    other = (("Crew", "Shift"), ("A", "early"))
+    reading = read_book(workbook_bytes(Plan=rows, Calendars=other))
     assert reading.losses == () and "sheet 'Calendars' is not read" in reading.plan.notes
 
 

@@ -22,6 +22,7 @@ from dataclasses import dataclass, field
 from datetime import datetime
 from graphlib import CycleError, TopologicalSorter
 
+from pert_companion.analysis.latest import latest_of
 from pert_companion.model.calendar import Calendar
 from pert_companion.model.errors import InputError
 from pert_companion.model.logic import Lasting, Logic, LogicTie, Spans
@@ -44,6 +45,15 @@ class Actual:
     begun: Mapping[str, datetime] = field(default_factory=dict)
 
 
+@dataclass(frozen=True)
+class LatestMoments:
+    """The moments by which tasks have to begin and end, by code, and the project has to end."""
+
+    starts: Mapping[str, datetime] = field(default_factory=dict)
+    finishes: Mapping[str, datetime] = field(default_factory=dict)
+    end: datetime | None = None
+
+
 class Passes:
     """The early and late dates of tasks that take given times."""
 
@@ -53,8 +63,11 @@ class Passes:
         logic: Logic,
         tasks: Iterable[Lasting],
         actual: Actual = Actual(),
+        latest: LatestMoments = LatestMoments(),
     ) -> None:
         """Takes the plan's calendar, and the tasks with what is left of each.
+
+        `latest` bounds late dates alone.
 
         Raises `InputError` if they are linked in a circle, or end after the year 9999.
         """
@@ -62,6 +75,7 @@ class Passes:
         self._logic = logic
         self._tasks = {task.code: task for task in tasks}
         self._actual = actual
+        self._latest = latest
         self._ties_to = _by(logic.ties, lambda tie: tie.task)
         links = [tie for tie in logic.ties if tie.day is None]
         self._ties_from = _by(links, lambda tie: tie.before)
@@ -170,7 +184,10 @@ class Passes:
         """Returns the latest moment at which a task may start; a done one cannot be later."""
         if task.code in self._actual.finished:
             return self._actual.finished[task.code].start
-        starts, finishes = [], [self.end]
+        bounds, code = self._latest, task.code
+        starts = [bounds.starts[code]] if code in bounds.starts else []
+        finishes = [self.end if bounds.end is None else min(self.end, bounds.end)]
+        finishes += [bounds.finishes[code]] if code in bounds.finishes else []
         for tie in self._ties_from.get(task.code, ()):
             if tie.is_from_start and task.code not in self._actual.begun:
                 starts.append(self._latest_source(tie))
@@ -226,14 +243,27 @@ def spans(plan: Calendar, logic: Logic, tasks: Iterable[Lasting]) -> Spans:
     return Spans(starts, tuple(passes.lag_minutes(tie) for tie in logic.ties))
 
 
-def passes_at(side: SideFile, durations: Mapping[str, int]) -> Passes:
+def passes_at(side: SideFile, durations: Mapping[str, int], end: datetime | None = None) -> Passes:
     """Returns the dates of the tasks of a deck whose cards last so many units, by code.
 
-    `side` is the side file of a plan with a logic. What ended before its first day has its actual
-    dates. Errors are those of `Passes`.
+    `side` is the side file of a plan with a logic, `end` the moment by which it has to end. What
+    ended before its first day has its actual dates. Errors are those of `Passes`.
     """
     assert side.logic is not None
-    return Passes(side.calendar, side.logic, lasting_at(side, durations), actual_of(side))
+    lasting, actual = lasting_at(side, durations), actual_of(side)
+    return Passes(side.calendar, side.logic, lasting, actual, latest_moments(side, end))
+
+
+def latest_moments(side: SideFile, end: datetime | None) -> LatestMoments:
+    """Returns the latest moments of the tasks of a side file, and that of the project's end."""
+    starts, finishes = {}, {}
+    for task in side.tasks:
+        latest = latest_of(side, task)
+        if latest.start is not None:
+            starts[task.code] = latest.start
+        if latest.finish is not None:
+            finishes[task.code] = latest.finish
+    return LatestMoments(starts, finishes, end)
 
 
 def lasting_at(side: SideFile, durations: Mapping[str, int]) -> list[Lasting]:

@@ -56,9 +56,11 @@ def in_plan_days(side: SideFile, task: SideTask, minutes: int) -> int:
 class RealDates:
     """The dates of the tasks of one schedule of a plan that has a logic."""
 
-    def __init__(self, side: SideFile, durations: Mapping[str, int]) -> None:
-        """Takes the durations of the cards in units, by code."""
-        self.passes: Passes = passes_at(side, durations)
+    def __init__(
+        self, side: SideFile, durations: Mapping[str, int], end: datetime | None = None
+    ) -> None:
+        """Takes the durations of the cards in units, by code, and the moment of the contract."""
+        self.passes: Passes = passes_at(side, durations, end)
         self._side = side
 
     @property

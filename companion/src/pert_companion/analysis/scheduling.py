@@ -11,6 +11,7 @@ from datetime import date, datetime
 
 from pert_companion.analysis.actuals import Actuals
 from pert_companion.analysis.lengths import LengthChoice, check_length, chosen_length, next_step
+from pert_companion.analysis.latest import broken_lines, contract_end, contract_line
 from pert_companion.analysis.real_dates import (
     RealDates,
     calendars_text,
@@ -78,7 +79,8 @@ def rest_schedule(state: ProjectState, choice: LengthChoice = LengthChoice()) ->
     )
     ends = [task.last_day for task in tasks]
     starts = [task.first_day for task in tasks]
-    return replace(schedule, tasks=tasks, start=min(starts), end=max(ends), rest_of=state.as_of)
+    schedule = replace(schedule, tasks=tasks, start=min(starts), end=max(ends))
+    return _with_broken_dates(replace(schedule, rest_of=state.as_of), state.rest)
 
 
 def _with_actuals(task: ScheduledTask, entry: SideTask, actuals: Actuals) -> ScheduledTask:
@@ -122,10 +124,12 @@ def schedule_of(work: Work, point: results.Point) -> Schedule:
         raise ProgramError(f"the costs of the schedule for {point.length} do not add up")
     project, side = work.deck.project, work.side
     tasks, end = builder.tasks(), builder.end(point.length).date()
-    real = None if side.logic is None else RealDates(side, point.durations)
+    real = None
+    if side.logic is not None:
+        real = RealDates(side, point.durations, contract_end(side, work.deck))
     if real is not None:
         tasks = tuple(real.of(task, entry) for task, entry in zip(tasks, side.tasks))
-    return Schedule(
+    schedule = Schedule(
         title=project.title,
         code=project.code,
         length=point.length,
@@ -141,6 +145,14 @@ def schedule_of(work: Work, point: results.Point) -> Schedule:
         counted_end=None if real is None else end,
         calendars=calendars_text(side),
     )
+    return _with_broken_dates(schedule, work)
+
+
+def _with_broken_dates(schedule: Schedule, work: Work) -> Schedule:
+    """Returns a schedule with a line for each latest date that it breaks."""
+    lines = list(broken_lines(work.side, schedule.tasks))
+    contract = contract_line(work.side, work.deck, schedule.end)
+    return replace(schedule, broken=(*lines, contract) if contract else tuple(lines))
 
 
 @dataclass(frozen=True)
@@ -354,7 +366,7 @@ class _Builder:
             slope=max(cards[part].slope for part in task.parts),
             start=begins,
             finish=ends,
-            total_float_minutes=slack * self.side.unit_minutes // SIXTHS,
+            total_float_minutes=int(slack * self.side.unit_minutes // SIXTHS),
             cost=sum(self.costs[part] for part in task.parts),
             is_critical=slack <= 0,
             is_milestone=task.normal == 0,

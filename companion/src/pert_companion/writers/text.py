@@ -3,11 +3,11 @@
 import unicodedata
 from collections.abc import Sequence
 from dataclasses import dataclass
-from datetime import date, timedelta
 
 from pert_companion.analysis.schedule import Schedule, ScheduledTask
 from pert_companion.model.figures import day_words, days_text, money_text
 from pert_companion.state.remaining import State
+from pert_companion.writers.bars import Scale
 
 BOLD_RED = "\x1b[1;31m"
 RESET = "\x1b[0m"
@@ -18,7 +18,11 @@ MOST_NAME = 40
 
 @dataclass(frozen=True)
 class TableOptions:
-    """How a table looks. `width` is in columns of the terminal; None is as wide as it takes."""
+    """How a table looks.
+
+    `width` is in columns of the terminal, where amounts have separators; None is as wide as it
+    takes, for a pipe.
+    """
 
     width: int | None = None
     gantt: bool = False
@@ -31,9 +35,10 @@ def to_text(schedule: Schedule, tasks: Sequence[ScheduledTask], options: TableOp
     headings = _headings(schedule, tasks)
     widths = _widths(headings, rows)
     name_width = _name_width(tasks, widths, options)
-    lines = _heading(schedule)
-    lines.append(_line(headings, widths, "NAME", name_width).rstrip())
+    lines = _heading(schedule, options)
     scale = _scale(schedule, tasks, widths, name_width, options)
+    line = _line(headings, widths, "NAME", name_width)
+    lines.append((line if scale is None else f"{line}  {scale.axis()}").rstrip())
     for task, cells in zip(tasks, rows):
         line = _line(cells, widths, task.name or task.code, name_width)
         if scale is not None:
@@ -55,7 +60,7 @@ def _headings(schedule: Schedule, tasks: Sequence[ScheduledTask]) -> list[str]:
     return ["ROW", "CODE", state, "START", "FINISH", "DAYS", "FLOAT", *deadlines, ""]
 
 
-def _heading(schedule: Schedule) -> list[str]:
+def _heading(schedule: Schedule, options: TableOptions) -> list[str]:
     days = day_words(schedule.length * schedule.unit_minutes, schedule.day_minutes)
     title = shown(schedule.title or schedule.code)
     if schedule.rest_of is not None:
@@ -65,8 +70,9 @@ def _heading(schedule: Schedule) -> list[str]:
     currency = f" {schedule.currency}" if schedule.currency else ""
     return [
         f"{title}: {days}, {schedule.start} to {schedule.end}, "
-        f"cost {money_text(schedule.cost, schedule.money_scale)}{currency}{_price(schedule)}",
+        f"cost {_money(schedule.cost, schedule, options)}{currency}{_price(schedule, options)}",
         *_missed(schedule),
+        *map(shown, schedule.broken),
         *_calendars(schedule),
     ]
 
@@ -93,14 +99,23 @@ def _calendars(schedule: Schedule) -> list[str]:
     return lines
 
 
-def _price(schedule: Schedule) -> str:
+def _money(amount: int, schedule: Schedule, options: TableOptions) -> str:
+    """Returns an amount; on a terminal with separators of thousands."""
+    text = money_text(amount, schedule.money_scale)
+    if options.width is None:
+        return text
+    whole, point, part = text.partition(".")
+    return f"{int(whole):,}{point}{part}"
+
+
+def _price(schedule: Schedule, options: TableOptions) -> str:
     """Returns what a day less costs, or an empty text at the shortest length."""
     step = schedule.next_step
     if step is None:
         return ""
     days = day_words(step.minutes, schedule.day_minutes)
     less = "a day less costs" if days == "1 day" else f"{days} less cost"
-    return f", {less} {money_text(step.cost, schedule.money_scale)}"
+    return f", {less} {_money(step.cost, schedule, options)}"
 
 
 def _cells(task: ScheduledTask, schedule: Schedule) -> list[str]:
@@ -155,34 +170,13 @@ def _name_width(
     return max(LEAST_NAME, min(needed, left))
 
 
-@dataclass(frozen=True)
-class _Scale:
-    """Places days on the columns of the bars."""
-
-    first: date
-    days: int
-    columns: int
-
-    def bar(self, task: ScheduledTask) -> str:
-        """Returns the bar of a task: `#` where it works, `-` where it may float, `+` a moment."""
-        begin = self.column(task.first_day)
-        end = max(begin + 1, self.column(task.last_day + timedelta(days=1)))
-        if task.is_milestone:
-            return " " * begin + "+"
-        return " " * begin + "#" * (end - begin)
-
-    def column(self, day: date) -> int:
-        """Returns the column at which a day begins."""
-        return min((day - self.first).days * self.columns // self.days, self.columns - 1)
-
-
 def _scale(
     schedule: Schedule,
     tasks: Sequence[ScheduledTask],
     widths: Sequence[int],
     name_width: int,
     options: TableOptions,
-) -> _Scale | None:
+) -> Scale | None:
     if not options.gantt or not tasks:
         return None
     first = min(task.first_day for task in tasks)
@@ -190,7 +184,7 @@ def _scale(
     days = (last - first).days + 1
     width = 100 if options.width is None else options.width
     used = sum(column + 2 for column in widths if column) + name_width + 2
-    return _Scale(first, days, max(LEAST_BAR, width - used))
+    return Scale(first, days, max(LEAST_BAR, width - used))
 
 
 def shown(text: str) -> str:
