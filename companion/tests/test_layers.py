@@ -15,7 +15,7 @@ BELOW = {
     "readers": {"model"},
     "carry": {"model"},
     "state": {"programs", "model"},
-    "analysis": {"state", "programs", "model"},
+    "analysis": {"state", "programs", "carry", "model"},
     "importing": {"analysis", "state", "programs", "readers", "carry", "model"},
     "writers": {"analysis", "state", "programs", "model"},
     "page": {"analysis", "state", "programs", "model", "writers"},

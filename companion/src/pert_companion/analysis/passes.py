@@ -9,8 +9,9 @@ duration or a lag by the clock, lasts in these units what it spans at its dates:
 3. `spans` counts the plan's working time in each task and in each lag at these moments, and `carry`
    writes that. The moments do not depend on how a deck counts them, so one round is enough.
 4. The curve is solved in units. At a chosen length `lasting_at` turns the units of each task back
-   into work of its own calendar, and `Passes` computes the dates again. Where a task spans more or
-   less there than at normal durations, its real end differs from the counted one; that is shown.
+   into work of its own calendar, and `Passes` computes the dates again.
+5. Where a task spans more or less there than the deck counts, `settling` counts the deck again at
+   these dates and solves it again, until the units stay.
 
 Moments are minutes. A task starts on a morning and ends on an evening; a milestone is at the moment
 for which it waits. A lag ends on an evening, a lead on a morning. Late dates are the latest that
@@ -25,7 +26,7 @@ from graphlib import CycleError, TopologicalSorter
 from pert_companion.analysis.latest import latest_of
 from pert_companion.model.calendar import Calendar
 from pert_companion.model.errors import InputError
-from pert_companion.model.logic import Lasting, Logic, LogicTie, Spans
+from pert_companion.model.logic import Lasting, Logic, LogicTie, Recount, Spans, TieWait
 from pert_companion.model.sidefile import SideFile, SideTask
 
 
@@ -116,6 +117,29 @@ class Passes:
         reached = self._reached(tie)
         since = self._plan.morning(self._logic.begin.date()) if tie.day else self._source(tie)
         return self._plan.between(since, reached)
+
+    def recount(self) -> Recount:
+        """Returns when tasks begin, and what ties wait, so that a deck can count these dates."""
+        done, begun = self._actual.finished, self._actual.begun
+        starts = {code: each.start for code, each in self.early.items() if code not in done}
+        first = self._plan.morning(self._logic.begin.date())
+        firsts = {}
+        for code in begun:
+            calendar = self._calendar(self._tasks[code].calendar)
+            firsts[code] = self._plan.between(first, calendar.add(self._logic.begin, 0))
+            starts[code] = max(starts[code], calendar.add(self._logic.begin, 0))
+        return Recount(starts, tuple(map(self._wait, self._logic.ties)), firsts)
+
+    def _wait(self, tie: LogicTie) -> TieWait | None:
+        """Returns how long a tie waits in working minutes of the plan's calendar."""
+        done, begun = self._actual.finished, self._actual.begun
+        if tie.task in done:
+            return None
+        has_happened = tie.before in done or (tie.is_from_start and tie.before in begun)
+        if tie.day is None and not has_happened:
+            return TieWait(self.lag_minutes(tie))
+        first = self._plan.morning(self._logic.begin.date())
+        return TieWait(self._plan.between(first, self._reached(tie)), since_start=True)
 
     def _in_order(self) -> list[str]:
         """Returns the codes of the tasks, each after those that it waits for."""

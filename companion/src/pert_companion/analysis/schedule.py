@@ -118,5 +118,7 @@ class Schedule:
     """The last day of work as the curve counts it, if that is not every task's real calendar."""
     calendars: str = ""
     """Which tasks have calendars of their own, and how the curve counts them, for people."""
+    counting: str = ""
+    """What counting it at its dates could not keep, for people; else an empty text."""
     broken: tuple[str, ...] = ()
     """A line for each latest date of a constraint, or of the contract, that it breaks."""

@@ -19,6 +19,7 @@ from pert_companion.analysis.real_dates import (
     in_plan_days,
 )
 from pert_companion.analysis.schedule import Schedule, ScheduledTask
+from pert_companion.analysis.settling import Settled, settled
 from pert_companion.analysis.total_float import SIXTHS, LateDates
 from pert_companion.model.cards import AccountCard, ActivityCard, EventCard, PieceCard
 from pert_companion.model.clock import Clock
@@ -39,12 +40,12 @@ def schedule_at(work: Work, length: int) -> Schedule:
     Raises `InputError` that says which lengths there are if this is none of them.
     """
     check_length(work, length)
-    return schedule_of(work, work.point(length))
+    return settled_schedule(settled(work, length))
 
 
 def normal_schedule(work: Work) -> Schedule:
     """Returns the schedule in which nothing is shortened."""
-    return schedule_of(work, work.normal)
+    return settled_schedule(settled(work, None))
 
 
 def chosen_schedule(work: Work, choice: LengthChoice) -> Schedule:
@@ -52,9 +53,23 @@ def chosen_schedule(work: Work, choice: LengthChoice) -> Schedule:
 
     Raises `InputError` or `ProgramError` if there is no such length.
     """
-    if choice.days is None and choice.by is None:
-        return schedule_of(work, work.optimum.point if choice.cheapest else work.normal)
-    return schedule_at(work, chosen_length(work, choice))
+    return settled_schedule(chosen_work(work, choice))
+
+
+def chosen_work(work: Work, choice: LengthChoice) -> Settled:
+    """Returns the work of the length that somebody chose, counted at the dates of its schedule.
+
+    Errors are those of `chosen_schedule`.
+    """
+    if choice.cheapest and work.side.logic is None:
+        return Settled(work, work.optimum.point)
+    is_normal = choice == LengthChoice()
+    return settled(work, None if is_normal else chosen_length(work, choice))
+
+
+def settled_schedule(found: Settled) -> Schedule:
+    """Returns the schedule of work that is counted at its dates."""
+    return replace(schedule_of(found.work, found.point), counting=found.text())
 
 
 def plan_schedule(state: ProjectState, choice: LengthChoice) -> Schedule:

@@ -133,7 +133,7 @@ class _Carrier:
         calendar = self.plan.calendar
         network = Network(self.codes, self.unit_name, self.unit_minutes, calendar)
         network.build(self.all_nodes, self.plan.start)
-        deck = _within_limits(self._with_progress(self._deck(network), network), network)
+        deck = within_limits(self._with_progress(self._deck(network), network), network)
         data = deck.to_bytes()
         side = side_file(self.plan, self.nodes, network, self.outline.groups, self.unit_minutes)
         side = replace(side, deck_name=deck_name, money_scale=self.money.scale)
@@ -327,7 +327,7 @@ def _check_days(plan: Plan) -> None:
             raise InputError(f"the {what} {day} is not in the years 1900 to 2198")
 
 
-def _within_limits(deck: Deck, network: Network) -> Deck:
+def within_limits(deck: Deck, network: Network) -> Deck:
     """Returns a deck of tasks, or its network if it has more tasks or links than such a deck may.
 
     Raises `InputError` that says why a plan is more than any deck can have.

@@ -3,6 +3,7 @@
 from collections.abc import Mapping, Sequence
 from dataclasses import dataclass
 from datetime import date
+from decimal import Decimal
 
 from pert_companion.carry.codes import one_line, path_of, title
 from pert_companion.carry.model import Node
@@ -10,12 +11,15 @@ from pert_companion.carry.network import Network
 from pert_companion.carry.progress import remaining_minutes
 from pert_companion.carry.ties import effective_constraint
 from pert_companion.model.calendar import Calendar
+from pert_companion.model.logic import OwnTime
 from pert_companion.model.losses import Loss, LossKind
 from pert_companion.model.plan import Constraint, ConstraintKind, Plan, Task
 from pert_companion.model.sidefile import SideFile, SideGroup, SideOwn, SideTask
 
 _NO_LATER_START = (ConstraintKind.START_NO_LATER, ConstraintKind.MUST_START)
 _NO_LATER_FINISH = (ConstraintKind.FINISH_NO_LATER, ConstraintKind.MUST_FINISH)
+_PLACES = 9
+"""The decimals of what shortening costs."""
 _KEPT = (*_NO_LATER_START, *_NO_LATER_FINISH, ConstraintKind.AS_LATE_AS_POSSIBLE)
 
 
@@ -81,8 +85,16 @@ class _SideTasks:
             constraint=task.constraint,
             deadline=task.deadline,
             baselines=task.baselines,
-            own=None if own is None else SideOwn(own.calendar.name, own.start),
+            own=None if own is None else _own(task, node, own),
         )
+
+
+def _own(task: Task, node: Node, own: OwnTime) -> SideOwn:
+    """Returns the entry of the calendar of a task, with the shortest duration that the deck has."""
+    if task.crash is None or node.shortening is None:
+        return SideOwn(own.calendar.name, own.start)
+    shortening = round(Decimal(node.shortening.numerator) / node.shortening.denominator, _PLACES)
+    return SideOwn(own.calendar.name, own.start, task.crash.minutes, shortening.normalize())
 
 
 def side_losses(plan: Plan) -> tuple[Loss, ...]:

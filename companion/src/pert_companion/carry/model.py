@@ -3,6 +3,7 @@
 from dataclasses import dataclass, field
 from datetime import date
 from enum import Enum
+from fractions import Fraction
 
 from pert_companion.model.logic import OwnTime
 from pert_companion.model.plan import Link, Task
@@ -55,6 +56,8 @@ class Node:
     estimates: tuple[int, int, int] = (0, 0, 0)
     cost: int = 0
     slope: int = 0
+    shortening: Fraction | None = None
+    """What its shortest duration costs more, in the currency; None if it is not shortened."""
     starts: list[Tie] = field(default_factory=list)
     finishes: list[Tie] = field(default_factory=list)
     after_start: list["Moment"] = field(default_factory=list)

@@ -71,6 +71,7 @@ class Money:
         if not 0 <= exact * self.scale <= MAX_SLOPE:
             self._refuse_crash(task, f"a slope of {float(exact):.10g} is not from 0 to {MAX_SLOPE}")
             return None
+        node.shortening = exact * (node.normal - crash)
         return self.whole(task, "slope", exact, MAX_SLOPE)
 
     def _refuse_crash(self, task: Task, why: str) -> None:

@@ -6,12 +6,14 @@ from dataclasses import dataclass
 from datetime import date
 from pathlib import Path
 
+from pert_companion.analysis.lengths import LengthChoice
 from pert_companion.analysis.performance import performance
 from pert_companion.analysis.schedule import Schedule
-from pert_companion.analysis.scheduling import in_one_piece, network_at
+from pert_companion.analysis.scheduling import chosen_work, in_one_piece, network_at
 from pert_companion.cli.choosing import (
     add_length_options,
     add_plan_option,
+    length_choice,
     programs_of,
     schedule_of_options,
 )
@@ -88,7 +90,7 @@ def run(options: argparse.Namespace) -> int:
     schedule = schedule_of_options(state, options)
     missing: list[str] = []
     if original is None:
-        data = _new_file(ending, state, schedule)
+        data = _new_file(ending, state, schedule, options)
     else:
         data, missing = _into(state, original, schedule)
     outputs.write(Output(options.output, kind, data))
@@ -181,7 +183,9 @@ def _into(state: ProjectState, original: _Original, schedule: Schedule) -> tuple
     return original.way.put(original.source.data, name, schedule, state.side)
 
 
-def _new_file(ending: str, state: ProjectState, schedule: Schedule) -> bytes:
+def _new_file(
+    ending: str, state: ProjectState, schedule: Schedule, options: argparse.Namespace
+) -> bytes:
     if ending == ".csv":
         return to_csv(schedule)
     if ending == ".ics":
@@ -190,22 +194,22 @@ def _new_file(ending: str, state: ProjectState, schedule: Schedule) -> bytes:
         links = real_links(state.deck, state.side)
         waits = first_day_waits(state.deck, state.side)
         return to_mspdi(schedule, state.side.calendar, links, waits, state.side.money_scale)
-    return to_xlsx(_workbook(state, schedule))
+    return to_xlsx(_workbook(state, schedule, length_choice(options)))
 
 
-def _workbook(state: ProjectState, schedule: Schedule) -> Workbooks:
+def _workbook(state: ProjectState, schedule: Schedule, choice: LengthChoice) -> Workbooks:
     """Returns what the workbook shows: curve and load are those of the work of the schedule."""
     plan = state.plan
-    work = plan if schedule.is_past_plan else state.rest
-    is_normal = schedule.length == work.longest
-    point = work.normal if is_normal else work.point(schedule.length)
+    counted = plan if schedule.is_past_plan else state.rest
+    chosen = chosen_work(counted, choice)
+    work, point = chosen.work, chosen.point
     period = load_period(work, schedule.length)
     network = network_at(work.counted_network, point)
     load = work.load(in_one_piece(network, work.side, point), period)
     is_measured = state.has_begun and bool(state.deck.accounts)
     return Workbooks(
         schedule,
-        work.curve,
+        counted.curve,
         plan.counted_network,
         plan.summary,
         plan.value,

@@ -90,6 +90,29 @@ class Spans:
     """The working minutes of the plan's calendar that each tie waits, in the order of the ties."""
 
 
+@dataclass(frozen=True)
+class TieWait:
+    """How long the end of a task waits for a tie at the dates of a schedule."""
+
+    minutes: int
+    """Working minutes of the plan's calendar, after the end that it is tied to."""
+    since_start: bool = False
+    """Whether they count from the first day, as of a day, or of what has happened before it."""
+
+
+@dataclass(frozen=True)
+class Recount:
+    """When tasks begin in a schedule, and what each tie waits, so that a deck can count them."""
+
+    starts: Mapping[str, datetime]
+    """The first moment of work of each task that is to come, by code."""
+    waits: tuple[TieWait | None, ...]
+    """In the order of the ties; None if the task has ended."""
+    first_waits: Mapping[str, int]
+    """The working minutes of the plan's calendar from the first day to the first work of tasks
+    under way, by code."""
+
+
 def first_moment(calendar: Calendar, day: date) -> datetime:
     """Returns when work may begin on a day: with the first shift, or on a free day as on others."""
     weeks = [shifts for shifts in (calendar.shifts_on(day), *calendar.week) if shifts]

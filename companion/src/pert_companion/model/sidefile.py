@@ -40,6 +40,10 @@ class SideOwn:
     """Its name among the calendars of the logic."""
     start: datetime
     """The moment from which the units of the deck count its work."""
+    shortest: int | None = None
+    """Its shortest duration in minutes of work; None if it is not shortened."""
+    shortening: Decimal | None = None
+    """What shortening it to that costs, in the currency."""
 
 
 @dataclass(frozen=True)
@@ -263,6 +267,9 @@ def _task_json(task: SideTask) -> dict[str, Any]:
     if task.own is not None:
         start = task.own.start.isoformat(timespec="minutes")
         content["own"] = {"calendar": task.own.calendar, "start": start}
+        if task.own.shortest is not None:
+            content["own"]["shortest"] = task.own.shortest
+            content["own"]["shortening"] = _decimal_text(task.own.shortening)
     if task.baselines:
         content["baselines"] = [_baseline_json(baseline) for baseline in task.baselines]
     return content
@@ -405,7 +412,12 @@ def _own(fields: strict.Fields) -> SideOwn | None:
     if not fields.has("own"):
         return None
     entry = fields.inner("own")
-    own = SideOwn(entry.text("calendar"), entry.moment("start"))
+    own = SideOwn(
+        entry.text("calendar"),
+        entry.moment("start"),
+        entry.optional_integer("shortest", 0, MAX_MINUTES),
+        entry.optional_decimal("shortening"),
+    )
     entry.end()
     return own
 

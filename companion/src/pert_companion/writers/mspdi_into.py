@@ -14,6 +14,7 @@ from xml.etree.ElementTree import Element
 
 from pert_companion.analysis.schedule import Schedule, ScheduledTask
 from pert_companion.model import moments
+from pert_companion.model.calendar import Calendar
 from pert_companion.model.errors import InputError
 from pert_companion.model.sidefile import SideFile
 from pert_companion.model.xmltree import decimal, whole
@@ -73,6 +74,7 @@ class _Change:
     def __init__(self, xml: XmlFile, side: SideFile) -> None:
         self.xml = xml
         self.calendar = side.calendar
+        self.own = {task.uid: side.calendar_of(task) for task in side.tasks if task.own is not None}
         self.scale = Fraction(CENTS, side.money_scale)
         root = xml.root
         self.elements = list(root.iterfind(f"{name_of('Tasks')}/{name_of('Task')}"))
@@ -101,11 +103,15 @@ class _Change:
         else:
             self.set(element, tag, text)
 
-    def put_moment(self, element: Element, tag: str, moment: datetime) -> None:
-        """Sets a moment, unless the file has another one with no work between them."""
-        before = moments.moment(_text(element, tag))
-        position = self.calendar.position(moment)
-        if before is None or self.calendar.position(before) != position:
+    def put_moment(
+        self, element: Element, tag: str, moment: datetime, own: Calendar | None = None
+    ) -> None:
+        """Sets a moment, unless the file has another one with no work between them.
+
+        `own` is the calendar of a task that has one.
+        """
+        before, calendar = moments.moment(_text(element, tag)), own or self.calendar
+        if before is None or calendar.position(before) != calendar.position(moment):
             self.set(element, tag, moment_text(moment))
 
     def put(self, element: Element, task: ScheduledTask) -> None:
@@ -115,15 +121,15 @@ class _Change:
         if task.shortened_minutes:
             self.shorten(element, task)
         elements = [element, *self.assigned.get(task.uid, ())]
-        begun = moments.moment(_text(element, "ActualStart"))
+        begun, own = moments.moment(_text(element, "ActualStart")), self.own.get(task.uid)
         for each in elements:
             if begun is None:
                 for tag in ("Start", "EarlyStart", "ManualStart"):
-                    self.put_moment(each, tag, task.start)
+                    self.put_moment(each, tag, task.start, own)
             for tag in ("Finish", "EarlyFinish", "ManualFinish"):
-                self.put_moment(each, tag, task.finish)
+                self.put_moment(each, tag, task.finish, own)
         if begun is not None and task.left_start is not None:
-            self.put_moment(element, "Resume", task.left_start)
+            self.put_moment(element, "Resume", task.left_start, own)
 
     def shorten(self, element: Element, task: ScheduledTask) -> None:
         """Gives a task its chosen duration, and what goes with it."""
@@ -131,8 +137,8 @@ class _Change:
         if before is None:
             before = task.normal_minutes
         self.lasted[task.uid] = before
-        lasting = max(0, before - task.shortened_minutes)
-        if whole(_text(element, "DurationFormat")) in ELAPSED:
+        lasting = max(0, before - _saved(task, before))
+        if whole(_text(element, "DurationFormat")) in ELAPSED and not task.calendar:
             lasting = task.chosen_minutes
             self.set(element, "DurationFormat", str(IN_DAYS))
         left_before, left = _left(element, before, before - lasting)
@@ -253,6 +259,16 @@ class _Change:
                 span = max(0, self.calendar.between(start, finish))
                 if minutes_of(_text(element, "Duration")) != span:
                     self.set(element, "Duration", duration_text(span))
+
+
+def _saved(task: ScheduledTask, before: int) -> int:
+    """Returns the minutes by which a task is shorter that lasted so many before.
+
+    Those of a task with a calendar of its own are minutes of that.
+    """
+    if not task.calendar or not task.normal_minutes:
+        return task.shortened_minutes
+    return round(Fraction(task.shortened_minutes * before, task.normal_minutes))
 
 
 def _left(element: Element, before: int, less: int) -> tuple[int, int]:

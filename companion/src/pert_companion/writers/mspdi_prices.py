@@ -11,7 +11,12 @@ from pert_companion.model.sidefile import SideFile
 from pert_companion.model.xmltree import decimal
 from pert_companion.state.remaining import State
 from pert_companion.writers.mspdi_elements import duration_text, minutes_of, name_of
-from pert_companion.writers.price_fields import cost_at_shortest, number_text, shortest_of_begun
+from pert_companion.writers.price_fields import (
+    cost_at_shortest,
+    keeps_cost_at_shortest,
+    number_text,
+    shortest_of_begun,
+)
 
 _CENTS = 100
 _COST_FIELDS = ("cost", "kosten")
@@ -48,6 +53,8 @@ class Prices:
             setter.set(shortest, "Value", duration_text(least))
         cost = next(self._fields(element, COST_NAMES), None)
         if cost is None or least is None or any(True for _ in self._fields(element, SLOPE_NAMES)):
+            return
+        if keeps_cost_at_shortest(task):
             return
         total = Fraction(decimal(_text(element, "Cost")) or 0) / _CENTS
         amount = cost_at_shortest(task, self.side, total, lasting, least)

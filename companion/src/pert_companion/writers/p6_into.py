@@ -20,6 +20,7 @@ from pert_companion.writers.p6_fields import EXPENSE_NAME, Names
 from pert_companion.writers.price_fields import (
     cost_at_shortest,
     duration_like,
+    keeps_cost_at_shortest,
     number_text,
     shortest_of_begun,
 )
@@ -98,6 +99,7 @@ class _Change:
         self.original = original
         self.names = original.names
         self.side = side
+        self.own = {task.uid: side.calendar_of(task) for task in side.tasks}
         self.expenses = {uid: list(rows) for uid, rows in original.expenses.items()}
         self.is_shortened = any(task.shortened_minutes for task in schedule.tasks)
 
@@ -126,12 +128,13 @@ class _Change:
         self.put_moments(row, names.finish, task.finish, task)
         if not self.is_shortened:
             return
-        calendar, slack = self.side.calendar, task.total_float_minutes
+        calendar, slack = self.own[task.uid], self.own_minutes(task, task.total_float_minutes)
         late_start = calendar.add(left_start, slack)
         late_finish = calendar.end_of(task.finish, slack)
         self.put_moments(row, names.late_start, late_start, task)
         self.put_moments(row, names.late_finish, late_finish, task)
-        self.put_numbers(row, names.total_float, slack * self.share_of(row, task) / _HOUR)
+        hours = task.total_float_minutes * self.share_of(row, task) / _HOUR
+        self.put_numbers(row, names.total_float, hours)
 
     def has_begun(self, row: Row) -> bool:
         """Says whether an activity is under way."""
@@ -144,7 +147,7 @@ class _Change:
 
         The moment of a start milestone is a morning.
         """
-        calendar = self.side.calendar
+        calendar = self.side.calendar if task is None else self.own[task.uid]
         position = calendar.position(moment)
         is_start = task is not None and task.is_milestone
         if is_start and row.text(self.names.type) == self.names.start_milestone:
@@ -176,6 +179,13 @@ class _Change:
         if not planned or not task.normal_minutes:
             return Fraction(1)
         return planned * _HOUR / task.normal_minutes
+
+    def own_minutes(self, task: ScheduledTask, minutes: int) -> int:
+        """Returns minutes of the plan's days as those of as many days of the task's calendar."""
+        if not task.calendar:
+            return minutes
+        own, plan = self.own[task.uid], self.side.calendar
+        return round(Fraction(minutes * own.day_minutes, plan.day_minutes))
 
     def shorten(self, row: Row, task: ScheduledTask) -> None:
         """Gives an activity its chosen duration, and what goes with it."""
@@ -296,10 +306,11 @@ class _Change:
         least = task.shortest_minutes
         if self.has_begun(row):
             least = shortest_of_begun(task, lasting, self.side.unit_minutes)
-            text = duration_like(self.user_text(shortest), least, self.side.calendar)
+            minutes, calendar = self.own_minutes(task, least), self.own[task.uid]
+            text = duration_like(self.user_text(shortest), minutes, calendar)
             self.put_user(shortest, text)
         cost = _first(values, COST_NAMES)
-        if cost is None or _first(values, SLOPE_NAMES) is not None:
+        if cost is None or _first(values, SLOPE_NAMES) is not None or keeps_cost_at_shortest(task):
             return
         total = sum(self.costs_of(task.uid), Fraction(0))
         amount = cost_at_shortest(task, self.side, total, lasting, least)

@@ -2,7 +2,8 @@
 
 The shortest duration and the price of a day have to be what they were. A slope stays. A cost at the
 shortest duration counts from the new cost. The shortest duration of work under way is one of the
-complete task, from which what is left is computed by its share.
+complete task, from which what is left is computed by its share. A task with a calendar of its own
+has its times in minutes of that.
 """
 
 import re
@@ -22,6 +23,8 @@ def shortest_of_begun(task: ScheduledTask, lasting: int, unit_minutes: int) -> i
     What is left of it can be as short as it was: its share of what is left, rounded up to units,
     and shorter by no more than the complete task can become.
     """
+    if task.calendar:
+        return task.shortest_minutes * lasting // max(1, task.left_minutes)
     units = -(-lasting // unit_minutes)
     left = task.left_minutes // unit_minutes
     shortest = task.shortest_minutes // unit_minutes
@@ -38,6 +41,14 @@ def cost_at_shortest(
     """
     units = -(-lasting // side.unit_minutes) - -(-shortest // side.unit_minutes)
     return cost + Fraction(units * task.slope, side.money_scale)
+
+
+def keeps_cost_at_shortest(task: ScheduledTask) -> bool:
+    """Says whether a cost at the shortest duration stays as it is.
+
+    The price of a day of a task with a calendar of its own is spread over what is left to gain.
+    """
+    return bool(task.calendar)
 
 
 def duration_like(text: str, minutes: int, calendar: Calendar) -> str:

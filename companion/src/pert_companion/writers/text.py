@@ -96,7 +96,7 @@ def _calendars(schedule: Schedule) -> list[str]:
     counted = schedule.counted_end
     if counted is not None and schedule.rest_of is None and counted != schedule.end:
         lines.append(f"by the real calendars it ends on {schedule.end}; as counted, on {counted}")
-    return lines
+    return [*lines, schedule.counting] if schedule.counting else lines
 
 
 def _money(amount: int, schedule: Schedule, options: TableOptions) -> str:
