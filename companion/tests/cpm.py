@@ -88,6 +88,31 @@ def dates_of(plan: Plan, durations: Mapping[str, int] | None = None) -> dict[str
     }
 
 
+def as_late(plan: Plan, dates: Mapping[str, Dates]) -> dict[str, Dates]:
+    """Returns dates in which tasks that are to be late wait as long as they delay no other."""
+    minutes = {task.uid: task.minutes for task in plan.tasks()}
+    early = {uid: each.start for uid, each in dates.items()}
+    links = [fixed_lag(plan.calendar, link, early, minutes) for link in plain_links(plan, minutes)]
+    late = {task.uid for task in plan.tasks() if is_as_late(task)}
+    end = max(each.finish for each in dates.values())
+    held = {uid: end - minutes[uid] if uid in late else early[uid] for uid in early}
+    into_late = [link for link in links if link.predecessor in late]
+    for _ in range(len(held) + 2):
+        if not any([push_back(link, held, minutes) for link in into_late]):
+            break
+    moved = {}
+    for uid, each in dates.items():
+        start = max(each.start, held[uid])
+        moved[uid] = Dates(start, start + minutes[uid], each.late_start, each.late_finish)
+    return moved
+
+
+def is_as_late(task: Task) -> bool:
+    """Says whether a task is to be done as late as possible."""
+    kind = None if task.constraint is None else task.constraint.kind
+    return kind is ConstraintKind.AS_LATE_AS_POSSIBLE
+
+
 def latest_start(plan: Plan, task: Task, end: int, minutes: Mapping[str, int]) -> int:
     """Returns the latest start of a task by itself: of the project's end, and of its constraint."""
     calendar, constraint = plan.calendar, task.constraint

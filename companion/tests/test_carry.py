@@ -4,7 +4,7 @@ from dataclasses import dataclass, replace
 from datetime import timedelta
 from decimal import Decimal
 
-from cpm import Dates, dates_of
+from cpm import Dates, as_late, dates_of
 from examples import example_count
 from hypothesis import HealthCheck, assume, given, settings
 from hypothesis import strategies as st
@@ -108,7 +108,7 @@ def test_late_dates_are_those_of_the_calendar(plan: Plan) -> None:
     """Every task has the total float of a plain CPM, if no link has a lead."""
     carried = carry(plan)
     assume(has_exact_links(carried))
-    dates = early_dates(plan)
+    dates = as_late(plan, early_dates(plan))
     for task in normal_schedule(ProjectState(PROGRAMS, carried.deck, carried.side).plan).tasks:
         assert task.total_float_minutes == dates[task.uid].total_float, task.uid
         assert task.is_critical == (dates[task.uid].total_float <= 0), task.uid

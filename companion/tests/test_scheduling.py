@@ -4,14 +4,17 @@ from dataclasses import replace
 from datetime import date
 from decimal import Decimal
 
+from cpm import as_late
 from hypothesis import assume, given
 from plans import Feature, plans
 from test_carry import DATES, PROGRAMS, early_dates, has_exact_links, property_settings
 
+from pert_companion.analysis.as_late import delays
 from pert_companion.analysis.earned_value import measured_packages
 from pert_companion.analysis.measuring import all_pieces, planned_values
 from pert_companion.analysis.money import money
-from pert_companion.analysis.scheduling import in_one_piece, normal_schedule, span
+from pert_companion.analysis.scheduling import in_one_piece, normal_schedule
+from pert_companion.analysis.spanning import span
 from pert_companion.carry import carry
 from pert_companion.model.calendar import Calendar
 from pert_companion.model.plan import Lag, Link, LinkKind, Plan, Task
@@ -51,7 +54,7 @@ def test_tasks_have_the_dates_of_the_calendar(plan: Plan) -> None:
     """Each real task begins and ends on the days of a CPM over tasks in one piece."""
     carried = carry(plan)
     assume(has_exact_links(carried))
-    dates = early_dates(plan)
+    dates = as_late(plan, early_dates(plan))
     network = PROGRAMS.network(carried.deck)
     point = PROGRAMS.normal(network)
     held = in_one_piece(network, carried.side, point)
@@ -59,9 +62,10 @@ def test_tasks_have_the_dates_of_the_calendar(plan: Plan) -> None:
     begins = {card.code: again.events[card.begins] for card in held.activities}
     cards = {card.code: card for card in network.activities}
     assert (again.length, again.cost) == (point.length, point.cost)
+    late = delays(network, carried.side, point.events, point.durations)
     for entry in carried.side.tasks:
         start, _ = span(entry, cards, point.events, point.durations)
-        assert begins[entry.parts[0]] == start, entry.code
+        assert begins[entry.parts[0]] == start + late.get(entry.code, 0), entry.code
     for task in normal_schedule(ProjectState(PROGRAMS, carried.deck, carried.side).plan).tasks:
         if not task.is_milestone:
             assert task.start.date() == dates[task.uid].first_day(plan.calendar), task.uid

@@ -37,7 +37,8 @@ from pert_companion.analysis.measuring import (
     measured_like,
     time_of_value,
 )
-from pert_companion.analysis.scheduling import span
+from pert_companion.analysis.as_late import delays
+from pert_companion.analysis.spanning import span
 from pert_companion.model.cards import ActivityCard, TaskCard
 from pert_companion.model.clock import Clock
 from pert_companion.model.deck import Deck, leaves
@@ -336,15 +337,22 @@ def _rules_of_items(state: ProjectState) -> dict[str, PackageRule]:
 
 def planned_tasks(baseline: ProjectState) -> dict[str, Planned]:
     """Returns the tasks of the baseline in its schedule at normal durations, by code."""
-    point = baseline.plan.normal
-    cards = {card.code: card for card in baseline.plan.network.activities}
-    return {task.code: _planned(task, cards, point) for task in baseline.side.tasks}
+    point, network = baseline.plan.normal, baseline.plan.network
+    cards = {card.code: card for card in network.activities}
+    late = delays(network, baseline.side, point.events, point.durations)
+    return {
+        task.code: _planned(task, cards, point, late.get(task.code, 0))
+        for task in baseline.side.tasks
+    }
 
 
-def _planned(task: SideTask, cards: Mapping[str, ActivityCard], point: Point) -> Planned:
+def _planned(
+    task: SideTask, cards: Mapping[str, ActivityCard], point: Point, delay: int
+) -> Planned:
     parts = [cards[part] for part in task.parts]
     cost = Fraction(sum(card.cost for card in parts))
-    return Planned(parts[0].item, cost, *span(task, cards, point.events, point.durations))
+    start, finish = span(task, cards, point.events, point.durations)
+    return Planned(parts[0].item, cost, start + delay, finish + delay)
 
 
 def done_shares(current: ProjectState) -> dict[str, Fraction]:

@@ -18,7 +18,7 @@ for which it waits. A lag ends on an evening, a lead on a morning. Late dates ar
 keep the end of the project.
 """
 
-from collections.abc import Callable, Iterable, Mapping
+from collections.abc import Callable, Collection, Iterable, Mapping
 from dataclasses import dataclass, field
 from datetime import datetime
 from graphlib import CycleError, TopologicalSorter
@@ -92,13 +92,25 @@ class Passes:
         for code in reversed(self._order):
             self._late[code] = self._late_start(self._tasks[code])
 
+    def as_late(self, codes: Collection[str]) -> dict[str, Moments]:
+        """Returns the early dates, in which these tasks wait as long as they delay no other."""
+        held = dict(self.early)
+        for code in reversed(self._order):
+            if code in codes:
+                start = max(held[code].start, self._late_start(self._tasks[code], held))
+                held[code] = self._from(self._tasks[code], start)
+        return held
+
     def minutes(self, code: str) -> int:
         """Returns how many working minutes of its own calendar a task takes."""
         return self._tasks[code].minutes
 
     def late(self, code: str) -> Moments:
         """Returns the late dates of a task."""
-        task, start = self._tasks[code], self._late[code]
+        return self._from(self._tasks[code], self._late[code])
+
+    def _from(self, task: Lasting, start: datetime) -> Moments:
+        """Returns when a task is done that begins at a moment."""
         if not task.minutes:
             return Moments(start, start)
         calendar = self._calendar(task.calendar)
@@ -204,8 +216,11 @@ class Passes:
             return calendar.add(bound, 0)
         return _end_after(calendar, calendar.position(bound), bound)
 
-    def _late_start(self, task: Lasting) -> datetime:
-        """Returns the latest moment at which a task may start; a done one cannot be later."""
+    def _late_start(self, task: Lasting, held: Mapping[str, Moments] | None = None) -> datetime:
+        """Returns the latest moment at which a task may start; a done one cannot be later.
+
+        `held` are the dates that others keep; without it they keep their late dates.
+        """
         if task.code in self._actual.finished:
             return self._actual.finished[task.code].start
         bounds, code = self._latest, task.code
@@ -214,9 +229,9 @@ class Passes:
         finishes += [bounds.finishes[code]] if code in bounds.finishes else []
         for tie in self._ties_from.get(task.code, ()):
             if tie.is_from_start and task.code not in self._actual.begun:
-                starts.append(self._latest_source(tie))
+                starts.append(self._latest_source(tie, held))
             elif not tie.is_from_start:
-                finishes.append(self._latest_source(tie))
+                finishes.append(self._latest_source(tie, held))
         if not task.minutes:
             return min(starts + finishes)
         calendar = self._calendar(task.calendar)
@@ -225,9 +240,9 @@ class Passes:
             latest = min(latest, _last_start(calendar, min(starts)))
         return calendar.at(latest)
 
-    def _latest_source(self, tie: LogicTie) -> datetime:
-        """Returns the latest moment of the end before a tie that keeps the late dates after it."""
-        moments = self.late(tie.task)
+    def _latest_source(self, tie: LogicTie, held: Mapping[str, Moments] | None) -> datetime:
+        """Returns the latest moment of the end before a tie that keeps the dates after it."""
+        moments = self.late(tie.task) if held is None else held[tie.task]
         latest = moments.start if tie.is_to_start else moments.finish
         if not tie.lag:
             return latest

@@ -4,6 +4,7 @@ from collections.abc import Mapping
 from dataclasses import replace
 from datetime import date, datetime, timedelta
 
+from pert_companion.analysis.as_late import is_as_late
 from pert_companion.analysis.passes import Passes, passes_at
 from pert_companion.analysis.schedule import ScheduledTask
 from pert_companion.model.calendar import Calendar
@@ -62,6 +63,9 @@ class RealDates:
         """Takes the durations of the cards in units, by code, and the moment of the contract."""
         self.passes: Passes = passes_at(side, durations, end)
         self._side = side
+        late = {task.code for task in side.tasks if is_as_late(task)}
+        self.dates = self.passes.as_late(late)
+        """The dates of each task, by code."""
 
     @property
     def end(self) -> date:
@@ -74,8 +78,9 @@ class RealDates:
         Durations and float of a task with a calendar of its own are days of that.
         """
         side, code = self._side, entry.code
-        moments, calendar = self.passes.early[code], side.calendar_of(entry)
-        slack = in_plan_days(side, entry, self.passes.total_float(code))
+        moments, calendar = self.dates[code], side.calendar_of(entry)
+        own = calendar.between(moments.start, self.passes.late(code).start)
+        slack = in_plan_days(side, entry, own)
         task = replace(
             task,
             start=moments.start,

@@ -11,6 +11,7 @@ from datetime import date, datetime
 
 from pert_companion.analysis.actuals import Actuals
 from pert_companion.analysis.lengths import LengthChoice, check_length, chosen_length, next_step
+from pert_companion.analysis.as_late import delays
 from pert_companion.analysis.latest import broken_lines, contract_end, contract_line
 from pert_companion.analysis.real_dates import (
     RealDates,
@@ -20,6 +21,7 @@ from pert_companion.analysis.real_dates import (
 )
 from pert_companion.analysis.schedule import Schedule, ScheduledTask
 from pert_companion.analysis.settling import Settled, settled
+from pert_companion.analysis.spanning import span
 from pert_companion.analysis.total_float import SIXTHS, LateDates
 from pert_companion.model.cards import AccountCard, ActivityCard, EventCard, PieceCard
 from pert_companion.model.clock import Clock
@@ -198,16 +200,17 @@ def normal_dates(work: Work) -> tuple[TaskDates, ...]:
     It asks for no curve and no float: it is what an import compares with its file, and what a
     forecast compares with a baseline.
     """
-    point = work.normal
-    if work.side.logic is not None:
-        return _real_dates(work.side, point)
+    point, side = work.normal, work.side
+    if side.logic is not None:
+        return _real_dates(side, point)
     cards = {card.code: card for card in work.network.activities}
-    return tuple(_dates(work, task, cards, point) for task in work.side.tasks)
+    late = delays(work.network, side, point.events, point.durations)
+    return tuple(_dates(work, task, cards, point, late.get(task.code, 0)) for task in side.tasks)
 
 
 def _real_dates(side: SideFile, point: results.Point) -> tuple[TaskDates, ...]:
     """Returns the dates of the tasks of a plan that has a logic."""
-    early = RealDates(side, point.durations).passes.early
+    early = RealDates(side, point.durations).dates
     return tuple(
         TaskDates(task.code, early[task.code].start, early[task.code].finish, task.minutes == 0)
         for task in side.tasks
@@ -215,11 +218,15 @@ def _real_dates(side: SideFile, point: results.Point) -> tuple[TaskDates, ...]:
 
 
 def _dates(
-    work: Work, task: SideTask, cards: Mapping[str, ActivityCard], point: results.Point
+    work: Work,
+    task: SideTask,
+    cards: Mapping[str, ActivityCard],
+    point: results.Point,
+    delay: int,
 ) -> TaskDates:
     start, finish = span(task, cards, point.events, point.durations)
     is_work = any(point.durations[part] for part in task.parts)
-    begins, ends = moments(work.clock, start, finish, is_work)
+    begins, ends = moments(work.clock, start + delay, finish + delay, is_work)
     return TaskDates(task.code, begins, ends, task.normal == 0)
 
 
@@ -234,26 +241,6 @@ def moments(clock: Clock, start: int, finish: int, is_work: bool) -> tuple[datet
     return clock.begin_moment(start), clock.end_moment(finish)
 
 
-def span(
-    task: SideTask,
-    cards: Mapping[str, ActivityCard],
-    events: Mapping[str, int],
-    durations: Mapping[str, int],
-) -> tuple[int, int]:
-    """Returns when a task begins and ends, in units after the start.
-
-    A task whose end waits for another one is done in one piece, as late as that allows, unless its
-    start moment ties its beginning. `cards` are those of the network, `events` its early times.
-    """
-    last = cards[task.parts[-1]]
-    finish = events[last.begins] + durations[last.code]
-    if task.finish_moment is not None:
-        finish = events[cards[task.finish_moment].begins]
-        if task.start_moment is None:
-            return finish - sum(durations[part] for part in task.parts), finish
-    return events[cards[task.parts[0]].begins], finish
-
-
 def in_one_piece(network: Deck, side: SideFile, point: results.Point) -> Deck:
     """Returns a network in which tasks begin when `span` says, so that money and work come then.
 
@@ -264,10 +251,11 @@ def in_one_piece(network: Deck, side: SideFile, point: results.Point) -> Deck:
     network = with_costs_over_parts(network, side)
     cards = {card.code: card for card in network.activities}
     waits: list[ActivityCard] = []
+    late = delays(network, side, point.events, point.durations)
     for task in side.tasks:
         first = cards[task.parts[0]]
         start, _ = span(task, cards, point.events, point.durations)
-        units = start - point.events[first.begins]
+        units = start + late.get(task.code, 0) - point.events[first.begins]
         if units > 0:
             code = f"_h{len(waits)}"
             days = (units,) * 5
@@ -337,6 +325,7 @@ class _Builder:
         self.late = LateDates(network, side, point.durations, times)
         self.activities = {card.code: card for card in network.activities}
         self.early = {code: event.early // SIXTHS for code, event in times.events.items()}
+        self.delays = delays(network, side, self.early, point.durations)
         self.links = real_links(deck, side)
         self.unit = "d" if side.unit_minutes == side.calendar.day_minutes else "u"
         self.resources = _resource_names(deck)
@@ -363,6 +352,8 @@ class _Builder:
         cards = self.activities
         chosen = sum(self.point.durations[part] for part in task.parts)
         start, finish = span(task, self.activities, self.early, self.point.durations)
+        start += self.delays.get(task.code, 0)
+        finish += self.delays.get(task.code, 0)
         slack = self.late.total_float(task, start * SIXTHS, finish * SIXTHS)
         begins, ends = moments(self.clock, start, finish, chosen > 0)
         links = self.links.get(task.code, [])

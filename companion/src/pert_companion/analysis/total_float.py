@@ -70,17 +70,18 @@ class LateDates:
     def _bound(self, task: SideTask) -> None:
         """Lets a task begin by its latest dates, and all before it end in time."""
         latest = latest_of(self._side, task)
+        work = sum(self._lasting[part] for part in task.parts)
         starts: list[Time] = []
         if latest.start is not None:
             starts.append(self._time_of(latest.start))
         if latest.finish is not None:
-            finish = self._time_of(latest.finish)
-            starts.append(finish - sum(self._lasting[part] for part in task.parts))
-            if task.finish_moment is not None:
-                self._lower(self._cards[task.finish_moment].begins, finish)
-        if starts:
-            self._latest[task.code] = min(starts)
-            self._lower(self._cards[task.start_moment or task.parts[0]].begins, min(starts))
+            starts.append(self._time_of(latest.finish) - work)
+        if not starts:
+            return
+        self._latest[task.code] = min(starts)
+        self._lower(self._cards[task.start_moment or task.parts[0]].begins, min(starts))
+        if task.finish_moment is not None:
+            self._lower(self._cards[task.finish_moment].begins, min(starts) + work)
 
     def _time_of(self, moment: datetime) -> Time:
         """Returns the time of a moment."""
