@@ -10,6 +10,7 @@ import pytest
 
 from pert_companion import readers
 from pert_companion.carry import carry
+from pert_companion.model import xmltree
 from pert_companion.model.errors import InputError
 from pert_companion.model.plan import Plan
 from pert_companion.model.source import Source
@@ -214,6 +215,29 @@ def test_a_spreadsheet_of_libreoffice() -> None:
             book.writestr("mimetype", kind)
             book.writestr("content.xml", "<office:document-content/>", zipfile.ZIP_DEFLATED)
         assert line in fault(packed.getvalue())
+
+
+@pytest.mark.parametrize("name", XML)
+def test_many_elements(name: str, monkeypatch: pytest.MonkeyPatch) -> None:
+    """Elements that would be kept are counted, also those of no meaning; they have a bound."""
+    data = WRITERS[name](sample_plan())
+    root = data.rindex(b"</")
+    with_more = data[:root] + b"<a/>" * 5_000 + data[root:]
+    read(with_more)
+    monkeypatch.setattr(xmltree, "MOST_ELEMENTS", 5_000)
+    assert "more than 5000 elements" in fault(with_more)
+    read(data)
+
+
+@pytest.mark.parametrize("name", XML)
+def test_a_tag_with_many_attributes(name: str) -> None:
+    """A tag that is as long as the file is refused before it is parsed."""
+    data = WRITERS[name](sample_plan())
+    root = data.rindex(b"</")
+    attributes = b" ".join(b'a%d=""' % number for number in range(150_000))
+    assert "a tag of more than a million bytes" in fault(
+        data[:root] + b"<a " + attributes + b"/>" + data[root:]
+    )
 
 
 @pytest.mark.parametrize("name", ("gan", "gnome_planner"))

@@ -35,6 +35,8 @@ class Codes:
 
     def __init__(self) -> None:
         self._taken: set[str] = set()
+        self._numbers: dict[tuple[str, str], int] = {}
+        """The last number that was tried for a base and a suffix; lower ones are taken."""
 
     def is_free(self, code: str) -> bool:
         """Says whether nobody has the code."""
@@ -48,11 +50,12 @@ class Codes:
     def make(self, base: str, suffix: str = "") -> str:
         """Returns a free code of a base and a suffix, with a number between them if need be."""
         code = base[: MAX_LENGTH - len(suffix)].rstrip("-._") + suffix
-        number = 1
+        number = self._numbers.get((base, suffix), 1)
         while not self.is_free(code):
             number += 1
             ending = f"-{number}{suffix}"
             code = base[: MAX_LENGTH - len(ending)].rstrip("-._") + ending
+        self._numbers[base, suffix] = number
         return self.take(code)
 
 
@@ -76,11 +79,19 @@ def shortened(text: str) -> str:
     its last letter until they fit; words with digits stay as long as others have letters to lose.
     """
     words = [_Word(word) for word in words_of(text)[:8]]
-    while sum(word.length for word in words) + len(words) - 1 > MAX_LENGTH:
-        at = max(range(len(words)), key=lambda index: (words[index].letters_to_lose, index))
-        words[at].length -= 1
+    excess = _excess(words)
+    while excess > 0:
+        *others, longest = sorted(words, key=_Word.letters_to_lose)
+        lead = longest.letters_to_lose() - others[-1].letters_to_lose() if others else excess
+        longest.lose(max(1, min(lead, excess)))
         words = [word for word in words if word.length]
+        excess = _excess(words)
     return "-".join(word.text[: word.length] for word in words).rstrip(".")
+
+
+def _excess(words: Sequence["_Word"]) -> int:
+    """Returns how many letters a code of these words has too many."""
+    return sum(word.length for word in words) + len(words) - 1 - MAX_LENGTH
 
 
 class _Word:
@@ -94,11 +105,17 @@ class _Word:
         if self._first_digit is None:  # such a word never keeps more
             self.length = min(self.length, MAX_LENGTH)
 
-    @property
     def letters_to_lose(self) -> int:
         """Returns how ready the word is to lose a letter; one with digits comes last."""
-        has_digit = self._first_digit is not None and self._first_digit < self.length
-        return self.length - (100 if has_digit else 0)
+        return self.length - (100 if self._digits() else 0)
+
+    def lose(self, letters: int) -> None:
+        """Takes so many letters off the end, or fewer: those from the first digit on, or all."""
+        self.length -= min(letters, self._digits() or self.length)
+
+    def _digits(self) -> int:
+        """Returns how many characters are left from the first digit on."""
+        return 0 if self._first_digit is None else max(0, self.length - self._first_digit)
 
 
 def task_codes(plan: Plan, codes: Codes) -> tuple[dict[str, str], list[str]]:

@@ -1,38 +1,62 @@
 """Reads XML files that may be hostile, for the readers of planners' formats."""
 
-from collections.abc import Iterator, Mapping
+import re
+from collections.abc import Callable, Iterator, Mapping
 from decimal import Decimal, InvalidOperation
+from functools import cached_property
 from io import BytesIO
 from xml.etree.ElementTree import Element, ParseError
 
 from defusedxml import DefusedXmlException
-from defusedxml.ElementTree import fromstring, iterparse
+from defusedxml.ElementTree import iterparse
 
 from pert_companion.model.errors import InputError
 from pert_companion.model.source import Source
 
 MOST_BYTES = 256_000_000
+MOST_ELEMENTS = 4_000_000
+"""The elements of a file that are kept: 200 for each of the most tasks that a reader takes."""
 MOST_TEXT = 100_000
 """The longest text of an element that is read."""
 MOST_DIGITS = 15
 DECIMALS = 6
 """The decimals of a number that count; those after them are the noise of binary fractions."""
 
+_CHUNK = 4 * 1024 * 1024
+"""The bytes that are parsed at once. After each, a tag that has not ended is parsed again."""
+_LONG_TAG = re.compile(rb"<[^<>]{1000000}")
+"""A tag of more than a million bytes: it would have as many attributes."""
+
 Unread = Mapping[str, frozenset[str]]
 """For names of elements the names of the children that a reader never looks at."""
+NOTHING_UNREAD: Unread = {}
 
 
-def parse(source: Source, unread: Unread | None = None) -> Element:
+def parse(source: Source, unread: Unread = NOTHING_UNREAD) -> Element:
     """Returns the root element, or raises `InputError` if the file is no harmless XML.
 
-    Document types and entities are refused: they are how a small file becomes a large one. What
-    `unread` names is let go while the file is read, and so is the white space between elements: it
-    is most of a large file. An original that is written back is parsed without `unread`.
+    Document types and entities are refused: they are how a small file becomes a large one. So are
+    files of which more than `MOST_ELEMENTS` would be kept. What `unread` names is let go while the
+    file is read, and so is the white space between elements: it is most of a large file.
+    """
+    return _parsed(source, lambda element: _shrink(element, unread))
+
+
+def parse_complete(source: Source) -> Element:
+    """Returns the root element with all that the file has, as `parse` does, for writing it back."""
+    return _parsed(source, lambda element: 0)
+
+
+def _parsed(source: Source, shrink: Callable[[Element], int]) -> Element:
+    """Returns the root element. `shrink` gets each element at its end, and returns how many of
+    those right in it are let go.
     """
     if len(source.data) > MOST_BYTES:
         raise InputError(f"{source.name}: more than {MOST_BYTES} bytes")
+    if _LONG_TAG.search(source.data):
+        raise InputError(f"{source.name}: a tag of more than a million bytes")
     try:
-        root = _shrunk(source.data, unread) if unread is not None else _complete(source.data)
+        return _root_of(source, shrink)
     except DefusedXmlException as error:
         raise InputError(f"{source.name}: document types and entities are not read") from error
     except ParseError as error:
@@ -40,30 +64,40 @@ def parse(source: Source, unread: Unread | None = None) -> Element:
         raise InputError(f"{source.name}: no well-formed XML at line {line}, {column}") from error
     except (LookupError, ValueError) as error:
         raise InputError(f"{source.name}: no readable XML: {error}") from error
-    return root
 
 
-def _complete(data: bytes) -> Element:
-    root = fromstring(data, forbid_dtd=True)
-    assert isinstance(root, Element)
-    return root
-
-
-def _shrunk(data: bytes, unread: Unread) -> Element:
-    """Returns the root of an XML file without what `unread` names and without white space."""
-    events = iterparse(BytesIO(data), forbid_dtd=True)
+def _root_of(source: Source, shrink: Callable[[Element], int]) -> Element:
+    events = iterparse(_Chunks(source.data), forbid_dtd=True)
+    count = 0
     for _, element in events:
-        names = unread.get(local_name(element), frozenset())
-        kept = [child for child in element if local_name(child) not in names]
-        if len(kept) < len(element):
-            element[:] = kept
-        for child in kept:
-            child.tail = None
-        if len(element) and element.text is not None and not element.text.strip():
-            element.text = None
+        count += 1 - shrink(element)
+        if count > MOST_ELEMENTS:
+            raise InputError(f"{source.name}: more than {MOST_ELEMENTS} elements")
     root = events.root
     assert isinstance(root, Element)
     return root
+
+
+def _shrink(element: Element, unread: Unread) -> int:
+    """Takes white space off an element, and children that are not read; returns how many."""
+    names = unread.get(local_name(element), frozenset())
+    kept = [child for child in element if local_name(child) not in names]
+    removed = len(element) - len(kept)
+    if removed:
+        element[:] = kept
+    for child in kept:
+        child.tail = None
+    if kept and element.text is not None and not element.text.strip():
+        element.text = None
+    return removed
+
+
+class _Chunks(BytesIO):
+    """A file that gives large parts, however small the parts that are asked for."""
+
+    def read(self, size: int | None = -1, /) -> bytes:
+        """Returns the next part."""
+        return super().read(max(size or 0, _CHUNK))
 
 
 class Node:
@@ -71,9 +105,14 @@ class Node:
 
     def __init__(self, element: Element) -> None:
         self.element = element
-        self._children: dict[str, list[Element]] = {}
-        for child in element:
-            self._children.setdefault(local_name(child), []).append(child)
+
+    @cached_property
+    def _children(self) -> dict[str, list[Element]]:
+        """Returns the children by name."""
+        found: dict[str, list[Element]] = {}
+        for child in self.element:
+            found.setdefault(local_name(child), []).append(child)
+        return found
 
     def text(self, name: str) -> str:
         """Returns the text of the first child of a name, or an empty text."""
@@ -121,13 +160,17 @@ def nested(holder: Node | None, name: str) -> Iterator[tuple[Node, Node | None]]
 
     Those right in `holder` have None. It does without recursion, for elements nested deeply.
     """
-    waiting: list[tuple[Node, Node | None]] = []
+    levels: list[tuple[Iterator[Node], Node | None]] = []
     if holder is not None:
-        waiting = [(node, None) for node in reversed(list(holder.children(name)))]
-    while waiting:
-        node, above = waiting.pop()
+        levels = [(holder.children(name), None)]
+    while levels:
+        nodes, above = levels[-1]
+        node = next(nodes, None)
+        if node is None:
+            levels.pop()
+            continue
         yield node, above
-        waiting.extend((child, node) for child in reversed(list(node.children(name))))
+        levels.append((node.children(name), node))
 
 
 def head_text(data: bytes) -> str:

@@ -64,7 +64,7 @@ def matches(data: bytes) -> bool:
 
 def read(source: Source, options: ReaderOptions) -> Reading:
     """Returns the plan of a file and what is not in it."""
-    root = parse(source, {})
+    root = parse(source)
     if local_name(root) != "project":
         raise InputError(f"{source.name}: not a file of GanttProject")
     return _Reader(source, options, Node(root)).reading()

@@ -62,7 +62,7 @@ def matches(data: bytes) -> bool:
 
 def read(source: Source, options: ReaderOptions) -> Reading:
     """Returns the plan of a file and what is not in it."""
-    root = parse(source, {})
+    root = parse(source)
     project = Node(root)
     if local_name(root) != "project" or not project.has("tasks"):
         raise InputError(f"{source.name}: not a file of GNOME Planner: no project with tasks")

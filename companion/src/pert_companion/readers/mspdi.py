@@ -214,6 +214,8 @@ class _Reader:
         for node in self.project.within("Tasks", "Task"):
             if not node.flag("IsNull") and node.text("UID") not in ("", "0"):
                 found.append(Row(node.element))
+            if len(found) > MOST_ROWS + 1:
+                break  # there are too many, even if one is the project
         tops = [row for row in found if row.level == 0]
         return found if len(tops) > 1 else [row for row in found if row.level != 0]
 

@@ -13,7 +13,7 @@ from xml.sax.saxutils import escape, quoteattr
 
 from pert_companion.model.encodings import wide_encoding
 from pert_companion.model.source import Source
-from pert_companion.model.xmltree import local_name, parse
+from pert_companion.model.xmltree import local_name, parse_complete
 
 _BYTE_BY_BYTE = "latin-1"
 """Names of elements and what is put in are ASCII: they have these bytes in most character sets."""
@@ -56,7 +56,7 @@ class XmlFile:
     def __init__(self, data: bytes, name: str) -> None:
         """Reads a file. Raises `InputError` if it is no harmless XML."""
         self.data = data
-        self.root = parse(Source(Path(name), data))
+        self.root = parse_complete(Source(Path(name), data))
         self._encoding = wide_encoding(data) or _BYTE_BY_BYTE
         self._spans = dict(zip(self.root.iter(), _Spans(data).found, strict=True))
         self._changes: dict[tuple[int, int], str] = {}
