@@ -48,6 +48,8 @@ _DATE = re.compile(r"[0-9]{4}-[0-9]{2}-[0-9]{2}")
 _CONTROL = re.compile("[\x00-\x1f\x7f]")
 _TITLES = {"title"}
 _OPTIONAL_CODES = {"parent"}
+_OTHER_FILES = "pert-import makes a deck of a planner's file or a list"
+"""What to say of a file that does not begin as a deck does."""
 
 
 @dataclass(frozen=True)
@@ -176,7 +178,7 @@ def records(data: bytes, name: str) -> Iterator[list[str]]:
     try:
         text = data.decode("utf-8")
     except UnicodeDecodeError as error:
-        raise InputError(f"{name}: not UTF-8 at byte {error.start}; export it in UTF-8") from error
+        raise InputError(f"{name}: {_not_text(data, error.start)}") from error
     text = text.removeprefix("\ufeff").removeprefix("\ufeff")
     text = text.replace("\r\n", "\n").replace("\r", "\n")
     try:
@@ -185,6 +187,13 @@ def records(data: bytes, name: str) -> Iterator[list[str]]:
                 yield record
     except csv.Error as error:
         raise InputError(f"{name}: {error}") from error
+
+
+def _not_text(data: bytes, at: int) -> str:
+    """Returns what to say of bytes that are not UTF-8 from this one on."""
+    if data.startswith(b"PROJECT"):
+        return f"not UTF-8 at byte {at}; export it in UTF-8"
+    return f"no deck, and not UTF-8 at byte {at}; {_OTHER_FILES}"
 
 
 class _DeckReader:
@@ -206,7 +215,7 @@ class _DeckReader:
             raise self.fault("card after END")
         kind = record[0]
         if not self.single and kind != "PROJECT":
-            raise self.fault("first card is not PROJECT")
+            raise self.fault(f"first card is not PROJECT; {_OTHER_FILES}")
         if kind == "END":
             self.ended = True
         elif kind in _LISTS:

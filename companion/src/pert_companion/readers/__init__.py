@@ -90,6 +90,8 @@ def _unknown(data: bytes) -> str:
             "XML, but none of MS Project, Primavera P6, GanttProject or GNOME Planner; export it as"
             " MS Project XML"
         )
+    if _head(data).startswith(b"PROJECT,"):
+        return "a deck already, which pert-schedule, pert-report and the other commands read"
     return (
         "no plan: no file of a planner, and no list with a row of headings such as Name, Duration,"
         " Predecessors"
