@@ -22,8 +22,11 @@ pub fn early(alloc: Global, net: &Net, lengths: &[u64]) -> Result<Vec<u64>, Allo
     requires { AreLengths net.now lengths.now }
     ensures times { IfOk result (λ times. AreEarly net.now lengths.now times.items) }
     ensures limit { IfOk result (λ times. All (λ time. time ≤ MAX_TIME) times.items) }
+    ensures walks { OnOk result (HasBoundedWalks net.now lengths.now) }
 {
-    early_times(alloc, net, lengths)
+    let mut times = vec![in alloc; 0; net.events() as usize]?;
+    early_into(net, lengths, &mut times);
+    Ok(times)
 }
 
 /// Returns the latest time of each event, in card order, at which the end can still be reached at `by`. Linear in
@@ -65,18 +68,6 @@ pub fn slack(late: i64, early: u64) -> i64
     ensures { result ≡ late -ℤ pos early }
 {
     late - early as i64
-}
-
-/// For each event the greatest sum of lengths over the walks from the start to it.
-pub(crate) fn early_times(alloc: Global, net: &Net, lengths: &[u64]) -> Result<Vec<u64>, AllocError>
-    requires { AreLengths net.now lengths.now }
-    ensures times { IfOk result (λ times. AreEarly net.now lengths.now times.items) }
-    ensures limit { IfOk result (λ times. All (λ time. time ≤ MAX_TIME) times.items) }
-    ensures walks { OnOk result (HasBoundedWalks net.now lengths.now) }
-{
-    let mut times = vec![in alloc; 0; net.events() as usize]?;
-    early_into(net, lengths, &mut times);
-    Ok(times)
 }
 
 /// For each event the greatest sum of lengths over the walks from it to the end.

@@ -10,7 +10,7 @@ ghost use Rattle.pc_times.specs.Picked.{IsPickedWalk, IsLongestWalk};
 ghost use Rattle.pc_times.specs.inside.Passes.{HasBoundedWalks, HasNoSlack};
 
 use crate::MAX_TIME;
-use crate::events::{early_times, tails_to_end};
+use crate::events::{early, tails_to_end};
 use crate::found::Longest;
 use pc_net::Net;
 use std::alloc::{AllocError, Global};
@@ -35,7 +35,7 @@ pub fn longest(alloc: Global, net: &Net, lengths: &[u64]) -> Result<Longest, All
     ensures sum { IfOk result (λ found. walk_sum lengths.now found.path ≡ found.length) }
     ensures short { IfOk result (λ found. length found.path < net.now.events) }
 {
-    let times = early_times(alloc, net, lengths)?;
+    let times = early(alloc, net, lengths)?;
     let tails = tails_to_end(alloc, net, lengths)?;
     let path = picked_walk(alloc, net, lengths, &times, &tails)?;
     Ok(Longest {

@@ -3,7 +3,7 @@ use Rattle.std.specs.Prelude.{All}
 use Rattle.std.proofs.lemmas.List.{with_items_is}
 use Rattle.pc_times.specs.declared.TheConstants.{MAX_TIME}
 use Rattle.pc_times.specs.Times.{AreEarly}
-use Rattle.pc_times.proofs.events.early_times.Goals as goal
+use Rattle.pc_times.proofs.events.early.Goals as goal
 
 pub early_into-requires-clause-places : goal.early_into-requires-clause-places
 early_into-requires-clause-places c = omega (arith, c.in_ok-times.ensures.len, c.events.ensures.events)
