@@ -21,11 +21,14 @@ use Rattle.pc_deck.specs.declared.kinds.act.ActCard.{ActCard}
 use Rattle.pc_deck.specs.declared.kinds.load.LoadCard.{LoadCard}
 use Rattle.pc_deck.specs.declared.kinds.piece.PieceCard.{PieceCard}
 use Rattle.pc_deck.specs.declared.kinds.terms.TermsCard.{TermsCard}
-use Rattle.pc_deck.specs.Deck.{Deck, act_codes, event_codes, item_codes, resource_codes}
+use Rattle.pc_deck.specs.Deck.{Deck}
 use Rattle.pc_deck.proofs.NumberLemmas.{AreTermsWithin, acts-within, loads-within, pieces-within, project-within, terms-within}
 use Rattle.pc_deck.specs.Within.{IsWithinLimits}
-use Rattle.pc_project.specs.Project.{Project, accounts_in, arc_of, charges_in, counts_of, expected_of, heading_of, load_of, network_of, piece_of, pieces_in}
-use Rattle.pc_project.specs.Project.{item_of_act, project_in, row_of, rows_of, statuses_in, term_of, terms_in, time_terms_of, togos_in, variance_in}
+use Rattle.pc_project.specs.Project.{accounts_in, arc_of, expected_of, item_of_act, load_of, network_of, piece_of, pieces_in, project_in}
+use Rattle.pc_project.specs.Project.{row_of, rows_of, term_of, terms_in, time_terms_of, variance_in}
+use Rattle.pc_project.specs.declared.project.Project.TheInside.{Inside}
+use Rattle.pc_project.specs.inside.Numbered.{AreProjectLists}
+use Rattle.pc_project.specs.inside.Parts.{project_from}
 use Rattle.pc_project.specs.Misfit.{HasNoMisfit}
 use Rattle.pc_project.specs.declared.placed.LoadItem.{LoadItem}
 use Rattle.pc_project.specs.PieceFaults.{HasNoPieceFault}
@@ -188,38 +191,19 @@ project_in-planned deck entries states makes limits figures = record {
   figures = figures;
 }
 
--- a project is that of the deck that it keeps, where its lists are the deck's
-pub project_in-is : (deck : Deck) (project : Project) → project.deck ≡ deck → project.heading ≡ heading_of deck →
-    project.network ≡ network_of deck → project.tree ≡ rows_of deck → project.events ≡ event_codes deck → project.activities ≡ act_codes deck →
-    project.places ≡ map (item_of_act deck) deck.acts → project.terms ≡ map term_of deck.acts → project.expected ≡ map (expected_of deck) deck.acts →
-    project.variances ≡ map (variance_in deck) deck.acts → project.items ≡ item_codes deck →
-    project.titles ≡ map (λ item. item.title) deck.items → project.pieces ≡ pieces_in deck → project.resources ≡ resource_codes deck →
-    project.loads ≡ map (load_of deck) deck.loads → project.accounts ≡ accounts_in deck → project.charges ≡ charges_in deck →
-    project.togos ≡ togos_in deck → project.statuses ≡ statuses_in deck → project.time_terms ≡ time_terms_of deck.terms →
-    project.counts ≡ counts_of deck → project ≡ project_in deck project.entries project.states
-project_in-is deck project own heading network tree events activities places terms expected variances items titles pieces resources loads accounts charges togos statuses time_terms counts =
-    λ i. record {
-      deck = own i;
-      heading = heading i;
+-- a project is that of the deck that it keeps, where what it keeps as numbers is the deck's
+pub project_from-is : (s : Inside) → s.frame.net ≡ network_of s.cards → s.frame.tree ≡ rows_of s.cards → AreProjectLists s.cards s.frame →
+    s.pieces.items ≡ pieces_in s.cards → s.loads.items ≡ map (load_of s.cards) s.cards.loads → s.accounts.items ≡ accounts_in s.cards →
+    project_from s ≡ project_in s.cards s.frame.book s.frame.states.items
+project_from-is s network tree lists pieces loads accounts =
+    λ i. record (project_in s.cards s.frame.book s.frame.states.items) {
       network = network i;
       tree = tree i;
-      events = events i;
-      activities = activities i;
-      places = places i;
-      terms = terms i;
-      expected = expected i;
-      variances = variances i;
-      items = items i;
-      titles = titles i;
+      places = lists.places i;
+      terms = lists.terms i;
+      expected = lists.expected i;
+      variances = lists.variances i;
       pieces = pieces i;
-      resources = resources i;
       loads = loads i;
       accounts = accounts i;
-      charges = charges i;
-      togos = togos i;
-      entries = project.entries;
-      statuses = statuses i;
-      states = project.states;
-      time_terms = time_terms i;
-      counts = counts i;
     }

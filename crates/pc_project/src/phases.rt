@@ -20,17 +20,12 @@ use crate::network::net_of;
 use crate::numbers::{Numbers, numbers_of};
 use crate::packages::check_packages;
 use crate::pieces::check_pieces;
-use crate::placed::Placement;
-use crate::project::Project;
+use crate::project::{Frame, Project};
 use crate::statuses::states_of;
 use crate::togos::book_of;
 use crate::tree::tree_between;
-use pc_accounts::Book;
 use pc_deck::Cards;
 use pc_faults::{DeckError, Fault};
-use pc_model::Term;
-use pc_net::Net;
-use pc_times::ActState;
 use pc_wbs::Tree;
 use std::alloc::{AllocError, Global};
 
@@ -69,34 +64,11 @@ pub fn project_of(alloc: Global, cards: Cards) -> Result<Project, DeckError>
     let frame = frame_of(alloc, &cards, &numbers)?;
     Ok(Project {
         cards,
-        tree: frame.tree,
-        net: frame.net,
-        book: frame.book,
-        states: frame.states,
-        places: frame.places,
-        terms: frame.terms,
-        expected: frame.expected,
-        variances: frame.variances,
+        frame,
         pieces: numbers.pieces,
         loads: numbers.loads,
         accounts: numbers.accounts,
-        charges: numbers.charges,
-        togos: numbers.togos,
-        statuses: numbers.statuses,
     })
-}
-
-/// What the phases after the look-ups give of a project.
-#[derive(Drop)]
-pub(crate) struct Frame {
-    pub tree: Tree,
-    pub net: Net,
-    pub book: Book,
-    pub states: Vec<ActState>,
-    pub places: Vec<u32>,
-    pub terms: Vec<Term>,
-    pub expected: Vec<u64>,
-    pub variances: Vec<u64>,
 }
 
 /// Goes through the phases after the look-ups. Each phase relies on the earlier ones having found no fault.

@@ -13,8 +13,7 @@ ghost use Rattle.pc_project.specs.inside.Project.{activity_at};
 use crate::activity::{Activity, Estimates};
 use crate::placed::LoadItem;
 use crate::statuses::as_of;
-use pc_accounts::status::StatusRow;
-use pc_accounts::{AcctRow, Book, MoneyRow};
+use pc_accounts::{AcctRow, Book};
 use pc_crash::{CrashNet, MAX_ACTIVITY_COST, NetCodes, cost_of_one};
 use pc_days::{Day, days_between};
 use pc_deck::Cards;
@@ -32,6 +31,29 @@ use std::marker::Model;
 /// card of its kind, in card order. The project keeps the cards themselves, so that nothing that they say is lost.
 pub struct Project {
     pub(crate) cards: Cards,
+    pub(crate) frame: Frame,
+    pub(crate) pieces: Vec<PieceRow>,
+    pub(crate) loads: Vec<LoadItem>,
+    pub(crate) accounts: Vec<AcctRow>,
+}
+
+impl Drop for Project {
+    // Written by hand so that the proof of dropping a project, with all its lists, is done once, here.
+    fn drop(self) {
+        let Project {
+            cards: _,
+            frame: _,
+            pieces: _,
+            loads: _,
+            accounts: _,
+        } = self;
+    }
+}
+
+/// What a project has beyond its cards and what they name: the tree and the network of its activities, its book, and
+/// one entry per activity in each list.
+#[derive(Drop)]
+pub(crate) struct Frame {
     pub(crate) tree: Tree,
     pub(crate) net: Net,
     pub(crate) book: Book,
@@ -43,35 +65,6 @@ pub struct Project {
     pub(crate) expected: Vec<u64>,
     /// The variances of these times, in thirty-sixths of a squared day.
     pub(crate) variances: Vec<u64>,
-    pub(crate) pieces: Vec<PieceRow>,
-    pub(crate) loads: Vec<LoadItem>,
-    pub(crate) accounts: Vec<AcctRow>,
-    pub(crate) charges: Vec<MoneyRow>,
-    pub(crate) togos: Vec<MoneyRow>,
-    pub(crate) statuses: Vec<StatusRow>,
-}
-
-impl Drop for Project {
-    // Written by hand so that the proof of dropping a project, with all its lists, is done once, here.
-    fn drop(self) {
-        let Project {
-            cards: _,
-            tree: _,
-            net: _,
-            book: _,
-            states: _,
-            places: _,
-            terms: _,
-            expected: _,
-            variances: _,
-            pieces: _,
-            loads: _,
-            accounts: _,
-            charges: _,
-            togos: _,
-            statuses: _,
-        } = self;
-    }
 }
 
 impl Model for Project {
@@ -151,7 +144,7 @@ impl Project {
         ensures network { result.now ≡ self.now.network }
         ensures planned { IsPlanned self.now }
     {
-        &self.net
+        &self.frame.net
     }
 
     /// Returns the tree of the items.
@@ -159,7 +152,7 @@ impl Project {
         ensures tree { result.now ≡ self.now.tree }
         ensures planned { IsPlanned self.now }
     {
-        &self.tree
+        &self.frame.tree
     }
 
     /// Returns the number of cards of each kind.
@@ -199,14 +192,14 @@ impl Project {
         requires { a < length self.now.network.arcs }
         ensures { result ≡ activity_at self.now a }
     {
-        let term = self.terms[a as usize];
+        let term = self.frame.terms[a as usize];
         Activity {
             code: self.cards.act_codes()[a as usize],
-            from: self.net.from(a),
-            to: self.net.to(a),
-            item: self.places[a as usize],
-            expected: self.expected[a as usize],
-            variance: self.variances[a as usize],
+            from: self.frame.net.from(a),
+            to: self.frame.net.to(a),
+            item: self.frame.places[a as usize],
+            expected: self.frame.expected[a as usize],
+            variance: self.frame.variances[a as usize],
             normal: term.normal,
             crash: term.crash,
             cost: term.cost,
@@ -274,7 +267,7 @@ impl Project {
         ensures terms { result.now ≡ self.now.terms }
         ensures planned { IsPlanned self.now }
     {
-        &self.terms
+        &self.frame.terms
     }
 
     /// Returns the expected time of each activity, in sixths of a day, in card order.
@@ -282,7 +275,7 @@ impl Project {
         ensures expected { result.now ≡ self.now.expected }
         ensures planned { IsPlanned self.now }
     {
-        &self.expected
+        &self.frame.expected
     }
 
     /// Returns the variance of each activity's time, in thirty-sixths of a squared day, in card order.
@@ -291,7 +284,7 @@ impl Project {
         ensures each { length result.now ≡ length self.now.network.arcs }
         ensures planned { IsPlanned self.now }
     {
-        &self.variances
+        &self.frame.variances
     }
 
     /// Returns the number of each activity's item, in card order.
@@ -299,7 +292,7 @@ impl Project {
         ensures places { result.now ≡ self.now.places }
         ensures planned { IsPlanned self.now }
     {
-        &self.places
+        &self.frame.places
     }
 
     /// Returns the further pieces of the activities' costs, one per PIECE card, in card order.
@@ -319,7 +312,7 @@ impl Project {
         ensures cost { result ≡ activity_cost self.now.terms (knees_of self.now.terms self.now.pieces) a duration }
         ensures limit { result ≤ MAX_ACTIVITY_COST }
     {
-        cost_of_one(&self.terms, &self.pieces, a, duration)
+        cost_of_one(&self.frame.terms, &self.pieces, a, duration)
     }
 
     /// Returns the network with what its activities may last and cost, for everything about the time-cost curve.
@@ -338,7 +331,13 @@ impl Project {
     {
         let cards = &self.cards;
         let codes = NetCodes::of(cards.project().code, cards.event_codes(), cards.act_names());
-        CrashNet::with_codes(alloc, &self.net, &self.terms, &self.pieces, codes)
+        CrashNet::with_codes(
+            alloc,
+            &self.frame.net,
+            &self.frame.terms,
+            &self.pieces,
+            codes,
+        )
     }
 
     /// Returns the terms of time: the cost of each unit of the project's length, the target in units, the bonus for
@@ -412,36 +411,12 @@ impl Project {
         &self.cards.accounts()[a as usize].title
     }
 
-    /// Returns the charges to accounts of all days, in card order.
-    pub fn charges(&self) -> &[MoneyRow]
-        ensures charges { result.now ≡ self.now.charges }
-        ensures planned { IsPlanned self.now }
-    {
-        &self.charges
-    }
-
-    /// Returns the amounts to go of accounts on the days for which cards give them, in card order.
-    pub fn togos(&self) -> &[MoneyRow]
-        ensures togos { result.now ≡ self.now.togos }
-        ensures planned { IsPlanned self.now }
-    {
-        &self.togos
-    }
-
     /// Returns what each account has spent up to as-of, and its amount to go.
     pub fn book(&self) -> &Book
         ensures entries { result.now ≡ self.now.entries }
         ensures planned { IsPlanned self.now }
     {
-        &self.book
-    }
-
-    /// Returns the days on which activities began and ended, one per STATUS card, in card order.
-    pub fn statuses(&self) -> &[StatusRow]
-        ensures statuses { result.now ≡ self.now.statuses }
-        ensures planned { IsPlanned self.now }
-    {
-        &self.statuses
+        &self.frame.book
     }
 
     /// Returns how far each activity is, in sixths of a day from the start, in card order.
@@ -449,7 +424,7 @@ impl Project {
         ensures states { result.now ≡ self.now.states }
         ensures planned { IsPlanned self.now }
     {
-        &self.states
+        &self.frame.states
     }
 
     /// Returns how far an activity is, in sixths of a day from the start.
@@ -457,7 +432,7 @@ impl Project {
         requires { a < length self.now.network.arcs }
         ensures { result ≡ state_at self.now.states a }
     {
-        self.states[a as usize]
+        self.frame.states[a as usize]
     }
 
     /// Returns the as-of day, in sixths of a day from the start.

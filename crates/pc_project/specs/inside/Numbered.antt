@@ -4,7 +4,7 @@ use Rattle.pc_model.specs.declared.limits.TheConstants.{MAX_ITEMS}
 use Rattle.pc_deck.specs.Deck.{Deck}
 use Rattle.pc_deck.specs.Within.{IsWithinLimits}
 use Rattle.pc_project.specs.declared.numbers.Numbers.{Numbers}
-use Rattle.pc_project.specs.declared.phases.Frame.{Frame}
+use Rattle.pc_project.specs.declared.project.Frame.{Frame}
 use Rattle.pc_project.specs.Misfit.{HasNoMisfit}
 use Rattle.pc_project.specs.Project.{accounts_in, charges_in, expected_of, load_of, network_of, pieces_in, item_of_act, rows_of, statuses_in}
 use Rattle.pc_project.specs.Project.{term_of, togos_in, variance_in}

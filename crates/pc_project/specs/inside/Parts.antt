@@ -1,35 +1,20 @@
 -- The project that the fields of a project hold.
-use Rattle.std.specs.Prelude.{map}
-use Rattle.pc_deck.specs.Deck.{act_codes, event_codes, item_codes, resource_codes}
 use Rattle.pc_project.specs.declared.project.Project.TheInside.{Inside}
-use Rattle.pc_project.specs.Project.{Project, counts_of, heading_of, time_terms_of}
+use Rattle.pc_project.specs.Project.{Project, project_in}
 use Rattle.pc_project.specs.Planned.{IsPlanned}
 
+-- what the cards say, but for the lists that a project keeps as numbers
 abbrev pub project_from : Inside → Project
-project_from a = record {
-  deck = a.cards;
-  heading = heading_of a.cards;
-  network = a.net;
-  tree = a.tree;
-  events = event_codes a.cards;
-  activities = act_codes a.cards;
-  places = a.places.items;
-  terms = a.terms.items;
-  expected = a.expected.items;
-  variances = a.variances.items;
-  items = item_codes a.cards;
-  titles = map (λ item. item.title) a.cards.items;
+project_from a = record (project_in a.cards a.frame.book a.frame.states.items) {
+  network = a.frame.net;
+  tree = a.frame.tree;
+  places = a.frame.places.items;
+  terms = a.frame.terms.items;
+  expected = a.frame.expected.items;
+  variances = a.frame.variances.items;
   pieces = a.pieces.items;
-  resources = resource_codes a.cards;
   loads = a.loads.items;
   accounts = a.accounts.items;
-  charges = a.charges.items;
-  togos = a.togos.items;
-  entries = a.book;
-  statuses = a.statuses.items;
-  states = a.states.items;
-  time_terms = time_terms_of a.cards.terms;
-  counts = counts_of a.cards;
 }
 
 abbrev pub IsPlannedInside : Inside → Type 0

@@ -1,16 +1,17 @@
-use Rattle.std.proofs.Common.{refl, sym, subst}
+use Rattle.std.proofs.Common.{sym, subst}
 use Rattle.pc_faults.specs.First.{IsFirstFault}
 use Rattle.pc_faults.specs.declared.fault.DeckError.{DeckError}
 use Rattle.pc_faults.specs.declared.fault.DeckError.TheVariants.{Fault, OutOfMemory}
 use Rattle.pc_faults.specs.inside.First.{Refuses}
 use Rattle.pc_deck.specs.Deck.{Deck}
+use Rattle.pc_project.specs.declared.project.Project.TheInside.{Inside}
 use Rattle.pc_project.specs.Figures.{IsProjectOfDeck}
 use Rattle.pc_project.specs.Misfit.{HasMisfit}
 use Rattle.pc_project.specs.Refusal.{IsRefusedWith, of_cards}
 use Rattle.pc_project.specs.Planned.{IsPlanned}
 use Rattle.pc_project.proofs.FigureLaws.{project_in-figures}
 use Rattle.pc_project.proofs.MakesLaws.{makes_project}
-use Rattle.pc_project.proofs.PlannedLaws.{project_in-is, project_in-planned}
+use Rattle.pc_project.proofs.PlannedLaws.{project_from-is, project_in-planned}
 use Rattle.pc_project.proofs.RefusalLaws.{handed_on}
 use Rattle.pc_project.proofs.phases.project_of.Goals as goal
 
@@ -30,10 +31,15 @@ invariant_of-result c =
     let numbers = c.in_ok-numbers.ensures.numbers in
     let lists = numbers.lists in
     let frame = c.in_ok-frame.ensures in
-    let made = frame.lists in
+    let inside : Inside = record {
+      cards = deck;
+      frame = c.in_ok-frame.frame;
+      pieces = c.in_ok-numbers.numbers.pieces;
+      loads = c.in_ok-numbers.numbers.loads;
+      accounts = c.in_ok-numbers.numbers.accounts;
+    } in
     subst IsPlanned
-    (sym (project_in-is deck _ refl refl frame.network frame.tree refl refl made.places made.terms made.expected made.variances
-    refl refl lists.pieces refl lists.loads lists.accounts lists.charges lists.togos lists.statuses refl refl))
+    (sym (project_from-is inside frame.network frame.tree frame.lists lists.pieces lists.loads lists.accounts))
     (project_in-planned deck _ _ frame.makes numbers.within
     (project_in-figures deck numbers.within frame.makes.cards frame.makes.figures _ _ frame.entries frame.small frame.states))
 
@@ -43,10 +49,15 @@ returns-clause-project c =
     let numbers = c.in_ok-numbers.ensures.numbers in
     let lists = numbers.lists in
     let frame = c.in_ok-frame.ensures in
-    let made = frame.lists in
+    let inside : Inside = record {
+      cards = deck;
+      frame = c.in_ok-frame.frame;
+      pieces = c.in_ok-numbers.numbers.pieces;
+      loads = c.in_ok-numbers.numbers.loads;
+      accounts = c.in_ok-numbers.numbers.accounts;
+    } in
     subst (IsProjectOfDeck deck)
-    (sym (project_in-is deck _ refl refl frame.network frame.tree refl refl made.places made.terms made.expected made.variances
-    refl refl lists.pieces refl lists.loads lists.accounts lists.charges lists.togos lists.statuses refl refl))
+    (sym (project_from-is inside frame.network frame.tree frame.lists lists.pieces lists.loads lists.accounts))
     (project_in-planned deck _ _ frame.makes numbers.within
     (project_in-figures deck numbers.within frame.makes.cards frame.makes.figures _ _ frame.entries frame.small frame.states)).own.is
 
