@@ -10,7 +10,7 @@ use Rattle.pc_accounts.specs.Entries.{entry_at}
 abbrev pub account_at : List AcctRow → ℕ → AcctRow
 account_at accounts a = slice_index_or accounts a (record { item = 0; budget = 0 })
 
--- the item that account a stands on
+-- the item that account a is on
 abbrev pub item_of : List AcctRow → ℕ → ℕ
 item_of accounts a = (account_at accounts a).item
 
@@ -67,7 +67,7 @@ entry_of_project accounts charges as_of entries = record {
 abbrev pub AreBudgets : List AcctRow → Type 0
 AreBudgets accounts = (a : ℕ) → a < length accounts → budget_of accounts a ≤ MAX_COST
 
--- each row is of one of so many accounts, and no amount is above the limit
+-- each row is of one of the accounts, and no amount is above the limit
 pub record AreMoney (accounts : ℕ) (rows : List MoneyRow) : Type 0 where
   pub known : (k : ℕ) → k < length rows → (money_at rows k).account < accounts
   pub small : (k : ℕ) → k < length rows → (money_at rows k).amount ≤ MAX_COST

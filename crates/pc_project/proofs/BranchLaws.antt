@@ -26,7 +26,7 @@ use Rattle.pc_project.proofs.LoopLaws.{IsFirstBefore, first_more, first_of_all}
 leaf_unless : (rows : List ItemRow) (x : ℕ) → ((IsLeaf rows x → ⊥) → ⊥) → IsLeaf rows x
 leaf_unless rows x never y within is = never (λ leaf. leaf y within is)
 
--- without such a fault, each activity and each account stands on a leaf
+-- without such a fault, each activity and each account is on a leaf
 pub act_on_leaf : (deck : Deck) → HasNoLeafFault deck → (a : ℕ) (d : ActCard) → a < length deck.acts → IsLeaf (rows_of deck) (number_among (item_codes deck) (get_or deck.acts a d).item)
 act_on_leaf deck none a d within =
     let card = get_or deck.acts a d in

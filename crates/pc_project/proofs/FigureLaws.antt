@@ -45,7 +45,7 @@ no_money = record { row = 0; account = []; day = pos 0; amount = 0 }
 pub no_status : StatusCard
 no_status = record { row = 0; activity = []; finished = false; day = pos 0 }
 
--- what stands at a place of a deck's lists is that of the card there
+-- what is at a place of a deck's lists is that of the card there
 module _ (deck : Deck) where
   pub account_there : (a : ℕ) → a < length deck.accounts → account_at (accounts_in deck) a ≡ account_of deck (get_or deck.accounts a no_account)
   account_there a inside = get_or-map (account_of deck) deck.accounts a no_account (record { item = 0; budget = 0 }) inside

@@ -59,6 +59,6 @@ map_take_more f xs i x y ys within is before here =
     ∙ (map_push f (take i xs) (get_or xs i x)
     ∙ (ap (λ z. map f (take i xs) ++ z ∷ []) (ap f (sym is) ∙ sym here) ∙ ap (λ zs. zs ++ y ∷ []) (sym before))))
 
--- what holds of all cards holds of the one that stands at a place
+-- what holds of all cards holds of the one at a place
 pub held_by_card : {X : Type 0} (P : X → Type 0) (xs : List X) (i : ℕ) (x : X) → i < length xs → x ≡ get_or xs i x → All P xs → P x
 held_by_card P xs i x within is all = subst P (sym is) (All-get_or P xs i x within all)

@@ -7,12 +7,12 @@ use Rattle.std.proofs.lemmas.List.{length-map}
 use Rattle.std.proofs.lemmas.List.Quantifiers.{position-Some}
 use Rattle.pc_deck.specs.Deck.{Deck, account_codes, act_codes, event_codes, item_codes, named_among, number_among, resource_codes}
 
--- what is found stands somewhere
+-- what is found is at some place
 pub found_at : (found : Option ℕ) → IsSome found → (i : ℕ) × (found ≡ Some i)
 found_at (Some i) known = (i, refl)
 found_at None known = absurd (false≢true known)
 
--- a code that is found has a number below the count of codes, and it stands there
+-- a code that is found has a number below the number of codes, and is at that place
 pub record HasNumber (codes : List (List ℕ)) (code : List ℕ) : Type 0 where
   pub within : number_among codes code < length codes
   pub code_there : get_or codes (number_among codes code) [] ≡ code

@@ -14,7 +14,7 @@ use Rattle.pc_crash.proofs.PieceLaws.{pieces_of-here, pieces_of-elsewhere}
 use Rattle.pc_project.specs.Makes.{IsFlawless}
 use Rattle.pc_project.specs.PieceFaults.{pieces_before}
 
--- where the k-th piece of activity a among the first n stands, and that those before it are the first k
+-- where the k-th piece of activity a is among the first n, and that those before it are the first k
 record IsPlace (pieces : List PieceRow) (a n k : ℕ) : Type 0 where
   place : ℕ
   below : place < n
@@ -22,7 +22,7 @@ record IsPlace (pieces : List PieceRow) (a n k : ℕ) : Type 0 where
   before : pieces_of (take place pieces) a ≡ take k (pieces_of (take n pieces) a)
   here : piece_at (pieces_of (take n pieces) a) k ≡ piece_at pieces place
 
--- each of them stands somewhere
+-- each of them is at some place
 place_of : (pieces : List PieceRow) (a n k : ℕ) → n ≤ length pieces → k < length (pieces_of (take n pieces) a) → IsPlace pieces a n k
 place_of pieces a zero k within some = absurd (omega arith)
 place_of pieces a (suc n) k within some =

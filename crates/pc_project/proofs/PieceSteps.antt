@@ -70,7 +70,7 @@ module _ (deck : Deck) (none : HasNoMisfit deck) (limits : IsWithinLimits deck) 
           units = omega (arith, ap (λ (t : Term). t.crash) term, crash, (limits Piece).few, are.small piece.activity activity_known, piece-short);
         }
 
-    -- the faults behind the run are those of the piece
+    -- the faults that follow from the run are those of the piece
     pub flaw-is : (card : PieceCard) (found : Option Fault) → card ≡ get_or deck.pieces i card →
         IsFirstIn (HasFlawBehind (terms_in deck) runs piece card.row card.activity) found → IsFirstIn (HasPieceFaultAt deck i) found
     flaw-is card found card_is first =

@@ -23,7 +23,7 @@ pub record IsRunOf (term : Term) (own : List PieceRow) (run : Run) : Type 0 wher
   pub same_slope : run.slope ≡ slope_in term own (length own)
   pub same_units : run.units ≡ units_of own
 
--- the runs are those of the activities behind the first i pieces
+-- the runs are those of the activities after the first i pieces
 pub record AreRuns (terms : List Term) (pieces : List PieceRow) (i : ℕ) (runs : List Run) : Type 0 where
   pub one_each : length runs ≡ length terms
   pub each : (a : ℕ) → a < length terms → IsRunOf (term_at terms a) (pieces_of (take i pieces) a) (run_at runs a)

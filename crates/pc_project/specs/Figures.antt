@@ -1,4 +1,4 @@
--- What a project's accounts have come to and how far its activities are, by all its charges, amounts to go and statuses.
+-- What a project's accounts have spent and have to go, and how far its activities are, by its charges, amounts to go and statuses.
 use Rattle.std.specs.Prelude.{◌≡◌, ℕ, ◌<◌, ◌≤◌, ℤ, List, [], ◌∷◌, length}
 use Rattle.pc_accounts.specs.Amounts.{AreBudgets, AreEntriesOf, AreMoney, item_of}
 use Rattle.pc_accounts.specs.Second.{IsRepeated}
@@ -16,7 +16,7 @@ use Rattle.pc_wbs.specs.Climb.{IsLeaf}
 use Rattle.pc_wbs.specs.declared.tree.ItemRow.{ItemRow}
 use Rattle.pc_project.specs.Project.{Project, project_in}
 
--- one state for each of so many activities, by the statuses of a project with this start; no time is beyond the calendar
+-- one state for each of n activities, by the statuses of a project with this start; no time is beyond the calendar
 pub record AreStatesOf (start : ℤ) (statuses : List StatusRow) (activities : ℕ) (states : List ActState) : Type 0 where
   pub one_each : length states ≡ activities
   pub each : (a : ℕ) → a < activities → IsStateOf start statuses a (state_at states a)
@@ -35,15 +35,15 @@ work_rows [] terms = []
 work_rows (place ∷ places) [] = []
 work_rows (place ∷ places) (term ∷ terms) = record { item = place; cost = term.cost } ∷ work_rows places terms
 
--- the accounts are within their limits, and each stands on a leaf of the tree
+-- the accounts are within their limits, and each is on a leaf of the tree
 pub record AreAccounts (tree : List ItemRow) (accounts : List AcctRow) : Type 0 where
   pub few : length accounts ≤ MAX_ACCOUNTS
   pub known : (a : ℕ) → a < length accounts → item_of accounts a < length tree
   pub leaves : (a : ℕ) → a < length accounts → IsLeaf tree (item_of accounts a)
   pub budgets : AreBudgets accounts
 
--- the charges and the amounts to go of so many accounts are within their limits, and no account has two amounts to go of
--- one day
+-- the charges and the amounts to go of these accounts are within their limits, and no account has two amounts to go for one
+-- day
 pub record AreFigures (accounts : ℕ) (charges togos : List MoneyRow) : Type 0 where
   pub few_charges : length charges ≤ MAX_CHARGES
   pub charges_known : AreMoney accounts charges

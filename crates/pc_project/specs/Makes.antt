@@ -25,7 +25,7 @@ pub record HasProjectEnds (deck : Deck) : Type 0 where
   pub ends : IsSome (named_among (event_codes deck) deck.project.end)
   pub apart : deck.project.start ≢ deck.project.end
 
--- the activity leads from one event to another and stands at an item, with its numbers in order
+-- the activity leads from one event to another and is on an item, and its numbers are in order
 pub record IsSoundAct (deck : Deck) (card : ActCard) : Type 0 where
   pub begins : IsSome (named_among (event_codes deck) card.from)
   pub ends : IsSome (named_among (event_codes deck) card.to)
@@ -47,8 +47,8 @@ pub record AreSoundCards (deck : Deck) : Type 0 where
   pub togos : All (λ togo. IsSome (named_among (account_codes deck) togo.account)) deck.togos
   pub statuses : All (λ status. IsSome (named_among (act_codes deck) status.activity)) deck.statuses
 
--- the i-th piece is not one too many of its activity, its slope is above the one before, and with it the pieces leave units to the
--- activity's first slope
+-- the i-th piece is not one too many of its activity, its slope is above the one before, and the pieces up to it leave units to
+-- the activity's first slope
 pub record IsFlawless (terms : List Term) (pieces : List PieceRow) (i : ℕ) : Type 0 where
   pub few : length (pieces_before pieces i) < MAX_PIECES_EACH
   pub rising : slope_in (term_at terms (piece_at pieces i).activity) (pieces_before pieces i) (length (pieces_before pieces i))
@@ -56,7 +56,7 @@ pub record IsFlawless (terms : List Term) (pieces : List PieceRow) (i : ℕ) : T
   pub leaving : (term_at terms (piece_at pieces i).activity).crash + (units_of (pieces_before pieces i) + (piece_at pieces i).units)
       < (term_at terms (piece_at pieces i).activity).normal
 
--- the cards make a project: each is sound, the items are a tree, the network is sound, activities and accounts stand on leaves,
+-- the cards make a project: each is sound, the items are a tree, the network is sound, activities and accounts are on leaves,
 -- packages are even, statuses and as-of are in order, no amount to go is a second one, the pieces of each activity rise and leave
 -- units to its first slope, and the bonus is not above the penalty
 pub record MakesProject (deck : Deck) : Type 0 where

@@ -11,21 +11,21 @@ use Rattle.pc_faults.specs.Faults.{too_many_pieces, slope_not_rising, nothing_le
 use Rattle.pc_faults.specs.declared.fault.Fault.{Fault}
 use Rattle.pc_project.specs.Project.{pieces_in, terms_in}
 
--- the faults of a piece behind so many pieces of its activity with so many units, of which the last, or else the
--- activity's own slope, costs `slope`; they come at this record and name this code
+-- the faults of a piece that follows `count` pieces of its activity, which have `units` units together; `slope` is the slope
+-- of the last of them, or the activity's own if there is none. Each fault names this record and this code
 pub data HasFlaw (term : Term) (count slope units : ℕ) (piece : PieceRow) (row : ℕ) (code : List ℕ) (fault : Fault) : Type 0 where
-  -- F33: the activity has as many pieces already as it may have
+  -- F33: the activity already has as many pieces as it may have
   one_too_many : MAX_PIECES_EACH ≤ count → fault ≡ too_many_pieces row code → HasFlaw term count slope units piece row code fault
   -- F34: the slope does not rise
   not_rising : piece.slope ≤ slope → fault ≡ slope_not_rising row code → HasFlaw term count slope units piece row code fault
-  -- F35: with this one the pieces take all units from normal to crash
+  -- F35: with this piece, the pieces take all units between normal and crash
   none_left : term.normal ≤ term.crash + (units + piece.units) → fault ≡ nothing_left row code → HasFlaw term count slope units piece row code fault
 
 -- the pieces before the i-th that are of the same activity
 abbrev pub pieces_before : List PieceRow → ℕ → List PieceRow
 pieces_before pieces i = pieces_of (take i pieces) (piece_at pieces i).activity
 
--- the faults of the i-th piece of a list, behind those before it
+-- the faults of the i-th piece of a list, given the pieces before it
 abbrev pub HasFlawAt : List Term → List PieceRow → ℕ → ℕ → List ℕ → Fault → Type 0
 HasFlawAt terms pieces i row code fault =
     HasFlaw (term_at terms (piece_at pieces i).activity) (length (pieces_before pieces i))

@@ -98,7 +98,7 @@ load_of deck load = record {
   quantity = load.quantity;
 }
 
--- the account of a card: the item that it stands on, and its budget
+-- the account of a card: the item that it is on, and its budget
 abbrev pub account_of : Deck → AcctCard → AcctRow
 account_of deck card = record { item = number_among (item_codes deck) card.item; budget = card.budget }
 

@@ -1,7 +1,7 @@
--- Why a deck whose cards were read is refused: the first fault, phase by phase. A phase counts only where none before
+-- Why a deck whose cards were read is refused: the first fault, phase by phase. A phase counts only if no phase before
 -- it has a fault: first the cards one by one (F13 to F19, F41), then the tree of the items (F20 to F23, tried in that
 -- order), then the network of the activities (F24 to F27, tried in that order), then the items that activities and
--- accounts stand on (F28), then the budgets of packages (F29), then statuses and as-of (F30), then second amounts to go
+-- accounts are on (F28), then the budgets of packages (F29), then statuses and as-of (F30), then second amounts to go
 -- (F31), then the pieces of the activities' costs (F33 to F35), and last the terms of time (F36).
 use Rattle.std.specs.Prelude.{◌≡◌, ℕ, List, slice_index}
 use Rattle.pc_model.specs.Codes.{text_at}
@@ -32,7 +32,7 @@ use Rattle.pc_project.specs.TermsFaults.{HasTermsFault}
 use Rattle.pc_project.specs.ToGoFaults.{IsFirstSecondToGo}
 use Rattle.pc_project.specs.Misfit.{HasMisfit, HasNoMisfit}
 
--- the fault by which a refusal of the tree of these items is told; it comes at the card of the item that is named first
+-- the fault that reports a refusal of the tree of these items; its record is the card of the item that it names first
 abbrev pub tree_fault : List ItemCard → TreeError → DeckError
 tree_fault items tree.NoTop = Fault no_top
 tree_fault items (tree.SecondTop item) = Fault (second_top (slice_index (records_among items) item) (text_at (codes_among items) item))
@@ -40,13 +40,13 @@ tree_fault items (tree.Loop loop) = Fault (item_loop (slice_index (records_among
 tree_fault items (tree.TooDeep item level) = Fault (too_deep (slice_index (records_among items) item) (text_at (codes_among items) item) level)
 tree_fault items tree.OutOfMemory = OutOfMemory
 
--- these items, with these parents, are no tree, and that is told by the fault
+-- these items, with these parents, are no tree, and the fault says so
 pub record IsTreeFault (items : List ItemCard) (rows : List ItemRow) (fault : ADeckFault) : Type 0 where
   pub error : TreeError
   pub refused : IsTreeRefusal rows error
   pub told : tree_fault items error ≡ Fault fault
 
--- the fault by which a refusal of the network is told; it comes at the card of the activity or event that is named first
+-- the fault that reports a refusal of the network; its record is the card of the activity or event that it names first
 abbrev pub net_fault : Deck → NetError → DeckError
 net_fault deck (net.StartEntered arc) = Fault (enters_start (slice_index (act_records deck) arc) (text_at (act_codes deck) arc))
 net_fault deck (net.EndLeft arc) = Fault (leaves_end (slice_index (act_records deck) arc) (text_at (act_codes deck) arc))
@@ -60,15 +60,15 @@ pub record HasSoundPlan (deck : Deck) : Type 0 where
   pub tree : IsTree (rows_of deck)
   pub sound : IsSound (network_of deck)
 
--- where an item has activities, the budgets of its accounts add up to what these cost
+-- if an item has activities, the budgets of its accounts add up to what these cost
 abbrev pub IsEven : Deck → Type 0
 IsEven deck = (item : ℕ) → IsUneven (accounts_in deck) (work_in deck) item → ⊥
 
--- no account has two amounts to go of one day
+-- no account has two amounts to go for one day
 abbrev pub HasNoSecondToGo : Deck → Type 0
 HasNoSecondToGo deck = (k : ℕ) → IsRepeated (togos_in deck) k → ⊥
 
--- beside a sound plan, activities and accounts stand on leaves, packages are even, statuses and as-of are in order, and
+-- in addition to a sound plan, activities and accounts are on leaves, packages are even, statuses and as-of are in order, and
 -- no amount to go is a second one
 pub record HasSoundFigures (deck : Deck) : Type 0 where
   pub leaves : HasNoLeafFault deck
@@ -76,7 +76,7 @@ pub record HasSoundFigures (deck : Deck) : Type 0 where
   pub ordered : HasNoDisorder deck
   pub once : HasNoSecondToGo deck
 
--- no phase finds a fault: no card has one, the items are a tree, the network is sound, activities and accounts stand on leaves, packages
+-- no phase finds a fault: no card has one, the items are a tree, the network is sound, activities and accounts are on leaves, packages
 -- are even, statuses and as-of are in order, no amount to go is a second one, no piece has a fault, and the terms of time have none
 pub record HasNoFault (deck : Deck) : Type 0 where
   pub cards : HasNoMisfit deck
@@ -86,7 +86,7 @@ pub record HasNoFault (deck : Deck) : Type 0 where
   pub pieces : HasNoPieceFault deck
   pub terms : (fault : ADeckFault) → HasTermsFault deck fault → ⊥
 
--- the fault with which a deck is refused whose cards make no project; a phase counts only where none before it has a fault
+-- the fault with which a deck is refused if its cards make no project; a phase counts only if no phase before it has a fault
 pub data IsRefusedWith (deck : Deck) (fault : ADeckFault) : Type 0 where
   -- F13 to F19, F41: a card names what is not there, or its numbers are out of order
   of_cards : IsFirstFault (HasMisfit deck) fault → IsRefusedWith deck fault
@@ -94,7 +94,7 @@ pub data IsRefusedWith (deck : Deck) (fault : ADeckFault) : Type 0 where
   of_tree : HasNoMisfit deck → IsTreeFault deck.items (rows_of deck) fault → IsRefusedWith deck fault
   -- F24 to F27: the network is not sound
   of_network : HasNoMisfit deck → IsTree (rows_of deck) → (e : NetError) → IsNetRefusal (network_of deck) e → net_fault deck e ≡ Fault fault → IsRefusedWith deck fault
-  -- F28: an activity or an account stands on an item that has items below it
+  -- F28: an activity or an account is on an item that has items below it
   of_leaves : HasSoundPlan deck → IsFirstFault (HasLeafFault deck) fault → IsRefusedWith deck fault
   -- F29: a package has budgets that are not the costs of its activities
   of_packages : HasSoundPlan deck → HasNoLeafFault deck → IsFirstUnevenFault deck fault → IsRefusedWith deck fault

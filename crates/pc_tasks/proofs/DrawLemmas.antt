@@ -1,4 +1,4 @@
--- What one more task or row puts behind what is drawn.
+-- What one more task or row appends to what is generated.
 use Rattle.std.proofs.Common.{◌≡◌, ℕ, suc, ◌+◌, ◌<◌, ◌≤◌, List, [], ◌∷◌, ◌++◌, length, map, take, get_or, All, sym, ap, ◌∙◌, subst, arith, append_assoc}
 use Rattle.std.proofs.lemmas.List.{length-take-le, take_more}
 use Rattle.pc_tasks.specs.network.Arrows.{firsts, lasts}

@@ -1,4 +1,4 @@
--- Codes that are drawn stand once.
+-- Generated codes occur once.
 use Rattle.std.proofs.Common.{◌≡◌, ◌≢◌, ℕ, ◌-◌, ◌^◌, ◌<◌, ◌≤◌, List, [], ◌++◌, length, map, slice_index, refl, sym, ◌∙◌, ⊎_elim, arith}
 use Rattle.std.specs.Prelude.{All}
 use Rattle.std.specs.List.{range_with_len}
@@ -14,7 +14,7 @@ use Rattle.pc_tasks.proofs.CodeLemmas.{drawn_code-letter, drawn_code-number}
 abbrev pub AreApart : List (List ℕ) → List (List ℕ) → Type 0
 AreApart xs ys = (j k : ℕ) → j < length xs → k < length ys → text_at xs j ≢ text_at ys k
 
--- two lists behind one another
+-- two lists, one after the other
 pub once-append : (xs ys : List (List ℕ)) → IsNamedOnce xs → IsNamedOnce ys → AreApart xs ys → IsNamedOnce (xs ++ ys)
 once-append xs ys once_xs once_ys apart j k before inside same =
     ⊎_elim
@@ -44,7 +44,7 @@ module _ (l : ℕ) (xs : List ℕ) where
   pub drawn_at : (k : ℕ) → k < length xs → text_at (map (drawn_code l) xs) k ≡ drawn_code l (slice_index xs k)
   drawn_at k inside = get_or-map (drawn_code l) xs k 0 [] inside
 
-  -- numbers that stand once
+  -- numbers that occur once
   pub drawn-once : AreOnce xs → All (λ i. i < 2 ^ 32) xs → IsNamedOnce (map (drawn_code l) xs)
   drawn-once once small j k before inside same =
       let k_in : k < length xs = omega (arith, inside, length-map xs (drawn_code l)) in

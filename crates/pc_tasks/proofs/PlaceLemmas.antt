@@ -1,4 +1,4 @@
--- Where a code stands among codes.
+-- Where a code is in a list of codes.
 use Rattle.std.proofs.Common.{◌≡◌, ◌≢◌, ℕ, zero, suc, ◌+◌, ◌<◌, ◌≤◌, Bool, true, false, cond, nat_eq, List, [], ◌∷◌, ◌++◌, length, Some, None, refl, sym, ◌∙◌, ap, subst, arith}
 use Rattle.std.specs.Prelude.{IsSome, nat_lt, not}
 use Rattle.std.specs.Cmp.Lexicographic.{pointwise, bytes_decides}
@@ -24,17 +24,17 @@ first_place code (c ∷ cs) (suc k) inside is before =
     ap (λ b. cond (not b) (1 + position_or_len (pointwise nat_eq code) cs) 0) (is_other code c (before 0 (omega arith)))
     ∙ (ap (λ n. 1 + n) (first_place code cs k (omega arith) is (λ j below. before (suc j) (omega arith))) ∙ omega arith)
 
--- a code stands at its first place
+-- a code is at its first place
 pub first_place-is : (code : List ℕ) (codes : List (List ℕ)) (k : ℕ) → k < length codes → text_at codes k ≡ code → ((j : ℕ) → j < k → text_at codes j ≢ code) → named_among codes code ≡ Some k
 first_place-is code codes k inside is before =
     ap (λ n. cond (nat_lt n (length codes)) (Some n) None) (first_place code codes k inside is before)
     ∙ cond-true (nat_lt k (length codes)) (Some k) None (lt-ltb k (length codes) inside)
 
--- where no code stands twice, at the only one
+-- if no code occurs twice, at the only one
 pub only_place-is : (code : List ℕ) (codes : List (List ℕ)) (k : ℕ) → IsNamedOnce codes → k < length codes → text_at codes k ≡ code → named_among codes code ≡ Some k
 only_place-is code codes k once inside is = first_place-is code codes k inside is (λ j before same. once j k before inside (same ∙ sym is))
 
--- it is found at the same place where more codes stand behind
+-- it is found at the same place if more codes follow
 pub found-before : (code : List ℕ) (codes more : List (List ℕ)) → IsSome (named_among codes code) → named_among (codes ++ more) code ≡ named_among codes code
 found-before code codes more known =
     let (i, at) = found_at (named_among codes code) known in
@@ -44,7 +44,7 @@ found-before code codes more known =
     (λ j below same. false≢true (sym (before j below) ∙ is_same code (text_at codes j) (sym (get_or_append_left codes more [] j (omega (arith, below, inside))) ∙ same)))
     ∙ sym at
 
--- a code that stands somewhere is found
+-- a code that is in the list is found
 place-below : (code : List ℕ) (codes : List (List ℕ)) (k : ℕ) → k < length codes → text_at codes k ≡ code → position_or_len (pointwise nat_eq code) codes ≤ k
 place-below code [] k inside is = absurd (omega (arith, inside))
 place-below code (c ∷ cs) zero inside is = omega (arith, ap (λ b. cond (not b) (1 + position_or_len (pointwise nat_eq code) cs) 0) (is_same code c is))

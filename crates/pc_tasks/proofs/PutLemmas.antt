@@ -1,4 +1,4 @@
--- What one more element of a list puts behind others.
+-- What one more element of a list appends to others.
 use Rattle.std.proofs.Common.{◌≡◌, ℕ, ◌+◌, ◌<◌, List, [], ◌∷◌, ◌++◌, length, map, take, get_or, sym, ◌∙◌, ap, append_assoc}
 use Rattle.std.proofs.lemmas.List.{map_push, take_more}
 

@@ -1,16 +1,16 @@
--- The codes of what is drawn of tasks and stands on no card of theirs: `_`, a letter, and a number counted from 1. No card of tasks gives
--- such a code.
+-- The codes of the events and links that are generated from tasks and that no card names: `_`, a letter, and a number counted from 1.
+-- No card of a deck of tasks defines such a code.
 use Rattle.std.specs.Prelude.{ℕ, ◌+◌, List, ◌∷◌, codes, decimal}
 
 -- `_` (95), a letter and the number of the i-th from 0
 abbrev pub drawn_code : ℕ → ℕ → List ℕ
 drawn_code letter i = 95 ∷ letter ∷ decimal (i + 1)
 
--- `_b1`: the event where the first task begins
+-- `_b1`: the event at which the first task begins
 abbrev pub begin_code : ℕ → List ℕ
 begin_code i = drawn_code 98 i
 
--- `_e1`: the event where it ends
+-- `_e1`: the event at which it ends
 abbrev pub end_code : ℕ → List ℕ
 end_code i = drawn_code 101 i
 
@@ -18,11 +18,11 @@ end_code i = drawn_code 101 i
 abbrev pub after_code : ℕ → List ℕ
 after_code j = drawn_code 97 j
 
--- `_s1`: the link from the start to where the first task begins
+-- `_s1`: the link from the start to the event at which the first task begins
 abbrev pub first_code : ℕ → List ℕ
 first_code i = drawn_code 115 i
 
--- `_t1`: the link from where it ends to the end
+-- `_t1`: the link from the event at which it ends to the end
 abbrev pub last_code : ℕ → List ℕ
 last_code i = drawn_code 116 i
 

@@ -1,5 +1,5 @@
--- The deck of arrows that is drawn of a deck of tasks: an activity for each task, between two events of its own, and links that take no
--- time and cost nothing. All other cards are kept, and each card that is kept or drawn of a TASK card stands at the record where it stood.
+-- The deck of arrows that is generated from a deck of tasks: an activity for each task, between two events of its own, and links that take
+-- no time and cost nothing. All other cards are kept. A card that is kept, or generated from a TASK card, keeps its record number.
 use Rattle.std.specs.Prelude.{ℕ, ◌+◌, List, [], ◌∷◌, ◌++◌, length, map, find, is_none, Option, Some, None}
 use Rattle.pc_tasks.specs.network.Arrows.{firsts, lasts}
 use Rattle.pc_tasks.specs.declared.network.AfterRow.{AfterRow}
@@ -12,11 +12,11 @@ use Rattle.pc_deck.specs.declared.kinds.task.TaskCard.{TaskCard}
 use Rattle.pc_tasks.specs.Codes.{begin_code, end_code, after_code, first_code, last_code, links_code}
 use Rattle.pc_tasks.specs.Lists.{afters_in}
 
--- an event without a title; it stands on no card
+-- an event without a title, which no card gives
 abbrev pub drawn_event : List ℕ → TitledCard
 drawn_event code = record { row = 0; code = code; title = [] }
 
--- two events for each task, the first of which has number i: where it begins and where it ends
+-- two events for each task, where it begins and where it ends; the first task has number i
 abbrev pub task_events : ℕ → List TaskCard → List TitledCard
 task_events i [] = []
 task_events i (task ∷ tasks) = drawn_event (begin_code i) ∷ drawn_event (end_code i) ∷ task_events (i + 1) tasks
@@ -43,7 +43,7 @@ task_act i task = record {
   title = task.title;
 }
 
--- those of all tasks, the first of which has number i
+-- the activities of all tasks; the first task has number i
 abbrev pub task_acts : ℕ → List TaskCard → List ActCard
 task_acts i [] = []
 task_acts i (task ∷ tasks) = task_act i task ∷ task_acts (i + 1) tasks
@@ -66,16 +66,16 @@ link code from to = record {
   title = [];
 }
 
--- for each row that says which task comes after which, the first of which has number j, one from where the one task ends to where the other begins
+-- for each row that says which task comes after which, a link from where the one task ends to where the other begins; the first row has number j
 abbrev pub after_links : ℕ → List AfterRow → List ActCard
 after_links j [] = []
 after_links j (row ∷ rows) = link (after_code j) (end_code row.before) (begin_code row.task) ∷ after_links (j + 1) rows
 
--- one from the start to where a task begins
+-- a link from the start to where a task begins
 abbrev pub first_link : Deck → ℕ → ActCard
 first_link deck i = link (first_code i) deck.project.start (begin_code i)
 
--- one from where a task ends to the end
+-- a link from where a task ends to the end
 abbrev pub last_link : Deck → ℕ → ActCard
 last_link deck i = link (last_code i) (end_code i) deck.project.end
 

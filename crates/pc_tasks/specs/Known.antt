@@ -1,24 +1,24 @@
--- When arrows can be drawn of a deck of tasks.
+-- When arrows can be generated from a deck of tasks.
 use Rattle.pc_deck.specs.Deck.{Deck, named_among, task_codes}
 use Rattle.std.specs.Prelude.{◌≢◌, ℕ, ◌≤◌, List, ◌∷◌, length, All, IsSome}
 use Rattle.pc_deck.specs.declared.kinds.piece.PieceCard.{PieceCard}
 use Rattle.pc_deck.specs.declared.kinds.after.AfterCard.{AfterCard}
 use Rattle.pc_deck.specs.declared.limits.TheConstants.{MAX_TASKS}
 
--- the code does not begin with `_` (95), as those do that are drawn
+-- the code does not begin with `_` (95), as generated codes do
 abbrev pub IsGiven : List ℕ → Type 0
 IsGiven code = (rest : List ℕ) → code ≢ 95 ∷ rest
 
--- both codes of an AFTER card are those of tasks
+-- both codes of an AFTER card are codes of tasks
 pub record IsKnownAfter (deck : Deck) (after : AfterCard) : Type 0 where
   pub task : IsSome (named_among (task_codes deck) after.task)
   pub before : IsSome (named_among (task_codes deck) after.before)
 
--- the code of a PIECE card is that of a task
+-- the code of a PIECE card is the code of a task
 abbrev pub IsKnownPiece : Deck → PieceCard → Type 0
 IsKnownPiece deck piece = IsSome (named_among (task_codes deck) piece.activity)
 
--- the start and the end are two codes, neither of them of those that are drawn; and what cards name by the codes of tasks are tasks
+-- the start and the end are two codes, neither of them generated; and each task that a card names exists
 pub record CanBeDrawn (deck : Deck) : Type 0 where
   pub few : length deck.tasks ≤ MAX_TASKS
   pub start : IsGiven deck.project.start

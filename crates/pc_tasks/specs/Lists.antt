@@ -1,4 +1,4 @@
--- The tasks of a deck by their numbers: which of them come after which, what they may last and cost, and the pieces of their costs.
+-- The tasks of a deck by number: which of them come after which, what they may last and cost, and the pieces of their costs.
 use Rattle.std.specs.Prelude.{List, map}
 use Rattle.pc_model.specs.declared.Term.{Term}
 use Rattle.pc_model.specs.declared.PieceRow.{PieceRow}

@@ -15,7 +15,7 @@ IsFirstUneven accounts work (Item item budgets costs) =
     IsFirst (IsUneven accounts work) item × (budgets ≡ budgets_of accounts item) × (costs ≡ costs_of work item)
 IsFirstUneven accounts work OutOfMemory = Unit {0}
 
--- each activity belongs to one of so many items, and its cost is at most the limit
+-- each activity belongs to one of the items, and its cost is at most the limit
 pub record AreWork (items : ℕ) (work : List WorkRow) : Type 0 where
   pub known : (k : ℕ) → k < length work → (work_at work k).item < items
   pub small : (k : ℕ) → k < length work → (work_at work k).cost ≤ MAX_COST

@@ -17,9 +17,9 @@ pub record IsOf (statuses : List StatusRow) (ended : Bool) (a k : ℕ) : Type 0 
   pub activity : (status_at statuses k).activity ≡ a
   pub letter : (status_at statuses k).finished ≡ ended
 
--- why the k-th status of a project with this start and this as-of is in disorder: an earlier one says the same of its
--- activity; it is dated before the start, or after as-of; it says that an activity was ended of which no status says that it
--- was begun, or that one was ended before it was begun, by the first status that says when
+-- why the k-th status is in disorder, in a project with this start and this as-of date: an earlier status says the same of its
+-- activity; it is dated before the start, or after as-of; it ends an activity that no status begins; or it ends an activity
+-- before the first status that begins it
 abbrev pub HasReason : ℤ → ℤ → List StatusRow → ℕ → StatusFault → Type 0
 HasReason start as_of statuses k Second =
     (j : ℕ) × (j < k) × IsOf statuses (status_at statuses k).finished (status_at statuses k).activity j
@@ -39,7 +39,7 @@ reason_rank Late = 2
 reason_rank NoStart = 3
 reason_rank FinishFirst = 4
 
--- the reason that is told: the first that the status has
+-- the reason that is reported: the first that applies to the status
 pub record IsReason (start as_of : ℤ) (statuses : List StatusRow) (k : ℕ) (reason : StatusFault) : Type 0 where
   pub holds : HasReason start as_of statuses k reason
   pub first : (other : StatusFault) → reason_rank other < reason_rank reason → HasReason start as_of statuses k other → ⊥
@@ -53,12 +53,12 @@ IsInOrder start as_of statuses k =
 abbrev pub AreInOrder : ℤ → ℤ → List StatusRow → Type 0
 AreInOrder start as_of statuses = (k : ℕ) → k < length statuses → IsInOrder start as_of statuses k
 
--- so many sixths of a day are the days from the start to a day
+-- `sixths` is the time from the start to a day, in sixths of a day
 abbrev pub IsSixths : ℤ → ℤ → ℕ → Type 0
 IsSixths start day sixths = pos sixths ≡ pos 6 *ℤ (day -ℤ start)
 
--- how far activity a is: ended on the day of the status that says so, or else begun on the day of the one that says
--- that, or else it waits
+-- how far activity a is: ended on the day of the first status that ends it, or else begun on the day of the first that
+-- begins it, or else waiting
 abbrev pub IsStateOf : ℤ → List StatusRow → ℕ → ActState → Type 0
 IsStateOf start statuses a (Finished at) =
     (k : ℕ) × (IsFirst (IsOf statuses true a) k × IsSixths start (status_at statuses k).day at)

@@ -9,7 +9,7 @@ use Rattle.pc_project.specs.declared.activity.Activity.{Activity}
 use Rattle.pc_project.specs.declared.placed.Placement.{Placement}
 use Rattle.pc_project.specs.Project.{Project, arc_of, item_of_act}
 
--- where the activity of a card stands
+-- the events and the item of the activity of a card
 abbrev pub placement_of : Deck → ActCard → Placement
 placement_of deck act = record { arc = arc_of deck act; item = item_of_act deck act }
 

@@ -20,7 +20,7 @@ last_event n = 2 * n + 1
 abbrev pub task_arc : ℕ → Arc
 task_arc i = record { from = begin_event i; to = end_event i }
 
--- a link from where the one task ends to where the other begins that comes after it
+-- a link from where one task ends to where the task that comes after it begins
 abbrev pub after_arc : AfterRow → Arc
 after_arc after = record { from = end_event after.before; to = begin_event after.task }
 
@@ -39,15 +39,15 @@ comes_after afters i = list_any (λ after. after.task == i) afters
 abbrev pub comes_before : List AfterRow → ℕ → Bool
 comes_before afters i = list_any (λ after. after.before == i) afters
 
--- the tasks that come after none, and those that none comes after, in their order
+-- the tasks that come after no task, and those that no task comes after, in their order
 abbrev pub firsts : ℕ → List AfterRow → List ℕ
 firsts n afters = filter (λ i. not (comes_after afters i)) (range_with_len 0 n)
 
 abbrev pub lasts : ℕ → List AfterRow → List ℕ
 lasts n afters = filter (λ i. not (comes_before afters i)) (range_with_len 0 n)
 
--- the links: one for each row that says which task comes after which, one from the start to each task that comes after none, and
--- one to the end from each task that none comes after
+-- the links: one for each row that says which task comes after which, one from the start to each task that comes after no task, and
+-- one to the end from each task that no task comes after
 abbrev pub links : ℕ → List AfterRow → List Arc
 links n afters = map after_arc afters ++ (map first_arc (firsts n afters) ++ map (last_arc n) (lasts n afters))
 

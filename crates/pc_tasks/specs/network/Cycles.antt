@@ -1,4 +1,4 @@
--- Tasks that wait for each other in a circle.
+-- Tasks that wait for each other in a cycle.
 use Rattle.std.specs.Prelude.{◌≡◌, ◌≢◌, ℕ, ◌<◌, List, [], ◌∷◌, length, slice_index}
 use Rattle.pc_model.specs.Greatest.{IsFirst, StandsBelow}
 use Rattle.pc_tasks.specs.declared.network.AfterRow.{AfterRow}
@@ -17,7 +17,7 @@ IsTaskWalk afters s (v ∷ tasks) t = (v ≡ s) × (u : ℕ) × ComesAfter after
 abbrev pub IsTaskCycle : List AfterRow → List ℕ → Type 0
 IsTaskCycle afters tasks = (tasks ≢ []) × ((s : ℕ) × IsTaskWalk afters s tasks s)
 
--- no tasks wait for each other in a circle
+-- no tasks wait for each other in a cycle
 abbrev pub HasNoTaskCycle : List AfterRow → Type 0
 HasNoTaskCycle afters = (tasks : List ℕ) → IsTaskCycle afters tasks → ⊥
 
@@ -25,7 +25,7 @@ HasNoTaskCycle afters = (tasks : List ℕ) → IsTaskCycle afters tasks → ⊥
 abbrev pub LiesOnTaskCycle : List AfterRow → ℕ → Type 0
 LiesOnTaskCycle afters i = (tasks : List ℕ) × IsTaskCycle afters tasks × StandsBelow tasks (length tasks) i
 
--- a cycle of tasks that begins with the first task on any, and in which no task stands twice
+-- a cycle of tasks that begins with the first task on any cycle, and in which no task occurs twice
 pub record IsFirstTaskCycle (afters : List AfterRow) (tasks : List ℕ) : Type 0 where
   pub cycle : IsTaskCycle afters tasks
   pub once : (j k : ℕ) → j < k → k < length tasks → slice_index tasks j ≢ slice_index tasks k

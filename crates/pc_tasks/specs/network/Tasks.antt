@@ -1,11 +1,11 @@
--- Tasks, which of them come after which, and their schedules: no event and no network is spoken of.
+-- Tasks, which of them come after which, and their schedules, without events or a network.
 use Rattle.std.specs.Prelude.{◌≡◌, ℕ, ◌+◌, ◌<◌, ◌≤◌, List, length, slice_index_or}
 use Rattle.pc_model.specs.declared.Term.{Term}
 use Rattle.pc_model.specs.Schedule.{normal_of, crash_of}
 use Rattle.pc_model.specs.Cost.{Knees, cost_of}
 use Rattle.pc_tasks.specs.declared.network.AfterRow.{AfterRow}
 
--- the j-th of the rows that say which task comes after which; past the end of the list one of zeros
+-- the j-th of the rows that say which task comes after which; past the end of the list, a row of zeros
 abbrev pub after_at : List AfterRow → ℕ → AfterRow
 after_at afters j = slice_index_or afters j (record { task = 0; before = 0 })
 
@@ -14,8 +14,8 @@ pub record AreAmong (n : ℕ) (afters : List AfterRow) : Type 0 where
   pub task : (j : ℕ) → j < length afters → (after_at afters j).task < n
   pub before : (j : ℕ) → j < length afters → (after_at afters j).before < n
 
--- a duration for each task from its crash to its normal one, and when it begins: no task begins before those have ended that it comes
--- after, and each ends at the length or before it
+-- a duration for each task, from crash to normal, and when it begins: no task begins before the tasks that it comes after have ended,
+-- and each ends at the length or before it
 pub record IsTaskSchedule (terms : List Term) (afters : List AfterRow) (limit : ℕ) (durations begins : ℕ → ℕ) : Type 0 where
   pub enough : (i : ℕ) → i < length terms → crash_of terms i ≤ durations i
   pub within : (i : ℕ) → i < length terms → durations i ≤ normal_of terms i

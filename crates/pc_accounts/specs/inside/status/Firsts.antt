@@ -10,7 +10,7 @@ abbrev pub FirstBelow : List StatusRow → Bool → ℕ → ℕ → Option ℕ �
 FirstBelow statuses ended a n None = (j : ℕ) → j < n → IsOf statuses ended a j → ⊥
 FirstBelow statuses ended a n (Some k) = (k < n) × IsFirst (IsOf statuses ended a) k
 
--- the same for each of so many activities
+-- the same for each activity
 pub record AreFirsts (activities : ℕ) (statuses : List StatusRow) (ended : Bool) (n : ℕ) (firsts : List (Option ℕ)) : Type 0 where
   pub one_each : length firsts ≡ activities
   pub each : (a : ℕ) → a < activities → FirstBelow statuses ended a n (option_at firsts a)

@@ -3,7 +3,7 @@
 use Rattle.std.specs.Prelude.{ℕ, List}
 use Rattle.pc_accounts.specs.declared.status.StatusRow.{StatusRow}
 
--- the statuses of so many activities
+-- the statuses of a number of activities
 pub record StatusLog : Type 0 where
   pub activities : ℕ
   pub statuses : List StatusRow

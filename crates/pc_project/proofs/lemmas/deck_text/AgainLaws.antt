@@ -153,7 +153,7 @@ module _ (a b : Deck) (same : SayTheSame a b) where
   misfit fault (has.project h) = let (told, there) = project_fault fault h in (told, has.project there)
   misfit fault (has.listed h) = let (told, there) = listed_fault fault h in (told, has.listed there)
 
-  -- what stands on an item with items below it
+  -- what is on an item with items below it
   on_branch : (c d : List ℕ) (row other : ℕ) → c ≡ d → (fault : Fault) → StandsOnBranch a row c fault → Some-fault (StandsOnBranch b other d)
   on_branch c d row other is fault (branch, told) = (
     _,

@@ -18,7 +18,7 @@ module _ (n : ℕ) (afters : List AfterRow) (among : AreAmong n afters) (more : 
   abbrev arcs : List Arc
   arcs = joined.arcs n afters among more outer
 
-  -- a cycle begins with a task, or with a link to where a task begins that stands next in it
+  -- a cycle begins with a task, or with a link to the beginning of a task that comes next in it
   data Begins (a : ℕ) (walk : List ℕ) : Type 0 where
     by_task : a < n → Begins a walk
     by_link : n ≤ a → (u : ℕ) → u < n → (rest : List ℕ) → walk ≡ u ∷ rest → to_of arcs a ≡ begin_event u → Begins a walk
