@@ -220,6 +220,15 @@ def test_a_list_that_was_brought_is_known(first: list[Voucher], second: list[Vou
     assert with_ledger(deck(), either, 1).deck == with_ledger(deck(), other, 1).deck
 
 
+def test_a_voucher_of_a_renamed_account_is_known() -> None:
+    """The list of all vouchers calls January's by the account's code of today."""
+    one = Voucher(date(2026, 1, 10), "FND", Decimal(600), "4711")
+    today = replace(one, account="GROUND")
+    brought = Ledger((one,)).with_vouchers([today], {"FND": "GROUND", "GROUND": "GROUND"})
+    assert brought.known == (today,) and not brought.new and not brought.again
+    assert Ledger((one,)).with_vouchers([today]).again == ((today, one),)
+
+
 def test_a_number_that_is_used_twice_is_found() -> None:
     """The same number with another amount is another voucher."""
     one = Voucher(date(2026, 3, 10), "FND", Decimal(600), "4711")

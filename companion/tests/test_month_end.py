@@ -125,13 +125,25 @@ def test_two_currencies_in_two_lists() -> None:
         close_month(books(), Lists((first, second)))
 
 
+def test_what_was_accepted_is_not_named_again() -> None:
+    """FND was below zero on the 10th until the 20th; the next list brings nothing of that."""
+    first = vouchers("1,2026-03-10,FND,-5\n2,2026-03-20,FND,30\n")
+    month = close_month(books(), Lists((first,)))
+    assert [finding.kind for finding in month.findings] == [BookingKind.BALANCE]
+    again = vouchers("3,2026-03-25,FND,1\n")
+    assert not close_month(month.books, Lists((again,))).findings
+    deeper = vouchers("3,2026-03-09,FND,-1\n")
+    found = close_month(month.books, Lists((deeper,))).findings
+    assert [finding.place for finding in found] == ["account FND on 2026-03-09"]
+
+
 @given(vouchers_of(CENTS), st.sampled_from((1, 100)))
 def test_the_sums_add_up(listed: list[Voucher], scale: int) -> None:
     """Every voucher is in the deck, later, in no account, below zero, or in the rounding."""
     start = books()
     start = replace(start, side=replace(start.side, money_scale=scale))
     total = sum((voucher.amount for voucher in listed), Decimal(0))
-    brought = VoucherList(tuple(listed), (), total, "", (), ())
+    brought = VoucherList(tuple(listed), (), total, "", ())
     sums = close_month(start, Lists((brought,))).sums
     assert sums.listed == sums.ledger == total and sums.left_out == 0
     if scale == 100:
@@ -148,7 +160,7 @@ def test_the_next_file_and_the_ledger_in_either_order(
     march = books(ledger=Ledger(tuple(first)) if has_ledger else None)
     april = deck_of(DECK.replace("ASOF,2026-04-01", "ASOF,2026-05-01").replace("2000", "2500"))
     numbered = [replace(voucher, number=f"N{at}") for at, voucher in enumerate(second)]
-    brought = Lists((VoucherList(tuple(numbered), (), Decimal(0), "", (), ()),))
+    brought = Lists((VoucherList(tuple(numbered), (), Decimal(0), "", ()),))
     vouchers_first = close_month(march, brought).books
     one = close_month(replace(vouchers_first, deck=april), Lists()).books
     file_first = close_month(replace(march, deck=april), Lists()).books

@@ -96,7 +96,7 @@ def test_headings_are_named_and_remembered() -> None:
         read(text)
     named = (("date", "Wann"), ("account", "Wofür"))
     found = read(text, *named)
-    assert found.headings == named and found.vouchers[0].account == "Ground"
+    assert found.vouchers[0].account == "Ground"
     source = Source(Path("may.csv"), "Betrag,Wofür,Text,Wann\n5,Walls,x,2026-05-31\n".encode())
     again = read_vouchers(source, ReaderOptions(), named)
     assert again.vouchers[0].account == "Walls" and again.vouchers[0].text == "x"
@@ -104,6 +104,19 @@ def test_headings_are_named_and_remembered() -> None:
         read(text, ("what", "Wann"))
     with pytest.raises(InputError, match="no column has the heading 'When'"):
         read(text, ("date", "When"), ("account", "Wofür"))
+
+
+def test_a_heading_that_is_remembered_comes_before_others() -> None:
+    """A list with Konto and PSP-Element: the column that was named once is the account."""
+    text = "Datum,Konto,PSP-Element,Betrag\n2026-03-31,4711,Ground,5\n"
+    assert read(text).vouchers[0].account == "4711"
+    source = Source(Path("may.csv"), text.encode())
+    named = (("account", "PSP-Element"), ("to go", "Rest"))
+    found = read_vouchers(source, ReaderOptions(), named).vouchers[0]
+    assert found.account == "Ground" and found.others == (("Konto", "4711"),)
+    other = "Datum,Konto,Betrag\n2026-03-31,Walls,5\n"
+    again = read_vouchers(Source(Path("june.csv"), other.encode()), ReaderOptions(), named)
+    assert again.vouchers[0].account == "Walls"
 
 
 def test_rows_that_are_no_vouchers_are_named() -> None:

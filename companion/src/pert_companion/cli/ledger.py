@@ -31,14 +31,16 @@ from pert_companion.model.ledger import Ledger, ledger_path, read_ledger, to_byt
 from pert_companion.model.output import LEDGER, Output, Outputs
 from pert_companion.programs.client import Programs
 from pert_companion.readers.base import ReaderOptions
-from pert_companion.readers.estimates import read_progress, read_to_go
-from pert_companion.readers.vouchers import read_vouchers
+from pert_companion.readers.estimates import PROGRESS, TO_GO, read_progress, read_to_go
+from pert_companion.readers.vouchers import VOUCHERS, read_vouchers
 from pert_companion.state.project import ProjectState
 from pert_companion.writers.json_file import result_text
 
 NAME = "pert-ledger"
 MOST_LINES = 20
 """So many findings are named one by one; the others are counted."""
+FIELDS = tuple(dict.fromkeys((*VOUCHERS.headings, *TO_GO.headings, *PROGRESS.headings)))
+"""The fields of lists, as `--column` names them."""
 EXAMPLES = """\
   pert-ledger april.csv vouchers.xlsx                    what booking them would do
   pert-ledger april.csv vouchers.xlsx -o april.csv --overwrite
@@ -113,10 +115,10 @@ def _add_list_options(command: argparse.ArgumentParser) -> None:
     command.add_argument(
         "--column",
         metavar="FIELD=HEADING",
-        type=column_word,
+        type=heading_word,
         action="append",
         default=[],
-        help="the heading of a column of vouchers; later lists may have it too",
+        help="the heading of a column; it is remembered, and later lists may have it too",
     )
     _add_style_options(command)
 
@@ -211,7 +213,7 @@ def _books(state: ProjectState) -> Books:
 
 
 def _lists(state: ProjectState, options: argparse.Namespace) -> Lists:
-    """Returns the lists of the words; headings that were named once are known."""
+    """Returns the lists of the words; headings that were named for earlier ones are known."""
     calendar = state.side.calendar
     words = ReaderOptions(
         decimal=options.decimal,
@@ -220,24 +222,26 @@ def _lists(state: ProjectState, options: argparse.Namespace) -> Lists:
         day_minutes=calendar.day_minutes,
         week_minutes=calendar.week_minutes,
     )
-    of_vouchers = ReaderOptions(
-        decimal=options.decimal,
-        day_first=options.day_first,
-        encoding=options.encoding,
-        sheet=options.sheet,
-        columns=tuple(options.column),
-    )
-    remembered = dict(() if state.ledger is None else state.ledger.headings)
-    vouchers = []
-    for path in options.vouchers:
-        vouchers.append(read_vouchers(read_source(path), of_vouchers, tuple(remembered.items())))
-        remembered.update(vouchers[-1].headings)
+    of_vouchers = [pair for pair in options.column if pair[0] in VOUCHERS.headings]
+    voucher_words = replace(words, sheet=options.sheet, columns=tuple(of_vouchers))
+    known = () if state.ledger is None else state.ledger.headings
+    named = tuple((dict(known) | dict(options.column)).items())
     close: date = options.as_of or close_of(state.deck)
     return Lists(
-        tuple(vouchers),
-        tuple(read_to_go(read_source(path), words, close) for path in options.to_go),
-        tuple(read_progress(read_source(path), words) for path in options.progress),
+        tuple(read_vouchers(read_source(path), voucher_words, named) for path in options.vouchers),
+        tuple(read_to_go(read_source(path), words, close, named) for path in options.to_go),
+        tuple(read_progress(read_source(path), words, named) for path in options.progress),
+        tuple(options.column),
     )
+
+
+def heading_word(word: str) -> tuple[str, str]:
+    """Returns the field of a list and the heading in a word such as `account=Kostenart`."""
+    name, heading = column_word(word)
+    field = name.replace("-", " ")
+    if field not in FIELDS:
+        raise argparse.ArgumentTypeError(f"{name[:40]!r} is none of {', '.join(FIELDS)}")
+    return field, heading
 
 
 def _is_accepted(findings: Iterable[Finding], accepted: frozenset[BookingKind]) -> bool:

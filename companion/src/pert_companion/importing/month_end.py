@@ -42,10 +42,14 @@ class Books:
     renames: Renames = Renames()
 
     @property
+    def names(self) -> dict[str, str]:
+        """Returns the code that the deck has for each account of any state."""
+        return self.renames.names_of(account.code for account in self.deck.accounts)
+
+    @property
     def booked_ledger(self) -> Ledger:
         """Returns the ledger with its accounts by the codes that the deck has for them."""
-        codes = (account.code for account in self.deck.accounts)
-        return self.ledger.renamed(self.renames.names_of(codes))
+        return self.ledger.renamed(self.names)
 
 
 @dataclass(frozen=True)
@@ -55,6 +59,8 @@ class Lists:
     vouchers: tuple[VoucherList, ...] = ()
     to_go: tuple[EstimateList, ...] = ()
     progress: tuple[ProgressList, ...] = ()
+    headings: tuple[tuple[str, str], ...] = ()
+    """The fields whose headings the user named, to be remembered."""
 
     @property
     def all(self) -> tuple[VoucherList | EstimateList | ProgressList, ...]:
@@ -125,9 +131,11 @@ class MonthEnd:
 def close_month(books: Books, lists: Lists, close: date | None = None) -> MonthEnd:
     """Returns the state at a close of business with what the lists bring.
 
-    Without `close` it is that of the deck. Raises `InputError` if a list has another currency.
+    Without `close` it is that of the deck. What was odd about the ledger before is not named again:
+    it was accepted when it was booked. Raises `InputError` if a list has another currency.
     """
-    findings: list[Finding] = list(_own_charges(books))
+    before = with_ledger(books.deck, books.booked_ledger, books.side.money_scale)
+    findings: list[Finding] = list(_own_charges(books, before))
     deck, side = books.deck, books.side
     if close is not None:
         deck, side = as_of_close(deck, side, close)
@@ -138,26 +146,23 @@ def close_month(books: Books, lists: Lists, close: date | None = None) -> MonthE
     findings.extend(progressed.findings)
     ledger, known, new = _brought(books, lists, findings)
     estimates = list(chain.from_iterable(each.estimates for each in lists.to_go))
-    ledger = ledger.with_to_go(estimates)
+    ledger = ledger.with_to_go(estimates).with_headings(lists.headings)
     state = replace(books, deck=deck, side=side, ledger=ledger, has_ledger=True)
     held = state.booked_ledger
     added = held.vouchers[len(held.vouchers) - new :]
     findings.extend(booking_findings(deck, added, finished_packages(deck)))
     findings.extend(_unknown_estimates(deck, held, estimates))
     booked = with_ledger(deck, held, side.money_scale)
-    findings.extend(booked.findings)
+    findings.extend(each for each in booked.findings if each not in before.findings)
     state = replace(state, deck=booked.deck, side=side if books.has_side_file else books.side)
     notes = tuple(_notes(lists, progressed.silent if reported else ()))
     return MonthEnd(state, booked, tuple(findings), notes, _sums(state, lists, known, new), new)
 
 
-def _own_charges(books: Books) -> Iterator[Finding]:
-    """Yields a finding if the deck has charges that do not come from its ledger."""
+def _own_charges(books: Books, booked: Booked) -> Iterator[Finding]:
+    """Yields a finding if the deck has charges that its ledger, as `booked` has it, has not."""
     deck = books.deck
-    if not deck.charges:
-        return
-    booked = with_ledger(deck, books.booked_ledger, books.side.money_scale)
-    if booked.deck.charges != deck.charges:
+    if deck.charges and booked.deck.charges != deck.charges:
         held = Decimal(sum(card.amount for card in deck.charges)) / books.side.money_scale
         what = "are not those of its ledger" if books.has_ledger else "are in no ledger"
         why = f"its charges, {currency_text(held)}, {what}; replaced by the ledger's"
@@ -171,12 +176,12 @@ def _list_findings(lists: Lists) -> Iterator[Finding]:
 
 def _brought(books: Books, lists: Lists, findings: list[Finding]) -> tuple[Ledger, Decimal, int]:
     """Returns the ledger with all vouchers, the sum of those it had, and how many are new."""
-    ledger = books.ledger
+    ledger, names = books.ledger, books.names
     known, new = Decimal(0), 0
     for each in lists.vouchers:
         ledger = _with_currency(ledger, each, books.side.currency)
-        brought = ledger.with_vouchers(each.vouchers)
-        ledger = replace(brought.ledger, headings=_headings(ledger, each))
+        brought = ledger.with_vouchers(each.vouchers, names)
+        ledger = brought.ledger
         known += sum((voucher.amount for voucher in brought.known), Decimal(0))
         new += len(brought.new)
         for voucher, other in brought.again:
@@ -186,12 +191,6 @@ def _brought(books: Books, lists: Lists, findings: list[Finding]) -> tuple[Ledge
             )
             findings.append(Finding(BookingKind.NUMBER, voucher.place, why))
     return ledger, known, new
-
-
-def _headings(ledger: Ledger, brought: VoucherList) -> tuple[tuple[str, str], ...]:
-    named = dict(ledger.headings)
-    named.update(dict(brought.headings))
-    return tuple(named.items())
 
 
 def _with_currency(ledger: Ledger, brought: VoucherList, own: str) -> Ledger:

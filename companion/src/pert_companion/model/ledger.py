@@ -58,11 +58,14 @@ class Voucher:
         """Returns the file and the row, for messages."""
         return f"{self.source}: row {self.row}"
 
-    @property
-    def entry(self) -> tuple[str, date, str, Decimal, str]:
-        """Returns what makes two rows the same voucher, wherever they came from."""
+    def entry(self, names: Mapping[str, str]) -> tuple[str, date, str, Decimal, str]:
+        """Returns what makes two rows the same voucher, wherever they came from.
+
+        `names` are the codes of today of accounts that were renamed.
+        """
         text = "" if self.number else self.text
-        return self.number, self.day, self.account, self.amount, text
+        account = names.get(self.account, self.account)
+        return self.number, self.day, account, self.amount, text
 
 
 @dataclass(frozen=True)
@@ -119,19 +122,24 @@ class Ledger:
             days[voucher.day] = days.get(voucher.day, Decimal(0)) + voucher.amount
         return found
 
-    def with_vouchers(self, brought: Iterable[Voucher]) -> "Brought":
+    def with_vouchers(
+        self, brought: Iterable[Voucher], names: Mapping[str, str] | None = None
+    ) -> "Brought":
         """Returns the ledger with the vouchers of a list; those that it has are known.
 
-        A row that the ledger has twice is known twice.
+        A row that the ledger has twice is known twice. `names` are the codes of today of accounts
+        that were renamed, by which the accounting system may call vouchers of earlier months too.
         """
-        held = Counter(voucher.entry for voucher in self.vouchers)
+        today = names or {}
+        held = Counter(voucher.entry(today) for voucher in self.vouchers)
         numbers = {voucher.number: voucher for voucher in self.vouchers if voucher.number}
         new: list[Voucher] = []
         known: list[Voucher] = []
         again: list[tuple[Voucher, Voucher]] = []
         for voucher in brought:
-            if held[voucher.entry] > 0:
-                held[voucher.entry] -= 1
+            entry = voucher.entry(today)
+            if held[entry] > 0:
+                held[entry] -= 1
                 known.append(voucher)
                 continue
             new.append(voucher)
@@ -147,6 +155,10 @@ class Ledger:
         found = {(estimate.account, estimate.day): estimate for estimate in self.to_go}
         found.update({(estimate.account, estimate.day): estimate for estimate in brought})
         return replace(self, to_go=tuple(found.values()))
+
+    def with_headings(self, named: Iterable[tuple[str, str]]) -> "Ledger":
+        """Returns the ledger with headings of fields, which take the place of older ones."""
+        return replace(self, headings=tuple((dict(self.headings) | dict(named)).items()))
 
 
 @dataclass(frozen=True)

@@ -1,5 +1,6 @@
 """Reads what a month's end brings next to vouchers: amounts to go by account, progress by task."""
 
+from collections.abc import Iterable
 from dataclasses import dataclass
 from datetime import date
 
@@ -79,9 +80,17 @@ class ProgressList:
     notes: tuple[str, ...]
 
 
-def read_to_go(source: Source, options: ReaderOptions, close: date) -> EstimateList:
-    """Returns the amounts to go of a list; rows without a date are as of `close`."""
-    sheet = read_sheet(source, options, TO_GO)
+def read_to_go(
+    source: Source,
+    options: ReaderOptions,
+    close: date,
+    remembered: Iterable[tuple[str, str]] = (),
+) -> EstimateList:
+    """Returns the amounts to go of a list; rows without a date are as of `close`.
+
+    `remembered` are fields with headings that the user named.
+    """
+    sheet = read_sheet(source, options, TO_GO.remembering(remembered))
     found: list[ToGo] = []
     findings: list[Finding] = []
     for row in sheet.rows:
@@ -107,9 +116,14 @@ def _optional_day(row: Row, field: str, style: Style) -> date | None:
     return None if is_nothing(row.cell(field)) else day(row.cell(field), style)
 
 
-def read_progress(source: Source, options: ReaderOptions) -> ProgressList:
-    """Returns the progress of a list; a task that it names twice is a finding."""
-    sheet = read_sheet(source, options, PROGRESS)
+def read_progress(
+    source: Source, options: ReaderOptions, remembered: Iterable[tuple[str, str]] = ()
+) -> ProgressList:
+    """Returns the progress of a list; a task that it names twice is a finding.
+
+    `remembered` are fields with headings that the user named.
+    """
+    sheet = read_sheet(source, options, PROGRESS.remembering(remembered))
     found: dict[str, Reported] = {}
     findings: list[Finding] = []
     for row in sheet.rows:

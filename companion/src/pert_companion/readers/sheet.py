@@ -5,7 +5,7 @@ come in any order. A formula without a value, or one that a text still has, ends
 """
 
 from collections.abc import Iterable, Mapping, Sequence
-from dataclasses import dataclass, replace
+from dataclasses import dataclass, field, replace
 
 from pert_companion.model.errors import InputError, UsageError
 from pert_companion.model.source import Source
@@ -38,16 +38,24 @@ class Layout:
     needed: tuple[tuple[str, ...], ...]
     """Of each of these groups the list has at least one field."""
     columns: Columns = Columns((), ())
+    remembered: Mapping[str, str] = field(default_factory=dict)
+    """The heading that the user named for a field of an earlier list, in small letters."""
 
     def remembering(self, named: Iterable[tuple[str, str]]) -> "Layout":
-        """Returns the same columns with further headings, each of which means its field alone."""
-        headings = {name: list(words) for name, words in self.headings.items()}
+        """Returns the same columns with headings that the user named; those of others are left out.
+
+        Such a heading means its field alone. A list that has it has no other column for the field.
+        """
+        own = {}
         for name, heading in named:
-            word = heading_of(heading).text
-            for words in headings.values():
-                words[:] = [each for each in words if each != word]
+            if heading and name in self.headings:
+                own[name] = heading_of(heading).text
+        headings = {}
+        for name, words in self.headings.items():
+            headings[name] = [word for word in words if word not in own.values()]
+        for name, word in own.items():
             headings[name].append(word)
-        return replace(self, headings=headings)
+        return replace(self, headings=headings, remembered=own)
 
 
 @dataclass(frozen=True)
@@ -164,22 +172,33 @@ def _found_head(rows: Sequence[GridRow], layout: Layout, chosen: Mapping[str, st
     fields = fields_by_word(layout.headings)
     best: Head | None = None
     for position, row in enumerate(rows[:ROWS_ABOVE_HEAD]):
-        head = _head(row, position, fields, chosen)
+        texts = [heading_of(cell).text for cell in row.cells]
+        head = _head(row, position, fields, _named(texts, layout, chosen))
         if head.columns and (best is None or len(head.columns) > len(best.columns)):
             best = head
     return best
 
 
-def _head(
-    row: GridRow, position: int, fields: Mapping[str, str], chosen: Mapping[str, str]
-) -> Head:
-    """Returns the columns of a row that is taken for the row of headings."""
-    wanted = {heading_of(heading).text: name for name, heading in chosen.items() if heading}
+def _named(texts: Sequence[str], layout: Layout, chosen: Mapping[str, str]) -> dict[str, str]:
+    """Returns the fields whose headings the user names, and those of earlier lists in this row."""
+    named = {name: heading_of(heading).text for name, heading in chosen.items()}
+    for name, word in layout.remembered.items():
+        if name not in named and word in texts:
+            named[name] = word
+    return named
+
+
+def _head(row: GridRow, position: int, fields: Mapping[str, str], named: Mapping[str, str]) -> Head:
+    """Returns the columns of a row that is taken for the row of headings.
+
+    A field that is named has the column with this heading alone, and none if it is empty.
+    """
+    wanted = {word: name for name, word in named.items() if word}
     columns: dict[str, int] = {}
     for at, cell in enumerate(row.cells):
         text = heading_of(cell).text
         name = wanted.get(text) or fields.get(text)
-        if name is None or name in columns or (name in chosen and text not in wanted):
+        if name is None or name in columns or (name in named and text not in wanted):
             continue
         columns[name] = at
     headings = {

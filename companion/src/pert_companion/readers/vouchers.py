@@ -107,8 +107,6 @@ class VoucherList:
     total: Decimal
     """The sum of all amounts that could be read, whether their rows are vouchers or not."""
     currency: str
-    headings: tuple[tuple[str, str], ...]
-    """The headings that the user named, to be remembered."""
     notes: tuple[str, ...]
 
 
@@ -135,9 +133,7 @@ def read_vouchers(
     if not vouchers:
         why = f"; {findings[0].line()}" if findings else ""
         raise InputError(f"{source.name}: there is no voucher{why.replace(source.name + ': ', '')}")
-    return VoucherList(
-        tuple(vouchers), tuple(findings), total, currency, options.columns, sheet.notes
-    )
+    return VoucherList(tuple(vouchers), tuple(findings), total, currency, sheet.notes)
 
 
 def _voucher(row: Row, sheet: Sheet, value: Decimal) -> Voucher:
