@@ -393,7 +393,7 @@ def test_text_and_csv_say_the_same() -> None:
     assert "march.csv -> april.csv\nEND 2026-06-19, 1 day later than 2026-06-18\n" in text
     assert "BY 2026-06-10: before in time; now for 2600 more\n" in text
     assert "now impossible (2026-06-11 at the earliest)\n" in text
-    assert "RESTATED: of the time before 2026-05-01\n" in text
+    assert "RESTATED: since the report of 2026-04-30\n" in text
     rows = compare_csv.to_csv(history).decode().split("\n")
     assert rows[0] == "From,To,Part,Code,Name,What,Old,New"
     assert ",march.csv,state,,,cost of keeping it,,2600" in rows

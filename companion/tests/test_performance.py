@@ -189,7 +189,10 @@ def test_reserve_is_in_no_baseline() -> None:
     earned = earned_value(state(APRIL, *rules, changes=changes), state(PLAN))
     assert earned.of(Scope.UNDISTRIBUTED) == Figures(550, 0, 0, 0)
     assert earned.of(Scope.RESERVE) == Figures(500, 0, 0, 0)
-    assert earned.total.bac == 6600 and earned.baseline_budget == 7150
+    assert earned.total.bac == 6600 and earned.changed == 300
+    assert earned.baseline_budget == 6600 + 550 + 300
+    whole = earned.baseline_budget + earned.of(Scope.RESERVE).bac
+    assert whole == 6600 + 500 + 800 + 50  # all there was, and the new money
 
 
 def test_managers_answer_for_what_is_below() -> None:
@@ -277,37 +280,73 @@ def test_budgets_that_moved_without_a_change_are_named() -> None:
 
 
 def test_time_phased_by_hand() -> None:
-    """By the end of March, its 31st, 29 days have passed: all is planned but 0 of HIGH is left."""
+    """At the data date the figures are those of every other table; by 31 March all is planned."""
     plan, now = state(PLAN), state()
-    months = time_phased([plan, now], plan)
+    months = time_phased([plan, now], [plan])
     closes = sorted({month.close for month in months})
     assert closes == [date(2026, 3, 22), date(2026, 3, 31)]
     first = {m.account: (m.pv, m.ev, m.ac) for m in months if m.close == closes[0]}
-    assert first["FND"] == (1000, 1000, 1100)
-    assert first["WAL-L"] == (
-        3500 * 41 // 50,
-        2660,
-        900,
-    )  # 21 days: 2000 + 2100 of 5000
+    accounts = performance(now, plan).accounts
+    assert first == {line.code: figures(line)[1:] for line in accounts}
+    assert first["WAL-L"] == (3500 * 38 // 50, 2660, 900)  # 20 days: 2000 + 1800 of 5000
     last = {m.account: (m.pv, m.ev, m.ac) for m in months if m.close == closes[1]}
     assert last["WAL-L"] == (3500, None, None)
     assert sum(pv for pv, _, _ in last.values()) == 6600
 
 
+def test_the_end_of_a_month_is_its_evening() -> None:
+    """By the evening of 31 March, the morning of 1 April, charges of that morning count."""
+    later = APRIL.replace("ASOF,2026-03-22", "ASOF,2026-04-05")
+    later = later.replace(
+        "CHARGE,SUP", "CHARGE,FND,2026-04-01,30\nCHARGE,FND,2026-04-02,4\nCHARGE,SUP", 1
+    )
+    months = time_phased([state(later)], [state(PLAN)])
+    spent = {month.close: month.ac for month in months if month.account == "FND"}
+    wanted = {date(2026, 3, 31): 1130, date(2026, 4, 5): 1134, date(2026, 4, 30): None}
+    assert spent == wanted
+    first = APRIL.replace("ASOF,2026-03-22", "ASOF,2026-04-01")
+    months = time_phased([state(first)], [state(PLAN)])
+    assert {month.close for month in months} == {date(2026, 4, 1)}
+
+
+def test_time_phased_keeps_what_was_reported() -> None:
+    """By a new plan in which LOW lasts 20 days, less was planned; the report of then stays."""
+    plan = state(PLAN)
+    replan = state(
+        PLAN.replace("WBS,W,,", "ASOF,2026-03-23\nWBS,W,,", 1).replace(
+            "LOW,C,10,10,10,10,10", "LOW,C,20,20,20,20,20"
+        )
+    )
+    then, now = state(), state(APRIL.replace("ASOF,2026-03-22", "ASOF,2026-03-24"))
+    months = [m for m in time_phased([plan, then, now], [plan, replan]) if m.account == "WAL-L"]
+    first, second = months[:2]
+    assert (first.close, first.reported_pv, first.reported_ev) == (date(2026, 3, 22), 2660, 2660)
+    assert first.pv == 3500 * 16 // 50  # 16 of 20 days of LOW
+    assert (second.close, second.reported_pv) == (date(2026, 3, 24), None)
+    plain = time_phased([plan, then, now], [plan])
+    assert not any(month.reported_ev for month in plain)
+    text = performance_text.months_to_text(months, "MONTHS", 1)
+    assert "REPORTED PV" in text
+    assert "REPORTED" not in performance_text.months_to_text(plain, "MONTHS", 1)
+
+
 def test_time_phased_costs_are_the_ledgers() -> None:
-    """A voucher counts in the month of its day, also a credit; nothing is known after today."""
+    """A voucher counts in the month of its day, also a credit; nothing is known after today.
+
+    With a ledger the morning of 22 March is the close of the 21st: vouchers of the 22nd are later.
+    """
     ledger = Ledger(
         (
             Voucher(date(2026, 2, 28), "FND", Decimal("100")),
             Voucher(date(2026, 3, 5), "FND", Decimal("1000.40")),
-            Voucher(date(2026, 3, 20), "FND", Decimal("-0.40")),
-            Voucher(date(2026, 3, 30), "FND", Decimal("5")),
+            Voucher(date(2026, 3, 21), "FND", Decimal("-0.40")),
+            Voucher(date(2026, 3, 22), "FND", Decimal("5")),
         )
     )
     now = replace(state(), ledger=ledger)
-    months = time_phased([now], state(PLAN))
+    months = time_phased([now], [state(PLAN)])
     spent = {month.close: month.ac for month in months if month.account == "FND"}
-    assert spent == {date(2026, 3, 22): 1100, date(2026, 3, 31): None}
+    assert spent == {date(2026, 3, 21): 1100, date(2026, 3, 31): None}
 
 
 @given(st.dates(date(1900, 1, 1), date(2199, 12, 31)))

@@ -148,6 +148,9 @@ def test_budgets_without_a_change() -> None:
     change = BudgetChange(date(2026, 3, 10), "reserve", "B", Decimal(100))
     logged = replace(plan_of(more), registers=Registers(changes=(change,)))
     assert not of_kind(doubts(logged, baseline=plan_of(PLAN)), DoubtKind.UNLOGGED)
+    missed = replace(plan_of(APRIL), registers=Registers(changes=(change,)))
+    effects = [doubt.effect for doubt in doubts(missed, baseline=plan_of(PLAN))]
+    assert effects == ["100 of changes.csv are not in its budget"]
 
 
 def test_the_texts_have_row_figure_and_effect() -> None:

@@ -2,6 +2,7 @@
 
 import io
 import os
+import shutil
 import signal
 import subprocess
 import sys
@@ -15,7 +16,7 @@ from page.reports import gathered_of
 from pert_companion.cli import remaining, report, schedule
 from pert_companion.cli.common import run_command
 from pert_companion.page.verify import verify_page
-from running import WITH_INTERRUPTS
+from running import EXAMPLES, WITH_INTERRUPTS
 
 HERE = Path(__file__).resolve().parent
 SOURCE = HERE.parent / "src"
@@ -47,6 +48,43 @@ def test_a_charge_of_the_past_that_came_or_went(tmp_path: Path) -> None:
         assert run(now, "-o", page, "--previous", before) == 0
         text = page.read_text("utf-8")
         assert "Restated past" in text and f"{sign}{amount:,}" in text
+
+
+def pump_page(folder: Path, page: Path) -> str:
+    """Returns the page of February of the pump station, as it was written."""
+    february, plan, january = (folder / f"{name}.csv" for name in ("february", "plan", "january"))
+    words = (february, "-o", page, "--baseline", plan, "--previous", january)
+    assert run(*words) == 0
+    return page.read_text("utf-8").replace("\u00a0", " ")
+
+
+def test_a_page_has_the_ledger_and_the_tables(
+    tmp_path: Path, capsys: pytest.CaptureFixture[str]
+) -> None:
+    """Level of effort, reserve, credits and one date; the page is made again without the files."""
+    page = tmp_path / "february.html"
+    text = pump_page(EXAMPLES / "pump", page)
+    assert "· as of 28 Feb 2026<" in text and "1 Mar 2026<" not in text
+    assert "Level of effort in BAC, earned as planned</dt><dd>31,800.00<" in text
+    assert "Management reserve, in no baseline</dt><dd>15,000.00<" in text
+    assert "Credits since the last report" in text and "Credit note: tipping" in text
+    assert "of the time before it changed" not in text
+    capsys.readouterr()
+    assert run("--check", page) == 0
+    assert "the page is what version" in capsys.readouterr().out
+
+
+def test_a_restated_past_in_cents(tmp_path: Path) -> None:
+    """January said 1.00 more of one voucher: the estimate of its account is bridged by that."""
+    folder = tmp_path / "pump"
+    shutil.copytree(EXAMPLES / "pump", folder)
+    ledger = folder / "january.ledger.csv"
+    changed = ledger.read_text().replace("Ground,26150.00,", "Ground,26151.00,")
+    assert changed != ledger.read_text()
+    ledger.write_text(changed)
+    text = pump_page(folder, tmp_path / "february.html")
+    assert "1 figure of the time before it changed" in text
+    assert "\u22121.00" in text and "26,151.00" not in text and "26151.00" in text
 
 
 @pytest.mark.parametrize("has_terms", [False, True])

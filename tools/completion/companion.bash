@@ -31,7 +31,7 @@ _pert_companion() {
         esac
         ;;
     pert-export)
-        options='-h --help --version --length --by --optimum --normal --bin --plan -o --output --overwrite --format --into'
+        options='-h --help --version --length --by --optimum --normal --bin --plan -o --output --overwrite --format --into --json'
         case $3 in
         --bin) value='file' ;;
         -o | --output) value='file' ;;
@@ -86,7 +86,7 @@ _pert_companion() {
         esac
         ;;
     pert-report)
-        options='-h --help --version --length --by --optimum --normal --bin -o --output --overwrite --baseline --previous --currency --brief --check --verify-page'
+        options='-h --help --version --length --by --optimum --normal --bin -o --output --overwrite --baseline --previous --currency --brief --check --verify-page --json'
         case $3 in
         --bin) value='file' ;;
         -o | --output) value='file' ;;

@@ -11,3 +11,4 @@ complete -c pert-export -s o -l output -r -F -d 'the file to write; - is standar
 complete -c pert-export -l overwrite -d 'replace files of another kind, and files that are read, too'
 complete -c pert-export -l format -x -a 'xml xlsx csv ics' -d 'what to write (default: by the ending of the name, and csv to standard output)'
 complete -c pert-export -l into -r -F -d 'the planner\'s file that the deck came from: its durations and dates are changed'
+complete -c pert-export -l json -d 'print what was written as JSON'

@@ -8,7 +8,7 @@ complete -c pert-ledger -l ledger -r -F -d 'the ledger so far, if it is not the 
 complete -c pert-ledger -l to-go -r -F -d 'amounts to go'
 complete -c pert-ledger -l progress -r -F -d 'percent complete, remaining duration, actual dates of tasks'
 complete -c pert-ledger -l accept -x -d 'what to accept, by kind, as later,closed'
-complete -c pert-ledger -l column -x -d 'the heading of a column of vouchers; later lists may have it too'
+complete -c pert-ledger -l column -x -d 'the heading of a column; it is remembered, and later lists may have it too'
 complete -c pert-ledger -l sheet -x -d 'the sheet of a workbook of vouchers'
 complete -c pert-ledger -l decimal -x -a '. ,' -d 'the decimal mark'
 complete -c pert-ledger -l encoding -x -d 'the character set'

@@ -23,6 +23,7 @@ from pert_companion.model.registers import Rename, Renames
 from pert_companion.model.sidefile import SideFile
 from pert_companion.page import changed, charts, chooser, decision, first, money, timeline
 from pert_companion.page.bridges import account_moves
+from pert_companion.page.doubts import doubts_table
 from pert_companion.page.gathering import Gathered
 from pert_companion.page.report import page_of
 from pert_companion.page.view import Line, signed
@@ -213,10 +214,21 @@ def test_what_is_hard_to_believe_is_an_alert() -> None:
     found = gathered_of(MONTHS / "may.csv", previous=MONTHS / "april.csv")
     alerts = [(alert.key, text_of(alert.text)) for alert in first.alerts(found)]
     assert alerts == [
-        ("cost", "To check, amount to go did not fall by what was spent: Windows"),
-        ("schedule", "To check, out of sequence: Make the windows"),
+        ("doubts", "To check, amount to go did not fall by what was spent: Windows"),
+        ("doubts", "To check, out of sequence: Make the windows"),
     ]
     assert {key for key, _ in alerts} <= {section.key for section in page_of(found).sections}
+    table = doubts_table(found)
+    assert table is not None and table.caption == "2 to check"
+    rows = [[text_of(cell) for cell in (row.name, *row.cells)] for row in table.rows]
+    assert rows[1] == [
+        "out of sequence",
+        "Make-windows Make the windows",
+        "5",
+        "began 2026-03-10; Clear-site, which it comes after, was finished later",
+        "the plan had another order",
+    ]
+    assert doubts_table(gathered_of(MONTHS / "plan.csv")) is None
 
 
 def test_the_headline_says_how_sure_it_is(house: Gathered) -> None:

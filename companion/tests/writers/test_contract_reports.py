@@ -50,7 +50,7 @@ def test_the_workbook(tmp_path: Path, capfdbinary: Capture) -> None:
     shaft = row_of(book["By account"], ["Shaft"])
     assert shaft[5:11] == (84000, 84000, 38400, 67500.75, -45600, -29100.75)
     total = row_of(book["Time-phased"], ["TOTAL", rows(book["Time-phased"])[1][1]])
-    assert total[2:] == (120680, 110360, 89250.5)  # 45000 + 15000 + 45000 + 7200 + 8480
+    assert total[2:5] == (120680, 110360, 89250.5)  # 45000 + 15000 + 45000 + 7200 + 8480
     assert rows(book["Changes"])[1][1:] == (
         "reserve",
         "Shaft",
@@ -70,12 +70,13 @@ def test_the_contract_reports(tmp_path: Path, capfdbinary: Capture) -> None:
     assert shaft[2:7] == (36000, 28800, 39100, -7200, -10300)
     assert shaft[7:12] == (84000, 38400, 67500.75, -45600, -29100.75)
     assert shaft[12:] == (84000, 129500.75, -45500.75)
-    amounts = {row[1]: row[12] for row in rows(book["Format 1"])[-4:]}
+    amounts = {row[1]: row[12] for row in rows(book["Format 1"])[-5:]}
     assert amounts == {
         "Undistributed budget": 8000,
-        "Performance measurement baseline": 357800,
+        "Changes not in the plan yet": 6000,
+        "Performance measurement baseline": 363800,
         "Management reserve": 9000,
-        "Total": 366800,
+        "Total": 372800,  # as before the 6000 went from the reserve to the shaft
     }
     changed, baseline = rows(book["Format 3"])[1:3]
     assert changed[-1] == 6000
@@ -85,6 +86,21 @@ def test_the_contract_reports(tmp_path: Path, capfdbinary: Capture) -> None:
     said = {(row[0], row[3]): row[6] for row in rows(book["Format 5"])[1:]}
     assert said["Shaft", "SV"] == "Rock below the slab: the walls began 11 days late"
     assert said["Shaft", "CV"] is None
+
+
+def test_variances_of_other_lines(capfdbinary: Capture) -> None:
+    """By item, or by manager: Ada's work is late, dear and over budget, Ben's is cheap."""
+    words = ("--threshold", "10%,5000", "--csv")
+    by_item = run(capfdbinary, *words).output
+    assert "\nShaft,Shaft,Ada,SV,-45600.00,-54.3," in by_item
+    by_manager = run(capfdbinary, *words, "--lines", "managers").output
+    found = [line.split(",")[:6] for line in by_manager.splitlines()[1:]]
+    assert found == [
+        ["Ada", "", "Ada", "SV", "-45600.00", "-24.6"],  # of 75000 + 84000 + 26288
+        ["Ada", "", "Ada", "CV", "-33262.75", "-23.8"],  # of 75000 + 38400 + 26288
+        ["Ada", "", "Ada", "VAC", "-47450.75", "-24.9"],  # of 75000 + 84000 + 31800
+        ["Ben", "", "Ben", "CV", "29869.35", "23.7"],  # of 90000 + 36000
+    ]
 
 
 def test_thresholds() -> None:
@@ -105,6 +121,7 @@ def test_words_that_make_no_sense(tmp_path: Path, capfdbinary: Capture) -> None:
         ["--lines", "accounts"],
         ["--earned", "-o", tmp_path / "x.csv"],
         ["--earned", "--threshold", "much"],
+        ["--earned", "--threshold", "10%", "--lines", "months"],
     ]
     for words in wrong:
         found = run_words(capfdbinary, compare.NAME, command, [*STATES, *words])

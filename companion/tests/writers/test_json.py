@@ -21,10 +21,12 @@ from pert_companion.cli import (
     check_status,
     compare,
     days,
+    exporting,
     importing,
     ledger,
     portfolio,
     remaining,
+    report,
     schedule,
 )
 from pert_companion.cli.json_schemas import RESULTS, file_name, schemas
@@ -124,14 +126,29 @@ WORDS: dict[str, list[object]] = {
     "pert-portfolio": [DECK, HOUSE, "missing.csv", "--no-cache"],
     "pert-import": [LISTS / "plan.csv", "--start", "2026-01-05", "--cents"],
     "pert-ledger": [EXAMPLES / "pump" / "january.csv", LISTS / "february-vouchers.csv"],
+    "pert-export": [DECK],
+    "pert-report": [DECK],
 }
 """What each command is run on."""
 VALUES = {"--threshold": ["1%,100"], "--count": ["2026-05-04"]}
 """What the last option of a command needs."""
 MODULES: dict[str, ModuleType] = {
     module.NAME: module
-    for module in (check_status, compare, days, importing, ledger, portfolio, remaining, schedule)
+    for module in (
+        check_status,
+        compare,
+        days,
+        exporting,
+        importing,
+        ledger,
+        portfolio,
+        remaining,
+        report,
+        schedule,
+    )
 }
+WRITERS = {"pert-import": "pump.csv", "pert-export": "may.xlsx", "pert-report": "may.html"}
+"""The commands that write a file, each with its name."""
 
 
 def run(capture: Capture, words: Sequence[object]) -> Outcome:
@@ -155,8 +172,11 @@ def test_what_commands_print_is_valid(command: str, capfdbinary: Capture, tmp_pa
     """Each command on an example; of three decks one is missing, and of one list rows are odd."""
     name, *options = command.split(" ")
     words = [name, *WORDS[name], *options, *VALUES.get(options[-1] if options else "", [])]
-    if name == "pert-import":
-        words += ["-o", tmp_path / "pump.csv"]
+    if name in WRITERS:
+        words += ["-o", tmp_path / WRITERS[name]]
+    if command == "pert-report --check":
+        assert run(capfdbinary, [name, *WORDS[name], "-o", tmp_path / "may.html"]).status == 0
+        words = [command.split(" ")[0], "--check", tmp_path / "may.html"]
     found = run(capfdbinary, [*words, "--json"])
     assert found.status == (1 if name in ("pert-portfolio", "pert-ledger") else 0), found.errors
     assert valid(command, found.output) is not None
@@ -225,6 +245,24 @@ def test_a_ledger_names_findings_and_sums(capfdbinary: Capture) -> None:
     assert sums["listed"] == sums["new"] + sums["known"] + sums["left_out"]
 
 
+def test_what_was_written_is_said(capfdbinary: Capture, tmp_path: Path) -> None:
+    """The days of the export are those of its schedule; the page's size is that of the file."""
+    book, page = tmp_path / "may.xlsx", tmp_path / "may.html"
+    words = ["pert-export", DECK, "-o", book, "--json"]
+    exported = valid("pert-export", run(capfdbinary, words).output)
+    listed = valid("pert-schedule", run(capfdbinary, ["pert-schedule", DECK, "--json"]).output)
+    assert (exported["file"], exported["format"]) == (str(book), "xlsx")
+    assert exported["tasks"] == len(listed["tasks"]) and exported["end"] == listed["end"]
+    reported = valid(
+        "pert-report", run(capfdbinary, ["pert-report", DECK, "-o", page, "--json"]).output
+    )
+    assert reported["size"] == page.stat().st_size and reported["data_date"] == "2026-05-29"
+    page.write_bytes(page.read_bytes().replace(b"May", b"June", 1))
+    checked = run(capfdbinary, ["pert-report", "--check", page, "--json"])
+    verdict = valid("pert-report --check", checked.output)
+    assert checked.status == 1 and not verdict["is_right"]
+
+
 def test_json_is_the_only_thing_that_is_printed(capfdbinary: Capture) -> None:
     """What would print something else too is refused."""
     for words, fault in (
@@ -233,6 +271,8 @@ def test_json_is_the_only_thing_that_is_printed(capfdbinary: Capture) -> None:
         (["pert-remaining", DECK, "-o", "-"], "name the deck"),
         (["pert-ledger", DECK, "-o", "-"], "name the deck"),
         (["pert-portfolio", DECK, "-o", "-"], "name the page"),
+        (["pert-report", DECK, "-o", "-"], "name the page"),
+        (["pert-export", DECK, "-o", "-"], "name the file"),
     ):
         found = run(capfdbinary, [*words, "--json"])
         assert found.status == 2 and fault in found.errors and not found.output

@@ -33,7 +33,7 @@ def budget_moves(current: ProjectState, baseline: ProjectState) -> Iterator[Budg
     """
     before = _budgets_before(current, baseline)
     now = _budgets(current.deck)
-    logged = _logged(current, baseline)
+    logged = logged_moves(current, baseline)
     for item in [*now, *(code for code in before if code not in now)]:
         move = BudgetMove(item, before.get(item, 0), now.get(item, 0), logged.get(item, 0))
         if move.before != move.now or move.logged:
@@ -46,8 +46,8 @@ def unlogged_moves(current: ProjectState, baseline: ProjectState) -> Iterator[Bu
 
 
 def changes_until(current: ProjectState, baseline: ProjectState) -> tuple[BudgetChange, ...]:
-    """Returns the changes after the baseline's data date and up to the current one."""
-    first, last = baseline.data_day, current.data_day
+    """Returns the changes after the baseline's close of business and up to the current one."""
+    first, last = baseline.close, current.close
     is_plan = not baseline.has_begun
     changes = current.registers.changes
     return tuple(c for c in changes if (is_plan or first < c.day) and c.day <= last)
@@ -76,8 +76,8 @@ def _budgets_before(current: ProjectState, baseline: ProjectState) -> dict[str, 
     return found
 
 
-def _logged(current: ProjectState, baseline: ProjectState) -> dict[str, int]:
-    """Returns what the change log moved to each package, less what it took."""
+def logged_moves(current: ProjectState, baseline: ProjectState) -> dict[str, int]:
+    """Returns what the change log moved to each package since the baseline, less what it took."""
     found: dict[str, int] = {}
     apart = {rule.item for rule in current.registers.packages if rule.technique.is_budget_alone}
     apart |= {"", "reserve", "undistributed"}

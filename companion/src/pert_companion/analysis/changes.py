@@ -63,6 +63,8 @@ class Restated:
     new: str
     day: date
     """The day that it is about: a first or last day of work, or a day of money."""
+    moved: int = 0
+    """By how much charges or an amount to go rose, in units of money of the comparison."""
 
 
 @dataclass(frozen=True)

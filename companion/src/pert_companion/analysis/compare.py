@@ -25,6 +25,7 @@ from pert_companion.analysis.forecast import (
     forecast,
     late_minutes,
 )
+from pert_companion.analysis.renaming import Renaming, renamings
 from pert_companion.analysis.restated_money import (
     CreditNote,
     credit_notes,
@@ -33,9 +34,8 @@ from pert_companion.analysis.restated_money import (
 from pert_companion.analysis.total_float import SIXTHS
 from pert_companion.model.errors import UsageError
 from pert_companion.model.figures import day_words
-from pert_companion.model.sidefile import SideTask
 from pert_companion.programs.results import Breakpoint, cost_at
-from pert_companion.state.matching import Matching, match_states, proposed_renames
+from pert_companion.state.matching import Matching, match_states
 from pert_companion.state.project import ProjectState
 
 
@@ -158,8 +158,8 @@ class Comparison:
     restated: tuple[Restated, ...]
     credits: tuple[CreditNote, ...]
     """The credits that were booked since the older state, where there is a ledger."""
-    renamed: tuple[tuple[SideTask, SideTask], ...]
-    """Tasks that went, each with the one that came and is like it: proposals for `renames.csv`."""
+    renamed: tuple[Renaming, ...]
+    """What went, each with the one that came and is like it: proposals for `renames.csv`."""
     slack_used: tuple[FloatChange, ...]
     curves: tuple[CurveRow, ...]
     """From the latest end of either curve to the earliest one."""
@@ -297,7 +297,7 @@ def _comparison(old: StateFigures, new: StateFigures, scale: int) -> Comparison:
         changes=task_changes(*sides, matching),
         restated=(*restatements(*sides, matching), *restated_money(*sides)),
         credits=credit_notes(*sides),
-        renamed=proposed_renames(matching, old.state, new.state),
+        renamed=renamings(matching, old.state, new.state),
         slack_used=tuple(_slack_used(old, new, matching)),
         curves=tuple(curve_rows(old, new)),
     )

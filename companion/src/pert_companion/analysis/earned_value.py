@@ -26,6 +26,7 @@ from decimal import Decimal
 from enum import Enum
 from fractions import Fraction
 
+from pert_companion.analysis.budgets import logged_moves
 from pert_companion.analysis.measuring import (
     Done,
     Measured,
@@ -169,11 +170,14 @@ class EarnedValue:
     unit_minutes: int
     """The working minutes of a unit of the baseline."""
     notes: tuple[str, ...]
+    changed: int = 0
+    """What the change log moved to packages since the baseline, so that it is not in BAC yet."""
 
     def scaled(self, factor: int) -> "EarnedValue":
         """Returns the same with all amounts in units of money that are so many times smaller."""
         packages = tuple(replace(p, figures=p.figures.scaled(factor)) for p in self.packages)
-        return replace(self, packages=packages, total=self.total.scaled(factor))
+        total, changed = self.total.scaled(factor), self.changed * factor
+        return replace(self, packages=packages, total=total, changed=changed)
 
     def of(self, *scopes: Scope) -> Figures:
         """Returns the sum of the packages of these scopes."""
@@ -181,8 +185,8 @@ class EarnedValue:
 
     @property
     def baseline_budget(self) -> int:
-        """Returns the budget of the baseline: that of measured work, and undistributed budget."""
-        return self.total.bac + self.of(Scope.UNDISTRIBUTED).bac
+        """Returns the budget of the baseline: measured work, undistributed budget, and changes."""
+        return self.total.bac + self.of(Scope.UNDISTRIBUTED).bac + self.changed
 
     @property
     def schedule_variance(self) -> Fraction:
@@ -217,6 +221,7 @@ def earned_value(current: ProjectState, baseline: ProjectState) -> EarnedValue:
         earned_schedule=time_of_value(all_pieces(list(measured.values())), Fraction(total.ev)),
         unit_minutes=baseline.side.unit_minutes,
         notes=tuple(_notes(measurer.matching, packages, current)),
+        changed=sum(logged_moves(current, baseline).values()),
     )
 
 
@@ -462,7 +467,7 @@ def moved_to(current: ProjectState, rule: PackageRule) -> Decimal:
     names = {rule.item, rule.technique.value}
     moved = Decimal(0)
     for change in current.registers.changes:
-        if change.day <= current.data_day:
+        if change.day <= current.close:
             moved += change.amount if change.target in names else 0
             moved -= change.amount if change.source in names else 0
     return moved

@@ -132,10 +132,10 @@ def _charges_by_day(
 def shown_day(state: ProjectState, day: date) -> date:
     """Returns the close of business that a date of money means, for people.
 
-    The dates of a deck are mornings: where its data date is known, each is the day before. A deck
-    written by hand is shown as it was written.
+    The dates of a deck are mornings, so each is the day before. Those of a deck written by hand are
+    shown as they were written.
     """
-    return day - ONE_DAY if state.side.data_date is not None else day
+    return day - ONE_DAY if state.counts_closes else day
 
 
 def _running(amounts: Mapping[date, int]) -> Iterable[MoneyPoint]:

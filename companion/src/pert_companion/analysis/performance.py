@@ -2,11 +2,12 @@
 
 A line has one scope: PV, EV and AC of the same measured packages. What came since the previous
 state stands next to what came in all. Within a package of several accounts, planned and earned
-value are divided by the budgets of the accounts, and actual cost is each account's own.
+value are divided by the budgets of the accounts, and actual cost is each account's own. Earned
+schedule is a figure of a total: a part of the work has no time of its own.
 """
 
 from collections.abc import Iterator, Mapping, Sequence
-from dataclasses import dataclass
+from dataclasses import dataclass, replace
 from datetime import date
 from fractions import Fraction
 
@@ -17,8 +18,10 @@ from pert_companion.analysis.earned_value import (
     Package,
     Scope,
     earned_value,
+    measured_packages,
     total_of,
 )
+from pert_companion.analysis.measuring import all_pieces, time_of_value
 from pert_companion.model.deck import Deck
 from pert_companion.model.parts import divided
 from pert_companion.programs.results import preorder
@@ -27,6 +30,26 @@ from pert_companion.state.project import ProjectState
 
 MEASURED = "all that is measured"
 UNNAMED = "(nobody named)"
+
+
+@dataclass(frozen=True)
+class EarnedTime:
+    """Earned schedule (Lipke 2003), in working days of the baseline."""
+
+    earned: Fraction
+    """The time at which the baseline planned what is earned now."""
+    actual: Fraction
+    """The time from the baseline's start to the data date, or to the last finish."""
+
+    @property
+    def variance(self) -> Fraction:
+        """Returns SV(t): earned schedule less actual time."""
+        return self.earned - self.actual
+
+    @property
+    def spi(self) -> Fraction | None:
+        """Returns SPI(t): earned schedule / actual time; None before any time has passed."""
+        return self.earned / self.actual if self.actual else None
 
 
 @dataclass(frozen=True)
@@ -46,6 +69,8 @@ class Line:
     """Since the previous state; None without one."""
     latest: int | None
     """The latest estimate of the cost at the end: what was spent, and the amounts to go."""
+    time: EarnedTime | None = None
+    """Of the project and of totals alone."""
 
     @property
     def variance_at_completion(self) -> int | None:
@@ -94,8 +119,10 @@ class _Maker:
     ) -> None:
         self.current = current
         self.previous = previous
+        self.baseline = baseline
         self.earned = earned_value(current, baseline)
         self.packages = self.earned.packages
+        self.measured = measured_packages(current, baseline)
         self.levels = dict(preorder(current.deck))
         self.before: dict[str, Figures] | None = None
         if previous is not None:
@@ -128,6 +155,14 @@ class _Maker:
         held = (self.before[p.code] for p in packages if p.code in self.before)
         return figures.since(total_of(held))
 
+    def timed(self, line: Line, packages: Sequence[Package]) -> Line:
+        """Returns the line of a total with its earned schedule."""
+        held = [self.measured[each.code] for each in packages if each.code in self.measured]
+        earned = time_of_value(all_pieces(held), Fraction(line.figures.ev))
+        side = self.baseline.side
+        day = Fraction(side.unit_minutes, side.calendar.day_minutes)
+        return replace(line, time=EarnedTime(earned * day, self.earned.actual_time * day))
+
     def structure(self) -> Iterator[Line]:
         """Yields a line for each item with anything measured below it."""
         titles = {item.code: item.title for item in self.current.deck.items}
@@ -138,7 +173,8 @@ class _Maker:
             scopes = {package.scope.value for package in packages}
             if packages:
                 scope = scopes.pop() if len(scopes) == 1 else MEASURED
-                yield self.line(code, titles[code], packages, scope)
+                made = self.line(code, titles[code], packages, scope)
+                yield made if self.levels[code] > 1 else self.timed(made, packages)
 
     def managers(self) -> Iterator[Line]:
         """Yields a line for each manager with measured packages, in the order of the packages."""
@@ -207,9 +243,10 @@ class _Maker:
         for scope in (Scope.WORK, Scope.EFFORT):
             own = [package for package in self.packages if package.scope is scope]
             if own:
-                yield self.line("", scope.value, own, scope.value)
+                line = self.line("", scope.value, own, scope.value)
+                yield self.timed(line, own) if scope is Scope.WORK else line
         measured = [package for package in self.packages if package.is_measured]
-        yield self.line("", MEASURED, measured)
+        yield self.timed(self.line("", MEASURED, measured), measured)
         for scope in (Scope.UNDISTRIBUTED, Scope.RESERVE, Scope.UNMEASURED):
             own = [package for package in self.packages if package.scope is scope]
             if own:

@@ -39,7 +39,7 @@ class DoubtKind(Enum):
     OUT_OF_SEQUENCE = "out of sequence"
     PERCENT_APART = "percent and remaining duration disagree"
     STANDS_STILL = "critical without progress"
-    UNLOGGED = "budget moved without a change"
+    UNLOGGED = "budget and log of changes disagree"
 
 
 @dataclass(frozen=True)
@@ -50,7 +50,7 @@ class Doubt:
     code: str
     """The task, account or package."""
     row: int | None
-    """The row of the task in its source."""
+    """The row in the source of the task, or of the group or the first task of an account."""
     name: str
     figure: str
     """What the state says, as a text."""
@@ -93,6 +93,7 @@ class _Finder:
         items = {card.code: card.item for card in state.deck.work}
         for task in state.side.tasks:
             self.tasks.setdefault(items[task.parts[0]], []).append(task)
+        self.rows = _rows_of_items(state)
         self.before = {} if previous is None else _money_before(state, previous)
 
     def money(self, amount: int) -> str:
@@ -120,7 +121,8 @@ class _Finder:
         effect: str,
         amount: int,
     ) -> Doubt:
-        return Doubt(kind, account.code, None, account.title, figure, effect, amount)
+        row = self.rows.get(account.item)
+        return Doubt(kind, account.code, row, account.title, figure, effect, amount)
 
     def _of_waiting(self, account: AccountCard, spent: int, to_go: int) -> Iterator[Doubt]:
         missing = account.budget - spent
@@ -261,23 +263,36 @@ def _progress_of(
 
 def _unlogged(state: ProjectState, baseline: ProjectState) -> Iterator[Doubt]:
     scale = state.side.money_scale
-    titles = _titles(state.deck) | _titles(baseline.deck)
+    titles, rows = _titles(state.deck) | _titles(baseline.deck), _rows_of_items(state)
     for move in unlogged_moves(state, baseline):
         figure = (
             f"budget {money_text(move.before, scale)} before, {money_text(move.now, scale)} now;"
             f" changes have {money_text(move.logged, scale)}"
         )
         effect = f"{money_text(move.unlogged, scale)} without a row in changes.csv"
+        if move.now == move.before:
+            effect = f"{money_text(move.logged, scale)} of changes.csv are not in its budget"
         kind = DoubtKind.UNLOGGED
         yield Doubt(
             kind,
             move.item,
-            None,
+            rows.get(move.item),
             titles.get(move.item, ""),
             figure,
             effect,
             move.unlogged,
         )
+
+
+def _rows_of_items(state: ProjectState) -> dict[str, int]:
+    """Returns the row of each item in the source: that of its group, or of its first task."""
+    items = {card.code: card.item for card in state.deck.work}
+    found: dict[str, int] = {}
+    for task in state.side.tasks:
+        if task.row is not None:
+            found.setdefault(items[task.parts[0]], task.row)
+    found.update({group.code: group.row for group in state.side.groups if group.row is not None})
+    return found
 
 
 def _titles(deck: Deck) -> dict[str, str]:

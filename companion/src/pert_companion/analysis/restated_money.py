@@ -39,12 +39,12 @@ class CreditNote:
 
 
 def credit_notes(old: Side, new: Side) -> tuple[CreditNote, ...]:
-    """Returns the credits that were booked after the older data date, by day."""
+    """Returns the credits that were booked after the older close of business, by day."""
     ledger = _ledger_of(new.state)
     if ledger is None:
         return ()
     titles = _titles(old, new)
-    first, last = old.state.data_day, new.state.data_day
+    first, last = old.state.close, new.state.close
     found = []
     for voucher in ledger.vouchers:
         if voucher.amount < 0 and first < voucher.day <= last and voucher.account in titles:
@@ -66,7 +66,7 @@ def restated_money(old: Side, new: Side) -> Iterator[Restated]:
     names = match_accounts(old.state.deck, new.state.deck, new.state.registers.renames)
     ledgers = _ledger_of(old.state, new.state), _ledger_of(new.state)
     if ledgers[0] is not None and ledgers[1] is not None:
-        close = old.state.data_day
+        close = old.state.close
         before, after = (
             _booked(ledger, side, close) for ledger, side in zip(ledgers, (old, new)) if ledger
         )
@@ -128,9 +128,11 @@ def _restated_totals(
     after = _totals(_charges(new, new.state.as_of))
     for old_code, amount in before.items():
         code = names.get(old_code, old_code)
-        if after.get(code, 0) < amount:
-            texts = money_text(amount, old.scale), money_text(after.get(code, 0), new.scale)
-            yield Restated(code, titles[code], "charges", *texts, old.state.data_day)
+        now = after.get(code, 0)
+        if now < amount:
+            texts = money_text(amount, old.scale), money_text(now, new.scale)
+            day = old.state.data_day
+            yield Restated(code, titles[code], "charges", *texts, day, now - amount)
 
 
 def _totals(amounts: _Dated) -> dict[str, int]:
@@ -147,7 +149,8 @@ def _restated_amounts(
         was, is_now = before.get(key), after.get(key)
         if was != is_now:
             texts = _money(was, scale), _money(is_now, scale)
-            yield Restated(key[0], titles.get(key[0], ""), what, *texts, key[1])
+            moved = (is_now or 0) - (was or 0)
+            yield Restated(key[0], titles.get(key[0], ""), what, *texts, key[1], moved)
 
 
 def _money(amount: int | None, scale: int) -> str:

@@ -18,7 +18,7 @@ EXAMPLES = """\
   pert-check-status april.csv                       what of April is hard to believe
   pert-check-status april.csv --previous march.csv  and what did not move since March
   pert-check-status months                          the last state of a folder, with the one before
-  pert-check-status april.csv --baseline plan.csv   and budgets that moved without a change
+  pert-check-status april.csv --baseline plan.csv   and budgets that changes.csv does not explain
   pert-check-status april.csv --strict              status 1 if there is anything"""
 
 

@@ -38,7 +38,7 @@ def add_earned_options(command: argparse.ArgumentParser) -> None:
         "--threshold",
         metavar="PERCENT,AMOUNT",
         type=threshold_word,
-        help="with --earned: explain variances from here on, as 10%%,50000",
+        help="with --earned: explain variances of items or --lines from here on, as 10%%,50000",
     )
     command.add_argument(
         "-o",
@@ -70,6 +70,8 @@ def check_earned_options(options: argparse.Namespace) -> None:
     given = (options.lines, options.threshold, options.output)
     if not options.earned and any(value is not None for value in given):
         raise UsageError("--lines, --threshold and --output go with --earned")
+    if options.lines == "months" and options.threshold is not None:
+        raise UsageError("--threshold goes with lines that have variances, not with months")
     if options.output is not None and is_file(options.output):
         if options.output.suffix.lower() != ".xlsx":
             raise UsageError(f"{options.output}: the name has to end with .xlsx")
@@ -86,10 +88,10 @@ def show_earned(
     begun = [state for state in states[:-1] if state.has_begun]
     found = performance(current, baseline, begun[-1] if begun else None)
     if options.output is not None:
-        _write(options, states, baseline, found)
+        _write(options, states, baselines, found)
     elif options.lines == "months":
-        sys.stdout.write(_months(options, states, baseline))
-    elif options.threshold is not None and options.lines is None:
+        sys.stdout.write(_months(options, states, baselines))
+    elif options.threshold is not None:
         sys.stdout.write(_variances(options, current, found))
     elif options.lines is not None:
         sys.stdout.write(_lines(options, current, baseline, found))
@@ -140,14 +142,17 @@ def _lines(
 
 
 def _months(
-    options: argparse.Namespace, states: Sequence[ProjectState], baseline: ProjectState
+    options: argparse.Namespace,
+    states: Sequence[ProjectState],
+    baselines: Sequence[ProjectState],
 ) -> str:
     current = states[-1]
-    months, scale = time_phased(states, baseline), current.side.money_scale
+    months, scale = time_phased(states, baselines), current.side.money_scale
     if options.csv:
         return performance_text.months_to_csv(months, scale).decode()
     if options.json:
         return _json(months, current, "--lines months")
+    baseline = in_force(current, baselines)
     heading = _heading("EARNED VALUE by account and month", current, baseline)
     return performance_text.months_to_text(months, heading, scale)
 
@@ -155,8 +160,9 @@ def _months(
 def _variances_of(
     options: argparse.Namespace, current: ProjectState, found: Performance
 ) -> tuple[Variance, ...]:
+    lines: tuple[Line, ...] = getattr(found, options.lines or "structure")
     return variances(
-        found.structure,
+        lines,
         options.threshold or Threshold(),
         current.registers.explanations,
         current.data_day,
@@ -178,12 +184,13 @@ def _variances(options: argparse.Namespace, current: ProjectState, found: Perfor
 def _write(
     options: argparse.Namespace,
     states: Sequence[ProjectState],
-    baseline: ProjectState,
+    baselines: Sequence[ProjectState],
     found: Performance,
 ) -> None:
     """Writes the workbook of earned value, or that of the contract reports."""
     current = states[-1]
-    months, scale = time_phased(states, baseline), current.side.money_scale
+    baseline = in_force(current, baselines)
+    months, scale = time_phased(states, baselines), current.side.money_scale
     changes = changes_until(current, baseline)
     if options.threshold is None:
         data = to_xlsx(PerformanceBook(found, months, changes, scale))
@@ -201,6 +208,6 @@ def _write(
             current.side.currency,
         )
         data = to_formats(report)
-    read = [state.path for state in (*states, baseline)]
+    read = [state.path for state in (*states, *baselines)]
     outputs = Outputs([*read, *map(side_path, read)], options.overwrite)
     outputs.write(Output(options.output, WORKBOOK, data))

@@ -1,7 +1,8 @@
 """`pert-export`: a schedule as a file for a planner, a spreadsheet or a calendar."""
 
 import argparse
-from collections.abc import Iterator
+import sys
+from collections.abc import Iterator, Sequence
 from dataclasses import dataclass
 from datetime import date
 from pathlib import Path
@@ -19,7 +20,14 @@ from pert_companion.cli.choosing import (
 )
 from pert_companion.cli.common import CommandParser, say
 from pert_companion.cli.opening import with_tables
-from pert_companion.cli.writing import add_output_options, is_file, named, outputs_of
+from pert_companion.cli.outcomes import ExportOutcome
+from pert_companion.cli.writing import (
+    add_output_options,
+    check_json,
+    is_file,
+    named,
+    outputs_of,
+)
 from pert_companion.importing.conversion import MAX_BYTES
 from pert_companion.model.deck import Deck
 from pert_companion.model.errors import InputError, UsageError
@@ -33,6 +41,7 @@ from pert_companion.state.work import Work
 from pert_companion.writers.csv_file import SCHEDULE_TABLE, to_csv
 from pert_companion.writers.ics import to_ics
 from pert_companion.writers.into import WAYS_BACK, WayBack
+from pert_companion.writers.json_file import result_text
 from pert_companion.writers.mspdi import to_mspdi
 from pert_companion.writers.xlsx import Workbooks, to_xlsx
 
@@ -76,14 +85,17 @@ def parser() -> CommandParser:
         type=Path,
         help="the planner's file that the deck came from: its durations and dates are changed",
     )
+    command.add_argument("--json", action="store_true", help="print what was written as JSON")
     return command
 
 
 def run(options: argparse.Namespace) -> int:
     """Writes the file and returns the status: 1 if a task of the deck is not in the original."""
+    check_json(options, "the file")
     ending = _ending(options)
     original = None if options.into is None else _original(options, ending)
     kind = FORMATS[ending] if original is None else original.way.kind
+    written = ending if original is None else original.way.ending
     outputs = outputs_of(options, [options.deck], [options.into])
     outputs.check(options.output, kind)
     state = with_tables(open_state(options.deck, programs_of(options)))
@@ -94,16 +106,35 @@ def run(options: argparse.Namespace) -> int:
     else:
         data, missing = _into(state, original, schedule)
     outputs.write(Output(options.output, kind, data))
+    lines = list(missing)
     if original is None:
-        for line in _about_new_file(ending, state, schedule):
-            say(NAME, line)
-    for line in missing:
+        lines.extend(_about_new_file(ending, state, schedule))
+    for line in lines:
         say(NAME, line)
     say(
         NAME,
         f"{named(options.output)}: {len(schedule.tasks)} tasks, {schedule.start} to {schedule.end}",
     )
+    if options.json:
+        outcome = _outcome(options, written, schedule, lines)
+        sys.stdout.write(result_text(NAME, state.side, outcome))
     return 1 if missing else 0
+
+
+def _outcome(
+    options: argparse.Namespace, ending: str, schedule: Schedule, lines: Sequence[str]
+) -> ExportOutcome:
+    """Returns what was written, for JSON; `lines` are what is not in the file."""
+    return ExportOutcome(
+        file=str(options.output),
+        format=ending.removeprefix("."),
+        tasks=len(schedule.tasks),
+        start=schedule.start,
+        end=schedule.end,
+        length=schedule.length,
+        unit_minutes=schedule.unit_minutes,
+        missing=tuple(lines),
+    )
 
 
 def _about_new_file(ending: str, state: ProjectState, schedule: Schedule) -> Iterator[str]:

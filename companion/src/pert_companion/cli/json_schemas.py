@@ -8,6 +8,7 @@ from pert_companion.analysis.plausibility import Doubt
 from pert_companion.analysis.schedule import Schedule
 from pert_companion.analysis.time_phased import Month
 from pert_companion.analysis.variances import Variance
+from pert_companion.cli.outcomes import CheckOutcome, ExportOutcome, ReportOutcome
 from pert_companion.importing.outcomes import ImportOutcome, LedgerOutcome
 from pert_companion.model.days import DayCount
 from pert_companion.portfolio.row import Row
@@ -36,6 +37,9 @@ RESULTS: dict[str, Any] = {
     "pert-import": ImportOutcome,
     "pert-ledger": LedgerOutcome,
     "pert-portfolio": tuple[Row, ...],
+    "pert-export": ExportOutcome,
+    "pert-report": ReportOutcome,
+    "pert-report --check": CheckOutcome,
 }
 """The type of the result of each command with `--json`."""
 

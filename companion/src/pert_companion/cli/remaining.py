@@ -8,6 +8,7 @@ from pathlib import Path
 
 from pert_companion.cli.choosing import add_bin_option, programs_of, said_left
 from pert_companion.cli.common import CommandParser, say
+from pert_companion.cli.opening import with_tables
 from pert_companion.cli.writing import (
     add_output_options,
     check_deck,
@@ -59,7 +60,7 @@ def run(options: argparse.Namespace) -> int:
     check_json(options, "the deck")
     outputs = outputs_of(options, [options.deck], [options.left])
     check_deck(outputs, options.output)
-    opened = open_state(options.deck, programs_of(options))
+    opened = with_tables(open_state(options.deck, programs_of(options)))
     state = opened.with_said(said_left(options.left))
     rest = state.remaining
     state.rest.check()
@@ -74,8 +75,9 @@ def run(options: argparse.Namespace) -> int:
 
 def _text(state: ProjectState, rest: Remaining, is_json: bool) -> str:
     if not is_json:
-        return table(rest, state.has_side_file)
-    return result_text(NAME, rest.side, summary_of(rest, rows_of(rest, state.has_side_file)))
+        return table(state)
+    rows = rows_of(rest, state.has_side_file)
+    return result_text(NAME, rest.side, summary_of(rest, rows, state.data_day))
 
 
 def rest_outputs(state: ProjectState, rest: Remaining, path: Path) -> list[Output]:
@@ -95,18 +97,19 @@ def rows_of(rest: Remaining, has_side_file: bool) -> list[tuple[Left, int]]:
     return [(left, of_tasks[left.code]) for left in left_of_tasks(rest)]
 
 
-def table(rest: Remaining, has_side_file: bool) -> str:
+def table(state: ProjectState) -> str:
     """Returns a row for each task, with its state, durations, costs, and what they rest on."""
-    lefts = rows_of(rest, has_side_file)
+    rest = state.remaining
+    lefts = rows_of(rest, state.has_side_file)
     total = sum(card.cost for card in rest.deck.work)
     scale = rest.side.money_scale
     rows = [_row(left, cost, scale) for left, cost in lefts]
     done = sum(left.state is State.FINISHED for left, _ in lefts)
     sunk = sum(left.sunk for left in rest.left)
-    state = f"{done} of {len(lefts)} finished"
-    rows.append(("TOTAL", state, "", "", money_text(total, scale), money_text(sunk, scale), ""))
+    finished = f"{done} of {len(lefts)} finished"
+    rows.append(("TOTAL", finished, "", "", money_text(total, scale), money_text(sunk, scale), ""))
     headings = ("ACTIVITY", "STATE", "LEFT", "CRASH", "COST", "SUNK", "BY")
-    lines = [f"REMAINING {rest.deck.project.code} {rest.deck.as_of_day}"]
+    lines = [f"REMAINING {rest.deck.project.code} {state.data_day}"]
     lines.extend(aligned(headings, rows, "llrrrrl"))
     return "".join(f"{line}\n" for line in lines)
 

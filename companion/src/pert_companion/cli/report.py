@@ -8,18 +8,21 @@ from pathlib import Path
 from pert_companion.analysis.lengths import named_length
 from pert_companion.cli.choosing import add_length_options, length_choice, programs_of
 from pert_companion.cli.common import CommandParser, say
-from pert_companion.cli.writing import add_output_options, named, outputs_of
+from pert_companion.cli.opening import with_tables
+from pert_companion.cli.outcomes import CheckOutcome, ReportOutcome
+from pert_companion.cli.writing import add_output_options, check_json, named, outputs_of
 from pert_companion.model.errors import UsageError
 from pert_companion.model.lines import one_line
 from pert_companion.model.output import PAGE, Output
 from pert_companion.model.source import read_bytes, shown_name
 from pert_companion.page.again import check_page
-from pert_companion.page.gathering import gather
+from pert_companion.page.gathering import Gathered, gather
 from pert_companion.page.render import render
 from pert_companion.page.report import page_of
 from pert_companion.page.source import Source, Wishes
 from pert_companion.page.verify import verify_page
 from pert_companion.state.project import open_state
+from pert_companion.writers.json_file import Document, result_text, to_json
 
 NAME = "pert-report"
 EXAMPLES = """\
@@ -55,6 +58,7 @@ def parser() -> CommandParser:
     command.add_argument(
         "--verify-page", metavar="OUT", type=Path, help="write the page that checks such pages"
     )
+    command.add_argument("--json", action="store_true", help="print what was done as JSON")
     return command
 
 
@@ -99,6 +103,7 @@ class Meter:
 
 def run(options: argparse.Namespace) -> int:
     """Writes the page and returns the status."""
+    check_json(options, "the page")
     outputs = outputs_of(options, [options.deck, options.baseline, options.previous])
     if options.verify_page is not None:
         outputs.write(Output(options.verify_page, PAGE, verify_page()))
@@ -110,7 +115,7 @@ def run(options: argparse.Namespace) -> int:
     if options.deck is None or options.output is None:
         raise UsageError("name a deck and a page: pert-report DECK -o PAGE")
     outputs.check(options.output, PAGE)
-    state = open_state(options.deck, programs_of(options))
+    state = with_tables(open_state(options.deck, programs_of(options)))
     wishes = Wishes(
         named_length(state.rest, length_choice(options)),
         options.optimum,
@@ -118,19 +123,27 @@ def run(options: argparse.Namespace) -> int:
         options.currency,
         options.brief,
     )
-    programs = state.programs
-    source = Source(
-        wishes,
-        state,
-        None if options.baseline is None else open_state(options.baseline, programs),
-        None if options.previous is None else open_state(options.previous, programs),
-    )
+    others = []
+    for path in (options.baseline, options.previous):
+        others.append(None if path is None else with_tables(open_state(path, state.programs)))
+    source = Source(wishes, state, *others)
     with Meter(sys.stderr.isatty()) as meter:
         gathered = gather(source, meter)
     page = render(page_of(gathered))
     outputs.write(Output(options.output, PAGE, page))
     say(NAME, f"{named(options.output)}: {len(page):,} bytes, {gathered.answer}")
+    if options.json:
+        sys.stdout.write(result_text(NAME, state.side, _outcome(options.output, page, gathered)))
     return 0
+
+
+def _outcome(path: Path, page: bytes, gathered: Gathered) -> ReportOutcome:
+    """Returns what was written, for JSON."""
+    state = gathered.state
+    unit = state.rest.side.unit_minutes
+    return ReportOutcome(
+        str(path), len(page), gathered.answer, state.data_day, gathered.length, unit
+    )
 
 
 def check(options: argparse.Namespace) -> int:
@@ -140,5 +153,9 @@ def check(options: argparse.Namespace) -> int:
     page = read_bytes(options.check, MOST_BYTES, "page")
     with Meter(sys.stderr.isatty()) as meter:
         verdict = check_page(page, shown_name(options.check), programs_of(options), meter)
-    print(verdict.text)
+    if options.json:
+        outcome = CheckOutcome(shown_name(options.check), verdict.is_right, verdict.text)
+        sys.stdout.write(to_json(Document(f"{NAME} --check", 1, "", outcome)).decode())
+    else:
+        print(verdict.text)
     return 0 if verdict.is_right else 1

@@ -22,6 +22,7 @@ from pert_companion.cli.choosing import (
     schedule_of_options,
 )
 from pert_companion.cli.common import CommandParser, say
+from pert_companion.cli.opening import with_tables
 from pert_companion.model.errors import UsageError
 from pert_companion.state.project import ProjectState, open_state
 from pert_companion.writers import forecast_json
@@ -138,7 +139,7 @@ def run(options: argparse.Namespace) -> int:
     """Prints the schedule and returns the status."""
     state = open_state(options.deck, programs_of(options))
     if options.forecast:
-        sys.stdout.write(forecast_text(state, options))
+        sys.stdout.write(forecast_text(with_tables(state), options))
         return 0
     if options.baseline is not None or options.left is not None:
         raise UsageError("--baseline and --left go with --forecast")

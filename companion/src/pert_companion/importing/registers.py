@@ -5,7 +5,7 @@ from pathlib import Path
 from typing import TypeVar
 
 from pert_companion.model.registers import Registers, Renames
-from pert_companion.model.source import Source
+from pert_companion.model.source import STANDARD_STREAM, Source
 from pert_companion.readers.registers import (
     read_changes,
     read_explanations,
@@ -19,9 +19,11 @@ Table = TypeVar("Table")
 def registers_of(deck: Path) -> Registers:
     """Returns the tables of a deck: `wing.packages.csv`, or else `packages.csv` in its folder.
 
-    The same holds for `changes`, `renames` and `explanations`. A table that is not there is empty;
-    `InputError` names the first row of one that makes no sense.
+    The same holds for `changes`, `renames` and `explanations`. A table that is not there is empty,
+    and a deck on standard input has none. `InputError` names the first row that makes no sense.
     """
+    if deck == STANDARD_STREAM:
+        return Registers()
     return Registers(
         packages=_table(deck, "packages", read_packages, ()),
         changes=_table(deck, "changes", read_changes, ()),

@@ -56,7 +56,7 @@ class PackageRule:
     """The first and the last day of level of effort; those of the project without them."""
     title: str = ""
     place: str = ""
-    """The file and the row, for messages."""
+    """The file without its folders and the row, for messages."""
 
 
 @dataclass(frozen=True)

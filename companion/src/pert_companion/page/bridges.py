@@ -221,11 +221,5 @@ def _restated_charges(comparison: Comparison) -> dict[str, int]:
     found: dict[str, int] = {}
     for entry in comparison.restated:
         if entry.what == "charges":
-            more = _charged(entry.new) - _charged(entry.old)
-            found[entry.subject] = found.get(entry.subject, 0) + more
+            found[entry.subject] = found.get(entry.subject, 0) + entry.moved
     return found
-
-
-def _charged(amount: str) -> int:
-    """Returns the amount of a charge, 0 for one that a state does not have."""
-    return 0 if amount in ("", "none") else int(amount)

@@ -1,7 +1,7 @@
 """What changed since the report before: states side by side, bridges, milestones, the past."""
 
 from collections.abc import Iterator
-from dataclasses import dataclass
+from dataclasses import dataclass, replace
 
 from pert_companion.analysis.bridges import Bridges, bridges
 from pert_companion.analysis.compare import Comparison, History, StateFigures, compare
@@ -81,7 +81,7 @@ def changes_view(changes: Changed, words: Words) -> Changes:
     return Changes(
         day_text(comparison.old.data_day),
         tuple(tables),
-        tuple(_more_tables(comparison)),
+        tuple(_more_tables(comparison, money)),
         order,
         tuple(notes),
     )
@@ -142,7 +142,7 @@ def milestone_rows(columns: list[StateFigures]) -> Iterator[Row]:
         yield Row(name, tuple(cells))
 
 
-def _more_tables(comparison: Comparison) -> Iterator[Table]:
+def _more_tables(comparison: Comparison, money: StateMoney) -> Iterator[Table]:
     rows = [_named(c.code, c.name, "joined", c.why) for c in comparison.joined]
     rows += [_named(c.code, c.name, "left", c.why) for c in comparison.left]
     yield from _table("Critical path", ("Task", "", "Why"), rows)
@@ -165,6 +165,21 @@ def _more_tables(comparison: Comparison) -> Iterator[Table]:
     ]
     heads = ("Task or account", "What", "Of", "Reported", "Now")
     yield from _table("Restated: of the time before the last report", heads, rows)
+    yield from _credits_table(comparison, money)
+
+
+def _credits_table(comparison: Comparison, money: StateMoney) -> Iterator[Table]:
+    """Yields the credits since the last report, which are no restated past."""
+    rows = []
+    for credit in comparison.credits:
+        texts = day_text(credit.day), credit.number, credit.text
+        cells = (title(shown(text or "\u2013")) for text in texts)
+        rows.append(
+            Row(task_name(credit.account, credit.name), (money.text(credit.amount), *cells))
+        )
+    heads = ("Account", "Credit", "Day", "Voucher", "Text")
+    for table in _table("Credits since the last report", heads, rows):
+        yield replace(table, texts=(2, 3, 4))
 
 
 def _named(code: str, name: str, *cells: str) -> Row:

@@ -4,7 +4,7 @@ from collections.abc import Iterator, Sequence
 from dataclasses import dataclass
 
 from pert_companion.analysis.options import Reason
-from pert_companion.analysis.plausibility import DoubtKind, doubts
+from pert_companion.analysis.plausibility import DoubtKind
 from pert_companion.analysis.real_dates import calendars_text
 from pert_companion.analysis.sureness import percent_text
 from pert_companion.model.losses import accepted_text
@@ -17,13 +17,6 @@ from pert_companion.state.remaining import State
 
 MOST_NAMED = 3
 """Tasks of an alert that are named."""
-OF_MONEY = {
-    DoubtKind.NOTHING_TO_GO,
-    DoubtKind.FINISHED_TO_GO,
-    DoubtKind.TO_GO_STAYS,
-    DoubtKind.SPENT_BEFORE,
-}
-"""The doubts about accounts; others are about tasks."""
 
 
 @dataclass(frozen=True)
@@ -216,17 +209,12 @@ def alerts(gathered: Gathered) -> Iterator[Alert]:
 
 
 def doubt_alerts(gathered: Gathered) -> Iterator[Alert]:
-    """Yields what of the state is hard to believe, by kind, with the section that has the figures.
-
-    A page holds no log of changes, so budgets that moved are not judged here.
-    """
-    found = doubts(gathered.state, gathered.previous)
+    """Yields what of the state is hard to believe, by kind; the section of doubts has each."""
+    section = "schedule" if gathered.wishes.brief else "doubts"
     for kind in DoubtKind:
-        names = [doubt.name or doubt.code for doubt in found if doubt.kind is kind]
+        names = [doubt.name or doubt.code for doubt in gathered.doubts if doubt.kind is kind]
         if names:
-            what = f"To check, {kind.value}: "
-            section = "cost" if kind in OF_MONEY else "schedule"
-            yield Alert(section, (*plain(what), *some_of(names)))
+            yield Alert(section, (*plain(f"To check, {kind.value}: "), *some_of(names)))
 
 
 def some_of(names: Sequence[str]) -> Line:

@@ -20,6 +20,7 @@ from pert_companion.analysis.measured import measured_money
 from pert_companion.analysis.money import MoneyOverTime, network_to_go
 from pert_companion.analysis.options import Option, chosen_option, optimal_length, options
 from pert_companion.analysis.own_baseline import own_baseline
+from pert_companion.analysis.plausibility import Doubt, doubts
 from pert_companion.analysis.schedule import Schedule
 from pert_companion.analysis.scheduling import TaskDates, in_one_piece, normal_dates, schedule_of
 from pert_companion.analysis.sureness import Sureness, sureness
@@ -99,6 +100,12 @@ class Gathered:
     def chosen(self) -> Option:
         """Returns the option of the length that the page shows first."""
         return chosen_option(self.state.rest, self.length)
+
+    @cached_property
+    def doubts(self) -> tuple[Doubt, ...]:
+        """Returns what is hard to believe; budgets are judged where a log of changes is kept."""
+        has_log = bool(self.state.registers.changes)
+        return doubts(self.state, self.previous, self.baseline if has_log else None)
 
     @cached_property
     def progress(self) -> dict[str, State]:

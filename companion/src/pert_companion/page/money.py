@@ -7,7 +7,7 @@ from fractions import Fraction
 from itertools import chain
 
 from pert_companion.analysis.contract import load_day_minutes
-from pert_companion.analysis.earned_value import EarnedValue, Figures
+from pert_companion.analysis.earned_value import EarnedValue, Figures, Scope
 from pert_companion.analysis.measured import packages_apart
 from pert_companion.analysis.money import ONE_DAY, MoneyPoint
 from pert_companion.model import figures
@@ -156,7 +156,24 @@ def earned_forecasts(earned: EarnedValue, words: Words) -> tuple[tuple[str, str]
     text = f"{sign}{abs(tenths) // 10}.{abs(tenths) % 10} {units}s"
     found.append(("SV(t), earned schedule less time passed", text))
     found.append(("SPI(t)", ratio_text(earned.spi_of_time)))
-    return tuple(found)
+    return (*found, *budgets_apart(earned, words))
+
+
+def budgets_apart(earned: EarnedValue, words: Words) -> Iterator[tuple[str, str]]:
+    """Yields what the total is made of, and the budgets that are not in it, where there are any."""
+    effort = earned.of(Scope.EFFORT)
+    if effort.bac:
+        yield "Level of effort in BAC, earned as planned", words.money(effort.bac)
+    undistributed = earned.of(Scope.UNDISTRIBUTED).bac
+    if undistributed:
+        yield "Undistributed budget, not in BAC", words.money(undistributed)
+    if earned.changed:
+        yield "Changes since the baseline, not in BAC", words.money(earned.changed)
+    if undistributed or earned.changed:
+        yield "Budget of the baseline with both", words.money(earned.baseline_budget)
+    reserve = earned.of(Scope.RESERVE).bac
+    if reserve:
+        yield "Management reserve, in no baseline", words.money(reserve)
 
 
 def money_chart(gathered: Gathered, words: Words) -> Chart | None:
@@ -180,7 +197,7 @@ def money_chart(gathered: Gathered, words: Words) -> Chart | None:
     dots = [_dot("spent", point, first, x, scale) for point in money.spent]
     dots += [_dot("earned", point, first, x, scale) for point in money.earned[1:]]
     return Chart(
-        "Planned, earned and spent money of the packages with tasks",
+        "Planned, earned and spent money of the packages whose work is measured",
         MONEY_HEIGHT,
         charts.margin_for(texts),
         tuple(_day_ticks(first, x)),

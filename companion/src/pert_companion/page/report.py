@@ -14,11 +14,12 @@ from pert_companion.page.changed import Changes, changes_view
 from pert_companion.page.chooser import HEIGHT, Chooser, chooser
 from pert_companion.page.decision import Decision, decision
 from pert_companion.page.definitions import definitions
+from pert_companion.page.doubts import doubts_table
 from pert_companion.page.first import FirstScreen, first_screen
 from pert_companion.page.gathering import Gathered, item_amounts
 from pert_companion.page.sure import Sure, sure
 from pert_companion.page.timeline import Timeline, progress_of, timeline
-from pert_companion.page.view import Section, Word
+from pert_companion.page.view import Section, Table, Word
 from pert_companion.page.words import Words, day_text, shown, words_of
 from pert_companion.state.remaining import State
 
@@ -49,6 +50,7 @@ class PageView:
     timeline: Timeline
     changes: Changes | None
     money: money.Money
+    doubts: Table | None
     load_lead: str
     steps: tuple[str, ...]
     assumptions: tuple[str, ...]
@@ -68,7 +70,7 @@ def page_of(gathered: Gathered) -> PageView:
         gathered=gathered,
         unit=words.unit,
         title=shown(state.deck.project.title or state.deck.project.code),
-        as_of=day_text(state.as_of),
+        as_of=day_text(state.data_day),
         deck_name=shown(state.name),
         digest=data.checksum_of_blocks(texts),
         blocks=tuple((name, Markup(text)) for name, text in blocks),
@@ -85,6 +87,7 @@ def page_of(gathered: Gathered) -> PageView:
         timeline=drawn,
         changes=None if gathered.changes is None else changes_view(gathered.changes, words),
         money=amounts,
+        doubts=doubts_table(gathered),
         load_lead=load_lead(gathered, amounts.load),
         steps=tuple(steps(gathered)),
         assumptions=tuple(map(shown, state.remaining.notes)) if state.has_begun else (),
@@ -116,6 +119,8 @@ def sections(gathered: Gathered, load: money.Load | None) -> list[Section]:
         found.append(Section("cost", "Cost by item"))
     if load is not None:
         found.append(Section("load", "Load by period"))
+    if gathered.doubts:
+        found.append(Section("doubts", "What to check"))
     found.append(Section("checked", "What is proved"))
     return found
 
@@ -125,7 +130,7 @@ def length_lead(gathered: Gathered) -> str:
     state = gathered.state
     what = "the plan"
     if state.has_begun:
-        what = f"the work that is left on {day_text(state.as_of)}"
+        what = f"the work that is left on {day_text(state.data_day)}"
     return (
         f"Lengths of {what}, each with its cheapest schedule. Nothing that has begun or is past is"
         " changed. Everything here is computed in this page from the certificate."

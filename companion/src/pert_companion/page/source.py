@@ -3,22 +3,27 @@
 The element `pert-source` holds it, so that the page can be made again from itself alone:
 
     {"version": "2.1", "options": {"length": 30, "brief": false, ..},
-     "state": {"name": "wing.csv", "deck": TEXT, "side": TEXT or null},
+     "state": {"name": "wing.csv", "deck": TEXT, "side": TEXT or null, "ledger": TEXT or null,
+               "tables": {"packages": [..], ..} or null},
      "baseline": null, "previous": {"name": .., ..}}
 
-The text of a deck is that of its file, byte for byte; that of a side file has the same meaning.
-There is no path, clock or locale in it.
+The text of a deck is that of its file, byte for byte; those of a side file and a ledger have the
+same meaning. There is no path, clock or locale in it.
 """
 
 import json
-from dataclasses import asdict, dataclass
+from dataclasses import asdict, dataclass, replace
 from pathlib import Path
 from typing import Any
 
 from pert_companion import VERSION
 from pert_companion.model import deck as decks
+from pert_companion.model import ledger as ledgers
 from pert_companion.model import sidefile
 from pert_companion.model.errors import InputError
+from pert_companion.model.registers import Registers
+from pert_companion.model.registers_json import read_registers, registers_json
+from pert_companion.model.strict import Fields
 from pert_companion.programs.client import Programs
 from pert_companion.state.implied import implied_side_file
 from pert_companion.state.project import ProjectState
@@ -57,10 +62,16 @@ class Source:
         }
 
 
-def _held(state: ProjectState) -> dict[str, str | None]:
+def _held(state: ProjectState) -> dict[str, Any]:
     """Returns a state as data."""
-    side = sidefile.to_json(state.side).decode() if state.has_side_file else None
-    return {"name": state.name, "deck": state.data.decode(), "side": side}
+    registers = state.registers
+    return {
+        "name": state.name,
+        "deck": state.data.decode(),
+        "side": sidefile.to_json(state.side).decode() if state.has_side_file else None,
+        "ledger": None if state.ledger is None else ledgers.to_bytes(state.ledger).decode(),
+        "tables": None if registers == Registers() else registers_json(registers),
+    }
 
 
 def version_of(text: str) -> str:
@@ -91,6 +102,19 @@ def source_from(text: str, programs: Programs) -> Source:
 
 def _state(held: dict[str, Any], programs: Programs) -> ProjectState:
     """Returns a state from its data."""
+    state = _deck_state(held, programs)
+    if held.get("ledger") is not None:
+        text = _text(held, "ledger")
+        name = str(ledgers.ledger_path(state.path))
+        state = replace(state, ledger=ledgers.parse_ledger(text.encode(), name))
+    if held.get("tables") is not None:
+        tables = read_registers(Fields(held["tables"], "the source of the page", "tables"))
+        state = replace(state, registers=tables)
+    return state
+
+
+def _deck_state(held: dict[str, Any], programs: Programs) -> ProjectState:
+    """Returns the state of a deck and its side file from their data."""
     name, data = _text(held, "name"), _text(held, "deck").encode()
     deck = decks.parse_deck(data, name)
     path = Path(name)

@@ -91,6 +91,7 @@ class _Builder:
         self.places = {task.code: place for place, task in enumerate(self.side.tasks)}
         self.progress = progress_of(gathered)
         self.as_of = gathered.state.as_of
+        self.data_day = day_text(gathered.state.data_day)
         self.has_status = gathered.state.has_begun
         own = own_baseline(gathered.state.side)
         self.moments = {task.code for task in gathered.state.side.tasks if own and not task.normal}
@@ -128,7 +129,7 @@ class _Builder:
             tuple(self.with_groups(tasks, rows, others)),
             len(others),
             ticks,
-            self.line(self.as_of, day_text(self.as_of)) if self.has_status else None,
+            self.line(self.as_of, self.data_day) if self.has_status else None,
             None if contract is None else self.line(contract.day, day_text(contract.day), 1),
             self.first,
             self.days,

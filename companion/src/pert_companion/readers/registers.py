@@ -6,6 +6,7 @@ A row that makes no sense ends the reading: these tables decide what totals mean
 from collections.abc import Callable, Iterable
 from datetime import date
 from decimal import Decimal
+from pathlib import PurePath
 from typing import TypeVar
 
 from pert_companion.model.errors import InputError
@@ -148,7 +149,7 @@ def _rule(row: Row, sheet: Sheet) -> PackageRule:
         start=_optional_day(row, "start", sheet),
         finish=_optional_day(row, "finish", sheet),
         title=row.text("title"),
-        place=sheet.place(row),
+        place=_place(row, sheet),
     )
     _check_rule(rule)
     return rule
@@ -189,7 +190,7 @@ def _change(row: Row, sheet: Sheet) -> BudgetChange:
     if booked is None:
         raise Unreadable("a change without a date")
     reason, approved = row.text("reason"), row.text("approved")
-    return BudgetChange(booked, source, target, moved, reason, approved, sheet.place(row))
+    return BudgetChange(booked, source, target, moved, reason, approved, _place(row, sheet))
 
 
 def _rename(row: Row, _sheet: Sheet) -> Rename:
@@ -207,7 +208,12 @@ def _explanation(row: Row, sheet: Sheet) -> Explanation:
     if written is None:
         raise Unreadable("an explanation without the data date that it is for")
     texts = _needed(row, "item"), figure, _needed(row, "cause"), row.text("action")
-    return Explanation(written, *texts, sheet.place(row))
+    return Explanation(written, *texts, _place(row, sheet))
+
+
+def _place(row: Row, sheet: Sheet) -> str:
+    """Returns the file and the row, without folders: a page with it is the same everywhere."""
+    return f"{PurePath(sheet.file).name}: row {row.number}"
 
 
 def _needed(row: Row, field: str) -> str:

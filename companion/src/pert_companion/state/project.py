@@ -6,7 +6,7 @@ left.
 
 from collections.abc import Mapping
 from dataclasses import dataclass, field, replace
-from datetime import date
+from datetime import date, timedelta
 from functools import cached_property
 from pathlib import Path
 
@@ -54,9 +54,22 @@ class ProjectState:
         return self.deck.as_of_day
 
     @property
+    def close(self) -> date:
+        """Returns the day whose close of business it reports: the one before the as-of morning."""
+        return self.deck.as_of_day - timedelta(days=1)
+
+    @property
+    def counts_closes(self) -> bool:
+        """Says whether people know its days by their evenings, as a source or a ledger has them.
+
+        The days of a deck written by hand are mornings, and are shown as they were written.
+        """
+        return self.side.data_date is not None or self.ledger is not None
+
+    @property
     def data_day(self) -> date:
-        """Returns the day that people know it by: the source's data date, or the as-of date."""
-        return self.side.data_date or self.deck.as_of_day
+        """Returns the day that people know it by: its close of business, or the as-of date."""
+        return self.close if self.counts_closes else self.deck.as_of_day
 
     @property
     def has_begun(self) -> bool:

@@ -90,8 +90,8 @@ def _rows(comparison: Comparison, scale: int) -> Iterator[Row]:
     for restated in comparison.restated:
         what = f"{restated.what} {restated.day}"
         yield "restated", restated.subject, restated.name, what, restated.old, restated.new
-    for old, new in comparison.renamed:
-        yield "renamed?", new.code, new.name, "code", old.code, new.code
+    for each in comparison.renamed:
+        yield "renamed?", each.new, each.new_name, each.what, each.old, each.new
     for credit in comparison.credits:
         amount = money_text(credit.amount, scale)
         what = f"credit {credit.day} {credit.number}".strip()

@@ -13,6 +13,7 @@ from pert_companion.analysis.compare import (
     StateFigures,
 )
 from pert_companion.analysis.earned_value import EarnedValue
+from pert_companion.analysis.renaming import Renaming
 from pert_companion.analysis.restated_money import CreditNote
 
 
@@ -41,14 +42,6 @@ class StateSummary:
 
 
 @dataclass(frozen=True)
-class Proposal:
-    """A task that may have been renamed."""
-
-    old: str
-    new: str
-
-
-@dataclass(frozen=True)
 class ComparisonSummary:
     """What changed from one state to the next."""
 
@@ -60,7 +53,7 @@ class ComparisonSummary:
     changes: tuple[Change, ...]
     restated: tuple[Restated, ...]
     credits: tuple[CreditNote, ...]
-    renamed: tuple[Proposal, ...]
+    renamed: tuple[Renaming, ...]
     slack_used: tuple[FloatChange, ...]
     curves: tuple[CurveRow, ...]
 
@@ -113,7 +106,7 @@ def _comparison(comparison: Comparison) -> ComparisonSummary:
         changes=comparison.changes,
         restated=comparison.restated,
         credits=comparison.credits,
-        renamed=tuple(Proposal(old.code, new.code) for old, new in comparison.renamed),
+        renamed=comparison.renamed,
         slack_used=comparison.slack_used,
         curves=comparison.curves,
     )

@@ -139,7 +139,7 @@ def _changes(comparison: Comparison) -> Iterator[str]:
 
 
 def _restated(comparison: Comparison) -> Iterator[str]:
-    title = f"RESTATED: of the time before {comparison.old.as_of}"
+    title = f"RESTATED: since the report of {comparison.old.data_day}"
     rows = []
     for each in comparison.restated:
         rows.append((each.what, each.subject, str(each.day), each.old, each.new, each.name))
@@ -148,9 +148,11 @@ def _restated(comparison: Comparison) -> Iterator[str]:
 
 
 def _renamed(comparison: Comparison) -> Iterator[str]:
-    rows = [(old.code, new.code, old.name, new.name) for old, new in comparison.renamed]
-    title = "RENAMED? Rows old,new for renames.csv: of the same duration and cost"
-    yield from _table(title, ("OLD", "NEW", "TASK", "NOW"), rows, "llll")
+    rows = []
+    for each in comparison.renamed:
+        rows.append((each.what, each.old, each.new, each.old_name, each.new_name))
+    title = "RENAMED? Rows old,new for renames.csv: what went, and what is like it and came"
+    yield from _table(title, ("WHAT", "OLD", "NEW", "TITLE", "NOW"), rows, "lllll")
 
 
 def _credits(comparison: Comparison, scale: int) -> Iterator[str]:

@@ -7,7 +7,7 @@ PV, EV and AC. Amounts are numbers in the currency.
 """
 
 import io
-from collections.abc import Iterable, Iterator, Mapping, Sequence
+from collections.abc import Container, Iterable, Iterator, Mapping, Sequence
 from dataclasses import dataclass
 from datetime import date, timedelta
 from decimal import Decimal
@@ -101,6 +101,8 @@ def _baseline_rows(report: ContractReport) -> Iterator[Sequence[CellValue]]:
         earned.of(Scope.RESERVE).bac,
     )
     yield "", "Undistributed budget", *blank, in_currency(undistributed, scale)
+    if earned.changed:
+        yield "", "Changes not in the plan yet", *blank, in_currency(earned.changed, scale)
     yield "", "Performance measurement baseline", *blank, in_currency(earned.baseline_budget, scale)
     yield "", "Management reserve", *blank, in_currency(reserve, scale)
     yield "", "Total", *blank, in_currency(earned.baseline_budget + reserve, scale)
@@ -126,7 +128,9 @@ def _format_3(book: Workbook, report: ContractReport) -> None:
         before = planned
     amounts += [earned.total.bac - before, earned.total.bac]
     blank: list[CellValue] = [None] * len(columns)
-    changed = sum((_signed(change) for change in report.changes), Decimal(0))
+    outside = {"", Scope.RESERVE.value}
+    outside.update(each.code for each in earned.packages if each.scope is Scope.RESERVE)
+    changed = sum((_signed(change, outside) for change in report.changes), Decimal(0))
     put_row(sheet, 2, ("Changes of the baseline in the period", *blank, changed))
     cells = (in_currency(amount, scale) for amount in amounts)
     put_row(sheet, 3, ("Baseline at the end of the period", *cells))
@@ -134,9 +138,8 @@ def _format_3(book: Workbook, report: ContractReport) -> None:
         put_row(sheet, row, (name, *blank, in_currency(earned.of(scope).bac, scale)))
 
 
-def _signed(change: BudgetChange) -> Decimal:
-    """Returns what a change adds to the baseline: reserve and the outside are not in it."""
-    outside = ("", "reserve")
+def _signed(change: BudgetChange, outside: Container[str]) -> Decimal:
+    """Returns what a change adds to the baseline; `outside` are reserve and other projects."""
     added = change.amount if change.source in outside else Decimal(0)
     return added - (change.amount if change.target in outside else Decimal(0))
 

@@ -83,11 +83,15 @@ def _scopes(earned: EarnedValue, scale: int) -> Iterator[str]:
         earned.of(Scope.UNDISTRIBUTED).bac,
         earned.of(Scope.RESERVE).bac,
     )
-    if undistributed or reserve:
+    if undistributed or reserve or earned.changed:
         baseline = money_text(earned.baseline_budget, scale)
+        changes = ""
+        if earned.changed:
+            changes = f" + changes {money_text(earned.changed, scale)} that its plan has not"
         yield (
             f"BASELINE {baseline} = BAC {money_text(earned.total.bac, scale)} + undistributed"
-            f" {money_text(undistributed, scale)}; reserve {money_text(reserve, scale)} is apart"
+            f" {money_text(undistributed, scale)}{changes}; reserve {money_text(reserve, scale)} is"
+            " apart"
         )
 
 

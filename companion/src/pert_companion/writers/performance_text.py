@@ -6,7 +6,7 @@ from collections.abc import Iterable, Iterator, Sequence
 from fractions import Fraction
 
 from pert_companion.analysis.earned_value import Figures, Scope
-from pert_companion.analysis.performance import MEASURED, Line
+from pert_companion.analysis.performance import MEASURED, EarnedTime, Line
 from pert_companion.analysis.time_phased import Month
 from pert_companion.analysis.variances import Variance
 from pert_companion.model.figures import NOTHING, money_text, ratio_text
@@ -50,8 +50,13 @@ CSV_HEADINGS = (
     "Latest estimate",
     "BAC less latest estimate",
     *(f"Period {name}" for name in _PERIOD),
+    "Earned schedule",
+    "Actual time",
+    "SV(t)",
+    "SPI(t)",
 )
-MONTH_HEADINGS = ("Account", "Close", "PV", "EV", "AC")
+"""The headings of a line as CSV; times are working days, and of the project and of totals alone."""
+MONTH_HEADINGS = ("Account", "Close", "PV", "EV", "AC", "Reported PV", "Reported EV")
 
 
 def to_text(lines: Sequence[Line], heading: str, scale: int) -> str:
@@ -60,11 +65,32 @@ def to_text(lines: Sequence[Line], heading: str, scale: int) -> str:
     rows = [_row(line, scale) for line in lines]
     headings = ("CODE", *_FIGURES, "TITLE")
     texts.extend(aligned(headings, rows, "l" + "r" * len(_FIGURES) + "l"))
+    texts.extend(_time_lines(lines))
     if any(line.period is not None for line in lines):
         texts.append("SINCE THE STATE BEFORE")
         rows = [_period_row(line, scale) for line in lines if line.period is not None]
         texts.extend(aligned(("CODE", *_PERIOD, "TITLE"), rows, "l" + "r" * len(_PERIOD) + "l"))
     return "".join(f"{text}\n" for text in texts)
+
+
+def _time_lines(lines: Iterable[Line]) -> Iterator[str]:
+    """Yields the earned schedule of each total, with the numbers that its ratio divides."""
+    for line in lines:
+        if line.time is not None:
+            spi = _ratio(line.time.spi) or NOTHING
+            days = [ratio_text(time, 2) for time in (line.time.earned, line.time.actual)]
+            yield (
+                f"SPI(t) {spi} = earned schedule {days[0]} days / actual time {days[1]}"
+                f" days: {line.title or line.code}"
+            )
+
+
+def time_cells(time: EarnedTime | None) -> list[str]:
+    """Returns earned schedule, actual time, SV(t) and SPI(t) as texts; all empty without them."""
+    if time is None:
+        return [""] * 4
+    days = (time.earned, time.actual, time.variance)
+    return [*(ratio_text(each, 2) for each in days), _ratio(time.spi)]
 
 
 def _row(line: Line, scale: int) -> tuple[str, ...]:
@@ -143,15 +169,21 @@ def csv_rows(lines: Iterable[Line], scale: int) -> Iterator[list[str]]:
             cells[-1],
             "" if left is None else money_text(left, scale),
             *period_cells(line.period, scale),
+            *time_cells(line.time),
         ]
 
 
-def months_to_text(months: Iterable[Month], heading: str, scale: int) -> str:
-    """Returns a row for each account and month, cumulative; `-` where nothing is known."""
+def months_to_text(months: Sequence[Month], heading: str, scale: int) -> str:
+    """Returns a row for each account and month, cumulative; `-` where nothing is known.
+
+    What was reported by an older baseline is shown where there is any.
+    """
+    has_older = any(month.reported_ev is not None for month in months)
+    headings = [name.upper() for name in MONTH_HEADINGS][: None if has_older else 5]
     rows = []
     for row in month_rows(months, scale):
-        rows.append([cell or NOTHING for cell in row])
-    texts = [heading, *aligned(("ACCOUNT", "CLOSE", "PV", "EV", "AC"), rows, "llrrr")]
+        rows.append([cell or NOTHING for cell in row[: len(headings)]])
+    texts = [heading, *aligned(headings, rows, "ll" + "r" * (len(headings) - 2))]
     return "".join(f"{text}\n" for text in texts)
 
 
@@ -167,7 +199,7 @@ def months_to_csv(months: Iterable[Month], scale: int) -> bytes:
 def month_rows(months: Iterable[Month], scale: int) -> Iterator[list[str]]:
     """Yields the cells of each account and month, in the order of `MONTH_HEADINGS`."""
     for month in months:
-        amounts = (month.pv, month.ev, month.ac)
+        amounts = (month.pv, month.ev, month.ac, month.reported_pv, month.reported_ev)
         texts = ["" if amount is None else money_text(amount, scale) for amount in amounts]
         yield [plain_text(month.account), str(month.close), *texts]
 

@@ -16,6 +16,7 @@ from openpyxl.chart import BarChart, LineChart, Reference
 from openpyxl.chart.series import SeriesLabel
 from openpyxl.worksheet.worksheet import Worksheet
 
+from pert_companion.analysis.earned_value import Figures
 from pert_companion.analysis.performance import Line, Performance
 from pert_companion.analysis.time_phased import Month
 from pert_companion.model.registers import BudgetChange
@@ -38,7 +39,9 @@ HEADINGS = (
     )
     + ("CPI", "EAC", "VAC", "TCPI", "Latest estimate", "BAC less latest")
     + ("Period PV", "Period EV", "Period AC", "Period SV", "Period CV")
+    + ("Earned schedule", "Actual time", "SV(t)", "SPI(t)")
 )
+"""The headings of a line; times are working days, and of the project and of totals alone."""
 _CHART_COLUMNS = (7, 8, 9)
 """PV, EV and AC among the columns, from 1."""
 
@@ -102,10 +105,20 @@ def line_cells(line: Line, scale: int) -> Iterator[CellValue]:
         in_currency(line.latest, scale),
         in_currency(line.variance_at_completion, scale),
     )
-    if line.period is not None:
-        period = line.period
-        for amount in (period.pv, period.ev, period.ac, period.sv, period.cv):
-            yield in_currency(amount, scale)
+    yield from _period_cells(line.period, scale)
+    if line.time is not None:
+        time = line.time
+        for ratio in (time.earned, time.actual, time.variance, time.spi):
+            yield _ratio(ratio)
+
+
+def _period_cells(period: Figures | None, scale: int) -> Iterator[CellValue]:
+    """Yields the figures since the state before; None without one."""
+    if period is None:
+        yield from [None] * 5
+        return
+    for amount in (period.pv, period.ev, period.ac, period.sv, period.cv):
+        yield in_currency(amount, scale)
 
 
 def _lines_sheet(book: Workbook, title: str, lines: Iterable[Line], scale: int) -> Worksheet:
@@ -136,10 +149,12 @@ def _show_axes(chart: BarChart | LineChart) -> None:
 
 def _months_sheet(book: Workbook, months: Sequence[Month], scale: int) -> None:
     """Adds a row for each account and month, and the totals that the chart shows."""
-    sheet = new_sheet(book, "Time-phased", ("Account", "Close", "PV", "EV", "AC"))
+    headings = ("Account", "Close", "PV", "EV", "AC", "Reported PV", "Reported EV")
+    sheet = new_sheet(book, "Time-phased", headings)
     row = 2
     for month in months:
-        amounts = (in_currency(amount, scale) for amount in (month.pv, month.ev, month.ac))
+        listed = (month.pv, month.ev, month.ac, month.reported_pv, month.reported_ev)
+        amounts = (in_currency(amount, scale) for amount in listed)
         put_row(sheet, row, (month.account, month.close, *amounts))
         row += 1
     totals = list(_totals(months))
@@ -179,7 +194,7 @@ def _add_lines(sheet: Worksheet, first: int, last: int) -> None:
         chart.series[-1].tx = SeriesLabel(v=title)
     chart.set_categories(Reference(sheet, min_col=2, min_row=first, max_row=last))
     _show_axes(chart)
-    sheet.add_chart(chart, "G2")
+    sheet.add_chart(chart, "I2")
 
 
 def _changes_sheet(book: Workbook, changes: Iterable[BudgetChange]) -> None:

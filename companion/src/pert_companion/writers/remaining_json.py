@@ -24,21 +24,26 @@ class TaskLeft:
 
 @dataclass(frozen=True)
 class RemainingSummary:
-    """What is left of a project as of a morning."""
+    """What is left of a project at its data date."""
 
     code: str
     as_of: date
+    """The morning from which on the work that is left is done."""
+    data_date: date
     unit_minutes: int
     tasks: tuple[TaskLeft, ...]
     notes: tuple[str, ...]
     """What was assumed."""
 
 
-def summary_of(rest: Remaining, rows: Sequence[tuple[Left, int]]) -> RemainingSummary:
+def summary_of(
+    rest: Remaining, rows: Sequence[tuple[Left, int]], data_date: date
+) -> RemainingSummary:
     """Returns what the JSON has of the work that is left; a row has a task and its cost."""
     return RemainingSummary(
         code=rest.deck.project.code,
         as_of=rest.deck.as_of_day,
+        data_date=data_date,
         unit_minutes=rest.side.unit_minutes,
         tasks=tuple(_task(left, cost) for left, cost in rows),
         notes=rest.notes,
