@@ -1,6 +1,7 @@
 """How often commands call the programs: each question once, and no more questions than needed."""
 
 from collections.abc import Callable, Iterator, Sequence
+from importlib import import_module
 from pathlib import Path
 
 import pytest
@@ -59,20 +60,48 @@ def test_a_page_asks_fifteen_questions(tmp_path: Path, questions: list[Question]
     assert count(questions) <= 15
 
 
+@pytest.mark.parametrize(
+    "folder, months",
+    [(MONTHS, ("plan", "march", "april")), (EXAMPLES / "pump", ("plan", "april", "may"))],
+)
 def test_a_page_with_a_baseline_and_the_report_before(
-    tmp_path: Path, questions: list[Question]
+    tmp_path: Path, questions: list[Question], folder: Path, months: Sequence[str]
 ) -> None:
-    """Three states, and the three steps between two ends."""
-    words = ["--baseline", MONTHS / "plan.csv", "--previous", MONTHS / "march.csv"]
+    """Three states, and the three steps between two ends, of which some may be no steps."""
+    plan, before, now = (folder / f"{month}.csv" for month in months)
     page = tmp_path / "page.html"
-    run((report.parser, report.run), [MONTHS / "april.csv", *words, "-o", page])
+    run((report.parser, report.run), [now, "--baseline", plan, "--previous", before, "-o", page])
     assert count(questions) <= 32
 
 
-def test_a_comparison_asks_seven_questions_a_state(questions: list[Question]) -> None:
-    """Four months."""
-    run((compare.parser, compare.run), [MONTHS])
-    assert count(questions) <= 7 * 4
+@pytest.mark.parametrize("folder, states", [(MONTHS, 4), (EXAMPLES / "pump", 6)])
+def test_a_comparison_asks_seven_questions_a_state(
+    questions: list[Question], folder: Path, states: int
+) -> None:
+    """The months of a project."""
+    assert len(list(folder.glob("*.json"))) == states
+    run((compare.parser, compare.run), [folder])
+    assert count(questions) <= 7 * states
+
+
+@pytest.mark.parametrize(
+    "words",
+    [
+        ["compare", MONTHS, "--money"],
+        ["compare", MONTHS, "--earned"],
+        ["compare", EXAMPLES / "pump", "--earned", "--lines", "months"],
+        ["schedule", MONTHS / "april.csv", "--forecast", "--baseline", MONTHS / "plan.csv"],
+        ["schedule", MONTHS / "april.csv", "--chance"],
+        ["schedule", HOUSE, "--length", "20"],
+        ["check_status", EXAMPLES / "pump"],
+        ["remaining", MONTHS / "april.csv"],
+    ],
+)
+def test_no_question_is_asked_twice(questions: list[Question], words: list[object]) -> None:
+    """By the other commands that read states."""
+    command = import_module(f"pert_companion.cli.{words[0]}")
+    run((command.parser, command.run), words[1:])
+    assert count(questions) <= 8
 
 
 @pytest.mark.parametrize("case", [EXAMPLES / "garden.xml", CASES / "pause.csv"])

@@ -9,6 +9,7 @@ from pathlib import Path
 
 import pytest
 
+from pert_companion.__main__ import COMMANDS
 from running import CASES, HOUSE, MONTHS, WITH_INTERRUPTS
 
 BIN = Path(__file__).resolve().parents[1] / "bin"
@@ -17,16 +18,19 @@ WITHIN = 2.0
 MORE_THAN_A_PIPE = 200_000
 """Bytes of which some wait until the other side reads."""
 WORDS = {
+    "pert-check-status": "-",
     "pert-compare": "april.csv april.csv",
     "pert-days": "- -o out.csv",
     "pert-export": "april.csv -o out.xlsx",
     "pert-import": "snet.csv -o out.csv",
+    "pert-ledger": "april.csv --accept charge -o out.csv",
     "pert-portfolio": "april.csv house.csv plan.csv --no-cache -o out.html",
     "pert-remaining": "april.csv -o out.csv",
     "pert-report": "april.csv -o out.html",
     "pert-schedule": "april.csv",
 }
 """What makes each command wait: for a program, or for standard input."""
+READING = {name for name, words in WORDS.items() if words.startswith("-")}
 
 
 @pytest.fixture(name="folder")
@@ -43,6 +47,11 @@ def _folder(tmp_path: Path) -> Path:
         program.write_text(f"#!/bin/sh\n: >{tmp_path}/running/$$\nexec sleep 900\n")
         program.chmod(0o755)
     return tmp_path
+
+
+def test_each_command_is_ended() -> None:
+    """None is left out here."""
+    assert WORDS.keys() == COMMANDS.keys()
 
 
 def programs(folder: Path) -> list[int]:
@@ -76,15 +85,13 @@ def started(folder: Path, name: str) -> subprocess.Popen[bytes]:
     running = subprocess.Popen(
         words, cwd=folder, stdin=pipe, stdout=pipe, stderr=pipe, start_new_session=True
     )
-    wanted = {
-        "pert-days": 0,
-        "pert-portfolio": min(3, len(os.sched_getaffinity(0))),
-    }.get(name, 1)
+    if name in READING:
+        begin_input(running)
+        return running
+    wanted = min(3, len(os.sched_getaffinity(0))) if name == "pert-portfolio" else 1
     while len(programs(folder)) < wanted:
         assert running.poll() is None, running.communicate()
         time.sleep(0.05)
-    if name == "pert-days":
-        begin_input(running)
     return running
 
 

@@ -33,6 +33,11 @@ def modules() -> list[Path]:
     return sorted(path for path in PACKAGE.glob("*/*.py") if path.parent.name in BELOW)
 
 
+def name_of(path: Path) -> str:
+    """Returns the name of a module with its folder."""
+    return f"{path.parent.name}/{path.stem}"
+
+
 def imported(tree: ast.AST) -> Iterator[str]:
     """Yields the folders of the package that a module imports from."""
     for node in ast.walk(tree):
@@ -58,7 +63,7 @@ def asked(tree: ast.AST) -> Iterator[str]:
                 yield node.func.attr
 
 
-@pytest.mark.parametrize("path", modules(), ids=lambda path: f"{path.parent.name}/{path.stem}")
+@pytest.mark.parametrize("path", modules(), ids=name_of)
 def test_imports_go_down(path: Path) -> None:
     """A folder knows nothing of what stands on it."""
     folder = path.parent.name
@@ -66,7 +71,7 @@ def test_imports_go_down(path: Path) -> None:
     assert found <= BELOW[folder], found - BELOW[folder]
 
 
-@pytest.mark.parametrize("path", modules(), ids=lambda path: f"{path.parent.name}/{path.stem}")
+@pytest.mark.parametrize("path", sorted(PACKAGE.glob("*/*.py")), ids=name_of)
 def test_only_states_ask_the_programs(path: Path) -> None:
     """Whoever needs an answer of the programs takes it from a state, which asks once."""
     if path.parent.name not in ASKING:
@@ -74,5 +79,6 @@ def test_only_states_ask_the_programs(path: Path) -> None:
 
 
 def test_no_module_is_beside_the_folders() -> None:
-    """The root has the version and the way in alone."""
+    """The root has the version and the way in alone, and each folder its place in the order."""
     assert {path.stem for path in PACKAGE.glob("*.py")} == {"__init__", "__main__"}
+    assert {path.parent.name for path in PACKAGE.glob("*/*.py")} == {*BELOW, "cli"}

@@ -1,6 +1,7 @@
 """Files are written whole or not at all, and never over what a command reads by accident."""
 
 import os
+import subprocess
 from collections.abc import Callable
 from pathlib import Path
 
@@ -27,6 +28,7 @@ from pert_companion.writers.csv_file import SCHEDULE_TABLE
 
 from running import CASES, HOUSE, MONTHS
 
+BIN = Path(__file__).resolve().parents[1] / "bin"
 COMMANDS = {
     module.NAME: (module.parser, module.run)
     for module in (days, exporting, importing, portfolio, remaining, report)
@@ -55,7 +57,7 @@ def _folder(tmp_path: Path) -> Path:
     (tmp_path / "package.json").write_text('{"name": "a program", "version": "1.0.0"}\n')
     (tmp_path / "table.csv").write_text("Name,Amount\nA,1\n")
     (tmp_path / "f.xlsx").write_bytes(b"PK\x03\x04a filled sheet")
-    (tmp_path / "plan.xml").write_text("<Project/>")
+    (tmp_path / "plan.xml").write_text('<Project xmlns="http://schemas.microsoft.com/project"/>')
     os.link(tmp_path / "d.csv", tmp_path / "hard.csv")
     (tmp_path / "soft.csv").symlink_to("d.csv")
     return tmp_path
@@ -201,6 +203,32 @@ def test_a_calendar_replaces_a_side_file_alone(
     assert run("pert-days", "d.csv", "--calendar", "--overwrite") == 0
 
 
+@pytest.mark.parametrize(
+    "words",
+    [
+        "pert-days - -o d.csv",
+        "pert-days - --as-of 2026-05-09 -o hard.csv",
+        "pert-remaining - -o soft.csv",
+        "pert-import - -o d.csv",
+        "pert-export - -o d.csv",
+        "pert-report - -o d.csv",
+        "pert-portfolio - -o d.csv",
+        "pert-ledger - -o d.csv",
+    ],
+)
+def test_the_file_of_standard_input_is_not_replaced(folder: Path, words: str) -> None:
+    """It is read too, if only under the name `-`."""
+    before = contents(folder)
+    name, *others = words.split()
+    with (folder / "d.csv").open("rb") as deck:
+        done = subprocess.run(
+            [BIN / name, *others], cwd=folder, stdin=deck, capture_output=True, check=False
+        )
+    assert contents(folder) == before
+    assert done.returncode == 2
+    assert b"this is standard input, read by the same command" in done.stderr
+
+
 def test_standard_output_and_input(
     folder: Path,
     monkeypatch: pytest.MonkeyPatch,
@@ -278,6 +306,24 @@ def test_planted_links_are_not_followed(tmp_path: Path) -> None:
     (tmp_path / "circle").symlink_to("circle")
     with pytest.raises(OSError, match="Too many levels of symbolic links"):
         write_whole(tmp_path / "circle", b"")
+
+
+def test_planted_links_of_folders_are_not_followed(tmp_path: Path) -> None:
+    """The link may be of a folder on the way, also behind a link of the user's own."""
+    home, shared = tmp_path / "home", tmp_path / "shared"
+    home.mkdir()
+    shared.mkdir()
+    (home / "page").write_text("kept")
+    (shared / "reports").symlink_to(home)
+    (tmp_path / "mine").symlink_to(shared / "reports")
+    write_whole(tmp_path / "mine" / "page", b"new")
+    shared.chmod(0o1777)
+    for path in (shared / "reports" / "page", tmp_path / "mine" / "page"):
+        with pytest.raises(OSError, match="a link in a folder that others can write to"):
+            write_whole(path, b"newer")
+    assert (home / "page").read_text() == "new"
+    write_whole(shared / ".." / "shared" / "page", b"")
+    assert (shared / "page").is_file()
 
 
 def test_modes_are_kept_and_follow_the_umask(tmp_path: Path) -> None:

@@ -33,7 +33,7 @@ def installed(prefix: Path) -> Path:
     """Returns the folder of the commands, installed as `make install` does."""
     (prefix / "bin").mkdir(parents=True)
     for name in NAMES:
-        shutil.copy(BIN / name, prefix / "bin" / name)
+        shutil.copy(TOP / "companion" / "launch", prefix / "bin" / name)
     library = prefix / "lib" / "pert-companion"
     shutil.copytree(TOP / "companion" / "src", library, ignore=shutil.ignore_patterns("*.pyc"))
     return prefix / "bin"
@@ -128,6 +128,19 @@ def test_a_missing_library_is_one_line(name: str, tmp_path: Path) -> None:
     assert done.returncode in (1, 2)
     if name in ("pert-export", "pert-import", "pert-report", "pert-portfolio"):
         assert "is missing: apt install python3-" in done.stderr
+
+
+def test_a_simulation_without_its_library(tmp_path: Path) -> None:
+    """numpy is imported when it is wanted, and its absence is one line too."""
+    program = tmp_path / "pert-schedule"
+    program.write_text(
+        f"#!{sys.executable} -IB\nimport sys\nsys.path.insert(0, {str(TOP / 'companion/src')!r})\n"
+        "sys.modules['numpy'] = None\nfrom pert_companion.__main__ import main\nmain()\n"
+    )
+    program.chmod(0o755)
+    done = run([program, HOUSE, "--chance"], tmp_path)
+    line = "pert-schedule: the library numpy is missing: apt install python3-numpy\n"
+    assert (done.returncode, done.stderr) == (2, line)
 
 
 def test_a_program_of_another_name_takes_the_command_as_its_first_word(

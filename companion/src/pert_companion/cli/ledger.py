@@ -33,7 +33,7 @@ from pert_companion.programs.client import Programs
 from pert_companion.readers.base import ReaderOptions
 from pert_companion.readers.estimates import PROGRESS, TO_GO, read_progress, read_to_go
 from pert_companion.readers.vouchers import VOUCHERS, read_vouchers
-from pert_companion.state.project import ProjectState
+from pert_companion.state.project import ProjectState, state_of
 from pert_companion.writers.json_file import result_text
 
 NAME = "pert-ledger"
@@ -176,8 +176,7 @@ def _book(
 ) -> None:
     """Checks the new deck, says what was booked, and writes the files if they are asked for."""
     books = month.books
-    form = "arrows" if books.deck.is_of_tasks else "check"
-    programs.pert(books.deck.to_bytes(), form)
+    state_of(books.deck, programs).plan.check()
     for line in _credit_lines(month):
         say(NAME, line)
     say(NAME, month.sums.line(books.ledger.currency or books.side.currency))

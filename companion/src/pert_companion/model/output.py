@@ -16,10 +16,11 @@ from dataclasses import dataclass
 from pathlib import Path
 
 from pert_companion.model.errors import UsageError
-from pert_companion.model.source import STANDARD_STREAM
+from pert_companion.model.source import STANDARD_STREAM, shown_name
 
 MOST_LINKS = 40
 """A path with more links, one after another, is a circle."""
+STANDARD_INPUT = 0
 SHARED = stat.S_IWGRP | stat.S_IWOTH
 """A folder with any of these bits is one to which others can write."""
 OPEN_FILES = Path("/proc/self/fd")
@@ -104,13 +105,18 @@ class Outputs:
 
 def _as_input(read: Path, path: Path) -> str:
     """Returns what a path is that names a file which the command reads."""
-    return "read by the same command" if read == path else f"{read}, read by the same command"
+    if read == path:
+        return "read by the same command"
+    return f"{shown_name(read)}, read by the same command"
 
 
 def _identity(path: Path) -> tuple[int, int] | None:
-    """Returns what identifies a regular file under all its names, or None if there is none."""
+    """Returns what identifies a regular file under all its names, or None if there is none.
+
+    That of `-` is the file from which standard input comes.
+    """
     try:
-        found = path.stat()
+        found = os.fstat(STANDARD_INPUT) if path == STANDARD_STREAM else path.stat()
     except OSError:
         return None
     return (found.st_dev, found.st_ino) if stat.S_ISREG(found.st_mode) else None
@@ -214,16 +220,26 @@ def _restore(path: Path, data: bytes | None) -> None:
 def _place(path: Path) -> Path:
     """Returns where a path leads after links; what it leads to need not exist.
 
-    A link in a folder to which others can write is an error: one of them may have planted it.
+    A link in a folder to which others can write is an error, also one of a folder on the way: one
+    of them may have planted it.
     """
-    place = path
+    place = path.absolute()
     for _ in range(MOST_LINKS):
-        if not place.is_symlink():
+        link = _first_link(place)
+        if link is None:
             return place.parent.resolve() / place.name
-        if place.parent.stat().st_mode & SHARED:
+        if link.parent.stat().st_mode & SHARED:
             raise OSError(errno.ELOOP, "a link in a folder that others can write to", str(path))
-        target = place.parent / os.readlink(place)
-        if place.exists() and not target.exists():
+        target = link.parent / os.readlink(link)
+        if link.exists() and not target.exists():
             return place  # an open file of a process, such as /dev/stdout
-        place = target
+        place = target / place.relative_to(link)
     raise OSError(errno.ELOOP, os.strerror(errno.ELOOP), str(path))
+
+
+def _first_link(path: Path) -> Path | None:
+    """Returns the first part of an absolute path that is a link."""
+    for part in reversed((path, *path.parents)):
+        if part.is_symlink():
+            return part
+    return None

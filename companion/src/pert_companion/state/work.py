@@ -33,6 +33,7 @@ class Work:
     """The bytes of the deck as they are in its file, if it is a network; None if it was made."""
     _points: dict[int, results.Point] = field(default_factory=dict, repr=False)
     _times: dict[tuple[int, ...], results.Times] = field(default_factory=dict, repr=False)
+    _lengths: dict[tuple[int, ...], int] = field(default_factory=dict, repr=False)
 
     @cached_property
     def clock(self) -> Clock:
@@ -133,12 +134,16 @@ class Work:
 
     def length_with(self, durations: Mapping[str, int]) -> int:
         """Returns the length if activities last so many units, by code; others as they are."""
-        activities = []
-        for card in self.network.activities:
-            units = durations.get(card.code, card.normal)
-            activities.append(replace(card, normal=units, crash=units, slope=0))
-        network = replace(self.network, activities=tuple(activities), pieces=())
-        return self.programs.normal(network).length
+        cards = self.network.activities
+        units = tuple(durations.get(card.code, card.normal) for card in cards)
+        if units == tuple(card.normal for card in cards):
+            return self.normal.length
+        if units not in self._lengths:
+            lasting = zip(cards, units)
+            activities = tuple(replace(card, normal=n, crash=n, slope=0) for card, n in lasting)
+            network = replace(self.network, activities=activities, pieces=())
+            self._lengths[units] = self.programs.normal(network).length
+        return self._lengths[units]
 
     def load(self, network: Deck, period: int) -> results.Load:
         """Returns what a network made from this one loads in each period of so many units."""
