@@ -57,12 +57,14 @@ class _Delays:
         return {task.code: self._delay(task) for task in tasks}
 
     def _starts_of_work(self, side: SideFile) -> dict[str, int]:
-        """Returns when the cards of other tasks begin; waits and moments may move."""
+        """Returns when the cards of other tasks begin, and end; waits may move."""
         starts = {}
         for task in side.tasks:
             if is_as_late(task):
                 continue
-            begin, _ = span(task, self.cards, self.events, self.durations)
+            begin, end = span(task, self.cards, self.events, self.durations)
+            if task.finish_moment is not None:
+                starts[task.finish_moment] = end
             for part in task.parts:
                 starts[part] = begin
                 begin += self.durations[part]
