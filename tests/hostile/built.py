@@ -24,3 +24,10 @@ def answer(command: list[str], text: bytes) -> Answer:
     """Returns the status of a command and what it prints, if this is its input."""
     done = subprocess.run(command, input=text, capture_output=True, check=False)
     return done.returncode, done.stdout, done.stderr
+
+
+def forms_without_number() -> list[str]:
+    """Returns the forms of pert that are a single word, as the usage line names them."""
+    usage = (TOP / "tests" / "acceptance" / "no-words" / "stderr").read_text(encoding="utf-8")
+    names = [name.strip() for name in usage.removeprefix("usage: pert ").split("|")]
+    return [name for name in names if " " not in name]
