@@ -91,7 +91,7 @@ class _SideTasks:
 
 def _own(task: Task, node: Node, own: OwnTime) -> SideOwn:
     """Returns the entry of the calendar of a task, with the shortest duration that the deck has."""
-    if task.crash is None or node.shortening is None:
+    if task.crash is None or node.shortening is None or node.shortening < 0:
         return SideOwn(own.calendar.name, own.start)
     shortening = round(Decimal(node.shortening.numerator) / node.shortening.denominator, _PLACES)
     return SideOwn(own.calendar.name, own.start, task.crash.minutes, shortening.normalize())

@@ -55,6 +55,7 @@ class Money:
         slope = self._slope(task, node, crash, calendar, rounding.unit_minutes)
         if slope is not None:
             node.crash, node.slope = crash, slope
+            node.shortening = _shortening(task.crash, node, calendar)
 
     def _slope(
         self, task: Task, node: Node, crash: int, calendar: Calendar, unit_minutes: int
@@ -71,7 +72,6 @@ class Money:
         if not 0 <= exact * self.scale <= MAX_SLOPE:
             self._refuse_crash(task, f"a slope of {float(exact):.10g} is not from 0 to {MAX_SLOPE}")
             return None
-        node.shortening = exact * (node.normal - crash)
         return self.whole(task, "slope", exact, MAX_SLOPE)
 
     def _refuse_crash(self, task: Task, why: str) -> None:
@@ -100,15 +100,24 @@ def _exact_slope(
 
     A task with a calendar of its own has as much of its own time to gain as these units are.
     """
+    if crash.slope is not None and node.own is None:
+        return Fraction(crash.slope) * unit_minutes / calendar.day_minutes
+    total = _shortening(crash, node, calendar)
+    return None if total is None else total / units
+
+
+def _shortening(crash: Crash, node: Node, calendar: Calendar) -> Fraction | None:
+    """Returns what the shortest duration of a task costs more, in the plan's currency.
+
+    A slope counts for each day of the task's own calendar.
+    """
     task = node.task
     assert task is not None
-    if crash.slope is not None and node.own is not None:
-        days = Fraction(task.minutes - crash.minutes, node.own.calendar.day_minutes)
-        return Fraction(crash.slope) * days / units
     if crash.slope is not None:
-        return Fraction(crash.slope) * unit_minutes / calendar.day_minutes
+        own = calendar if node.own is None else node.own.calendar
+        return Fraction(crash.slope) * Fraction(task.minutes - crash.minutes, own.day_minutes)
     if crash.cost is not None:
-        return (Fraction(crash.cost) - Fraction(task.cost or 0)) / units
+        return Fraction(crash.cost) - Fraction(task.cost or 0)
     return None
 
 

@@ -101,7 +101,7 @@ class _Maker:
             extra = Fraction(known.shortening or Decimal(0)) * self.side.money_scale
         node.own = own
         node.normal = self._units(own.span(task.minutes))
-        is_fixed = node.crash == normal
+        is_fixed = node.crash == normal and shortest is None
         node.crash = again(node.crash) if shortest is None else self._units(own.span(shortest))
         node.crash = node.normal if is_fixed else min(node.crash, node.normal)
         saved = node.normal - node.crash

@@ -7,7 +7,13 @@ from pathlib import Path
 from pert_companion import readers
 from pert_companion.analysis.passes import spans
 from pert_companion.analysis.real_dates import calendars_text
-from pert_companion.analysis.scheduling import normal_dates, normal_schedule
+from pert_companion.analysis.schedule import ScheduledTask
+from pert_companion.analysis.scheduling import (
+    TaskDates,
+    normal_dates,
+    normal_schedule,
+    rest_schedule,
+)
 from pert_companion.carry import Carried, CarryOptions, carry, logic_of
 from pert_companion.carry.charges import with_ledger
 from pert_companion.carry.packages import with_effort
@@ -211,11 +217,21 @@ def state_of(imported: Imported, programs: Programs) -> ProjectState:
 
 
 def compare_dates(state: ProjectState) -> Reconciliation:
-    """Returns how the dates of the deck, as `pert` computes them, differ from the file's."""
+    """Returns how the dates of the deck, as `pert` computes them, differ from the file's.
+
+    Those of a running project are dates of the plan, or of what is left from the data date on.
+    """
     tasks = state.side.tasks
     if all(task.listed_start is None and task.listed_finish is None for task in tasks):
         return Reconciliation(0, ())
-    return reconcile(state.side, normal_dates(state.plan))
+    rest: tuple[TaskDates, ...] = ()
+    if state.has_begun:
+        rest = tuple(map(_dates_of, rest_schedule(state).tasks))
+    return reconcile(state.side, normal_dates(state.plan), rest)
+
+
+def _dates_of(task: ScheduledTask) -> TaskDates:
+    return TaskDates(task.code, task.start, task.finish, task.is_milestone)
 
 
 def pause_line(imported: Imported, state: ProjectState) -> str:

@@ -51,13 +51,18 @@ class Reconciliation:
         )
 
 
-def reconcile(side: SideFile, tasks: Iterable[TaskDates]) -> Reconciliation:
+def reconcile(
+    side: SideFile, tasks: Iterable[TaskDates], rest: Iterable[TaskDates] = ()
+) -> Reconciliation:
     """Compares each real task with its listed dates; `tasks` are those at normal durations.
 
-    The moment of a milestone is the evening of one day and the morning of the next: either day is
-    right. Tasks without listed dates are not counted.
+    `rest` are those of a running project from its data date on: planners list them once they have
+    computed the plan again, and those of the plan before. Either is right. The moment of a
+    milestone is the evening of one day and the morning of the next: either day is right. Tasks
+    without listed dates are not counted.
     """
     scheduled = {task.code: task for task in tasks}
+    running = {task.code: task for task in rest}
     compared = 0
     differences = []
     for task in side.tasks:
@@ -65,6 +70,8 @@ def reconcile(side: SideFile, tasks: Iterable[TaskDates]) -> Reconciliation:
             continue
         compared += 1
         found = next(_differences(side.calendar, task, scheduled[task.code]), None)
+        if found is not None and task.code in running:
+            found = next(_differences(side.calendar, task, running[task.code]), None)
         if found is not None:
             differences.append(found)
     return Reconciliation(compared, tuple(differences))
