@@ -5,7 +5,7 @@ first midnight. Nothing of the package's calendars, links or passes is used.
 """
 
 from collections.abc import Mapping, Sequence
-from dataclasses import dataclass
+from dataclasses import dataclass, field
 from datetime import date, datetime, timedelta
 
 FIRST = datetime(2026, 3, 1)
@@ -78,6 +78,14 @@ Found = dict[str, tuple[int, int]]
 """When tasks begin and end, in hours."""
 
 
+@dataclass(frozen=True)
+class Actual:
+    """The dates of finished tasks, and the starts of those under way, of which hours are left."""
+
+    finished: Found = field(default_factory=dict)
+    begun: Mapping[str, int] = field(default_factory=dict)
+
+
 def moment_of(hour: int) -> datetime:
     """Returns the moment of an hour."""
     return FIRST + timedelta(hours=hour)
@@ -88,6 +96,7 @@ def dates_by_hours(
     links: Sequence[HourLink],
     begin: int,
     held: Mapping[str, int] | None = None,
+    actual: Actual = Actual(),
 ) -> Found:
     """Returns the early dates of tasks, which are in the order of their links.
 
@@ -95,6 +104,9 @@ def dates_by_hours(
     """
     found: Found = {}
     for task in tasks:
+        if task.name in actual.finished:
+            found[task.name] = actual.finished[task.name]
+            continue
         starts = [begin, (held or {}).get(task.name, begin)]
         finishes = []
         if task.no_start_before is not None:
@@ -105,7 +117,8 @@ def dates_by_hours(
         for link in links:
             if link.after == task.name:
                 (starts if link.kind[1] == "S" else finishes).append(_bound(link, found))
-        found[task.name] = _placed(task, max(starts), finishes)
+        start, finish = _placed(task, max(starts), finishes)
+        found[task.name] = actual.begun.get(task.name, start), finish
     return found
 
 

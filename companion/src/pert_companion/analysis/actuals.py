@@ -49,7 +49,9 @@ class Actuals:
             day = morning - ONE_DAY
         ended = calendar.evening(day)
         begun = self.start(task)
-        return ended if begun is None else max(begun, ended)
+        if begun is None or calendar.position(begun) <= calendar.position(ended):
+            return ended
+        return begun
 
     def _days(self, task: SideTask, letter: str) -> list[date]:
         days: list[date] = []
