@@ -13,12 +13,12 @@ from pathlib import Path
 from typing import Any
 
 import pytest
+from gan_files import started_gan
 from lists import US, csv_bytes, rows_of
 from planner_files import gan_bytes, mspdi_bytes, pmxml_bytes, xer_bytes
 from running import run_words
 from test_list_calendars import workbook_bytes
 from two_months import FREE, NOW, START, dated, running, station, walked
-from writers.test_ways_back import started_gan
 
 from pert_companion.cli import exporting, importing, schedule
 from pert_companion.model.plan import Plan, Task
@@ -36,7 +36,7 @@ def _pmxml(plan: Plan) -> bytes:
 
 
 def _gan(plan: Plan) -> bytes:
-    return started_gan(plan, "") if plan.data_date is not None else gan_bytes(plan)
+    return started_gan(plan) if plan.data_date is not None else gan_bytes(plan)
 
 
 def _list_rows(plan: Plan, typed: bool) -> list[list[Any]]:

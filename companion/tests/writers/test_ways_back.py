@@ -19,7 +19,8 @@ from chosen_lengths import (
 )
 from cpm import Dates
 from examples import length_count
-from p6_files import DURATION_TYPES, full_pmxml, full_xer, xer_tables, xml_bytes
+from gan_files import started_gan
+from p6_files import DURATION_TYPES, full_pmxml, full_xer, xer_tables
 from pert_companion import readers
 from pert_companion.analysis.schedule import Schedule
 from pert_companion.analysis.scheduling import rest_schedule
@@ -30,7 +31,6 @@ from pert_companion.programs.results import cost_at
 from pert_companion.readers.base import ReaderOptions
 from pert_companion.state.remaining import State
 from pert_companion.writers.into import WAYS_BACK
-from planner_files import gan_bytes
 from plans import Feature, plans
 
 PLANNED = frozenset(
@@ -97,18 +97,6 @@ def gan_fields(data: bytes) -> Fields:
     for number, element in enumerate(ElementTree.fromstring(data).iter()):
         found[element.tag, str(number)] = dict(element.attrib)
     return found
-
-
-def started_gan(plan: Plan, _: str) -> bytes:
-    """Returns a plan as GanttProject has it, with the percentages and starts of its tasks."""
-    root = ElementTree.fromstring(gan_bytes(plan))
-    tasks = {task.uid: task for task in plan.tasks()}
-    for element in root.iter("task"):
-        task = tasks.get(element.get("id", ""))
-        if task is not None and task.progress.percent is not None:
-            element.set("complete", str(task.progress.percent))
-            element.set("start", str(task.progress.actual_start))
-    return xml_bytes(root)
 
 
 XER_DATES = frozenset(

@@ -49,9 +49,12 @@ class Actuals:
             day = morning - ONE_DAY
         ended = calendar.evening(day)
         begun = self.start(task)
-        if begun is None or calendar.position(begun) <= calendar.position(ended):
+        if begun is None:
             return ended
-        return begun
+        is_same = calendar.position(begun) == calendar.position(ended)
+        if is_same and ended.date() >= self.state.deck.project.start_date:
+            return ended
+        return max(begun, ended)
 
     def _days(self, task: SideTask, letter: str) -> list[date]:
         days: list[date] = []
