@@ -1,6 +1,7 @@
 """MS Project's XML that is written shows the chosen schedule, by a CPM of the test's own."""
 
 from dataclasses import replace
+from itertools import chain
 from pathlib import Path
 from xml.etree import ElementTree
 
@@ -18,6 +19,7 @@ from pert_companion.model.source import Source
 from pert_companion.programs.results import cost_at
 from pert_companion.readers import mspdi
 from pert_companion.readers.base import ReaderOptions
+from pert_companion.writers.changed_fields import CHANGED
 from pert_companion.writers.mspdi import to_mspdi
 from pert_companion.writers.mspdi_elements import NAMESPACE
 from pert_companion.writers.mspdi_into import into_mspdi
@@ -83,11 +85,7 @@ def test_new_file(plan: Plan) -> None:
         assert costs == [task.cost for task in schedule.tasks]
 
 
-CHANGED = frozenset(
-    "Duration Start Finish EarlyStart EarlyFinish ManualStart ManualFinish ManualDuration"
-    " RemainingDuration FinishDate PercentComplete Cost FixedCost RemainingCost Value Work"
-    " RegularWork RemainingWork Units LinkLag LagFormat Resume".split()
-)
+CHANGED_NAMES = frozenset(chain.from_iterable(CHANGED["mspdi"].values()))
 ADDED = frozenset("Cost FixedCost RemainingDuration".split())
 """What a task gets if it has none."""
 
@@ -100,7 +98,7 @@ def everything_else(data: bytes) -> list[tuple[str, str]]:
         name = element.tag.removeprefix(f"{{{NAMESPACE}}}")
         if name in ADDED:
             continue
-        found.append((name, "" if name in CHANGED else element.text or ""))
+        found.append((name, "" if name in CHANGED_NAMES else element.text or ""))
     return found
 
 

@@ -30,6 +30,7 @@ from pert_companion.model.source import Source
 from pert_companion.programs.results import cost_at
 from pert_companion.readers.base import ReaderOptions
 from pert_companion.state.remaining import State
+from pert_companion.writers.changed_fields import CHANGED, listed
 from pert_companion.writers.into import WAYS_BACK
 from plans import Feature, plans
 
@@ -58,12 +59,11 @@ Fields = dict[tuple[str, str], dict[str, str]]
 
 @dataclass(frozen=True)
 class Format:
-    """A format: how a test writes a plan, and which fields a schedule may change."""
+    """A format: how a test writes a plan, and how it reads the fields of a file."""
 
     name: str
     write: Callable[[Plan, str], bytes]
     fields: Callable[[bytes], Fields]
-    changed: dict[str, frozenset[str]]
     features: frozenset[Feature] = RUNNING
     lists_finishes: bool = True
     """Whether it lists when tasks under way end."""
@@ -99,61 +99,10 @@ def gan_fields(data: bytes) -> Fields:
     return found
 
 
-XER_DATES = frozenset(
-    "target_start_date target_end_date early_start_date early_end_date restart_date reend_date"
-    " late_start_date late_end_date".split()
-)
 FORMATS = {
-    "xer": Format(
-        "xer",
-        full_xer,
-        xer_fields,
-        {
-            "PROJECT": frozenset(("scd_end_date",)),
-            "TASK": XER_DATES
-            | frozenset(
-                "target_drtn_hr_cnt remain_drtn_hr_cnt total_float_hr_cnt target_work_qty"
-                " remain_work_qty".split()
-            ),
-            "TASKRSRC": XER_DATES
-            | frozenset(
-                "target_qty remain_qty target_qty_per_hr remain_qty_per_hr target_cost"
-                " remain_cost".split()
-            ),
-            "UDFVALUE": frozenset(("udf_text", "udf_number")),
-        },
-        RUNNING | {Feature.CONSTRAINTS},
-    ),
-    "pmxml": Format(
-        "pmxml",
-        full_pmxml,
-        pmxml_fields,
-        {
-            "Project": frozenset(("ScheduledFinishDate",)),
-            "Activity": frozenset(
-                "PlannedDuration RemainingDuration AtCompletionDuration DurationPercentComplete"
-                " StartDate FinishDate PlannedStartDate PlannedFinishDate RemainingEarlyFinishDate"
-                " RemainingLateFinishDate TotalFloat PlannedLaborUnits RemainingLaborUnits"
-                " AtCompletionLaborUnits".split()
-            ),
-            "ResourceAssignment": frozenset(
-                "PlannedUnits RemainingUnits AtCompletionUnits PlannedUnitsPerTime"
-                " RemainingUnitsPerTime PlannedCost RemainingCost AtCompletionCost".split()
-            ),
-            "UDF": frozenset(("TextValue", "CostValue")),
-        },
-        RUNNING | {Feature.CONSTRAINTS},
-    ),
-    "gan": Format(
-        "gan",
-        started_gan,
-        gan_fields,
-        {
-            "task": frozenset("start duration complete cost-manual-value cost-calculated".split()),
-            "customproperty": frozenset(("value",)),
-        },
-        lists_finishes=False,
-    ),
+    "xer": Format("xer", full_xer, xer_fields, RUNNING | {Feature.CONSTRAINTS}),
+    "pmxml": Format("pmxml", full_pmxml, pmxml_fields, RUNNING | {Feature.CONSTRAINTS}),
+    "gan": Format("gan", started_gan, gan_fields, lists_finishes=False),
 }
 NEW_EXPENSES = ("PROJCOST", "ActivityExpense")
 EVERY = pytest.mark.parametrize("format_name", FORMATS)
@@ -179,7 +128,7 @@ def check_rest(form: Format, before: bytes, after: bytes) -> None:
     assert [key for key in old if key not in new] == []
     assert all(kind in NEW_EXPENSES for kind, _ in added)
     for key, fields in old.items():
-        wanted = form.changed.get(key[0], frozenset())
+        wanted = CHANGED[form.name].get(key[0], ())
         if "Shortening" in new[key].values():
             continue
         kept = {name: text for name, text in fields.items() if name not in wanted}
@@ -266,3 +215,10 @@ def test_what_has_its_dates_stays(format_name: str, data: st.DataObject) -> None
     schedule = rest_schedule(state_of(carried))
     dated = into(format_name, original, schedule, carried)
     assert into(format_name, dated, schedule, carried) == dated
+
+
+@pytest.mark.parametrize("format_name", CHANGED)
+def test_the_page_lists_what_changes(format_name: str) -> None:
+    """No field changes that docs/exporting.md does not list."""
+    page = Path(__file__).resolve().parents[3] / "docs" / "exporting.md"
+    assert listed(format_name) in page.read_text()
