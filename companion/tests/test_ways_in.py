@@ -12,7 +12,7 @@ import pytest
 from pert_companion import VERSION
 from pert_companion.__main__ import COMMANDS
 
-from running import CASES, HOUSE, MONTHS
+from running import CASES, EXAMPLES, HOUSE, MONTHS
 
 TOP = Path(__file__).resolve().parents[2]
 BIN = TOP / "companion" / "bin"
@@ -205,6 +205,52 @@ def test_a_deck_comes_from_standard_input(tmp_path: Path) -> None:
         1,
         "pert-days: standard input: empty; it can be read once\n",
     )
+
+
+STANDARD_INPUTS = [
+    ("pert-check-status - --strict", "april.csv", 0, "STATUS House"),
+    ("pert-compare - may.csv", "april.csv", 0, "COMPARE House"),
+    ("pert-compare months --left -", "left.csv", 0, "COMPARE House"),
+    ("pert-days - --count 2026-06-01", "april.csv", 0, "65\n"),
+    ("pert-days may.csv --holidays - --count 2026-06-01", "", 1, ""),
+    ("pert-export - -o -", "april.csv", 0, "Row,Code,Id"),
+    ("pert-export april.csv --into - -o -", "april.csv", 1, ""),
+    ("pert-import - -o -", "garden.xml", 0, "PROJECT,Garden-house"),
+    ("pert-import garden.xml --with-crash - -o -", "garden.xml", 1, ""),
+    ("pert-ledger april.csv - -o - --accept charge", "v.csv", 0, "PROJECT,House"),
+    ("pert-ledger april.csv --ledger - -o - --accept charge,fraction", "l.csv", 0, "PROJECT,House"),
+    ("pert-portfolio - -o - --no-cache", "april.csv", 0, "<!DOCTYPE html>"),
+    ("pert-remaining - -o -", "april.csv", 0, "PROJECT,House"),
+    ("pert-remaining april.csv --left -", "left.csv", 0, "REMAINING House"),
+    ("pert-report - -o -", "april.csv", 0, "<!DOCTYPE html>"),
+    ("pert-schedule - --forecast", "april.csv", 0, "FORECAST House"),
+]
+"""Words, what standard input has, the status, and how the output begins."""
+
+
+@pytest.mark.parametrize("words, given, status, begin", STANDARD_INPUTS)
+def test_each_command_reads_standard_input(
+    words: str, given: str, status: int, begin: str, tmp_path: Path
+) -> None:
+    """`-` is a file to read under every option, and standard output under -o."""
+    for path in (MONTHS / "april.csv", MONTHS / "april.json", MONTHS / "may.csv"):
+        shutil.copy(path, tmp_path)
+    shutil.copy(EXAMPLES / "garden.xml", tmp_path)
+    shutil.copytree(MONTHS, tmp_path / "months")
+    (tmp_path / "left.csv").write_text("activity,left\n")
+    (tmp_path / "v.csv").write_text("Date,Account,Amount\n2026-04-01,Ground,1\n")
+    (tmp_path / "l.csv").write_bytes((EXAMPLES / "pump" / "january.ledger.csv").read_bytes())
+    (tmp_path / "empty.csv").write_text("")
+    name, *others = words.split()
+    with (tmp_path / (given or "empty.csv")).open("rb") as file:
+        done = subprocess.run(
+            [BIN / name, *others], cwd=tmp_path, stdin=file, capture_output=True, check=False
+        )
+    errors = done.stderr.decode()
+    assert done.returncode == status, errors
+    assert done.stdout.decode().startswith(begin)
+    assert status == 0 or "standard input" in errors
+    assert "Traceback" not in errors and "standard output and" not in errors
 
 
 def test_names_that_are_not_utf_8(tmp_path: Path) -> None:

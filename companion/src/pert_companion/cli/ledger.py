@@ -300,7 +300,5 @@ def _files(books: Books, path: Path) -> list[Output]:
 def _summary(month: MonthEnd, path: Path) -> str:
     vouchers = len(month.books.ledger.vouchers)
     close = close_of(month.books.deck)
-    return (
-        f"{named(path)} and its ledger: {month.count} new of {vouchers} vouchers, at the close of"
-        f" {close}"
-    )
+    files = f"{path} and its ledger" if is_file(path) else named(path)
+    return f"{files}: {month.count} new of {vouchers} vouchers, at the close of {close}"

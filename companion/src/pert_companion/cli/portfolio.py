@@ -3,15 +3,18 @@
 import argparse
 import os
 import sys
+import tempfile
 from collections.abc import Sequence
 from pathlib import Path
 
 from pert_companion.cli.choosing import add_bin_option, programs_of
 from pert_companion.cli.common import CommandParser, say
 from pert_companion.cli.writing import add_output_options, check_json, is_file, named, outputs_of
-from pert_companion.model.errors import UsageError
+from pert_companion.model.deck import read_bytes as read_deck_bytes
+from pert_companion.model.errors import CompanionError, UsageError
 from pert_companion.model.lines import one_line
 from pert_companion.model.output import PAGE, Output, Outputs
+from pert_companion.model.source import STANDARD_STREAM
 from pert_companion.portfolio.hosts import Hosts
 from pert_companion.portfolio.job import Job
 from pert_companion.portfolio.page import render
@@ -19,6 +22,7 @@ from pert_companion.portfolio.row import Row
 from pert_companion.portfolio.stored import Cache
 from pert_companion.portfolio.table import PORTFOLIO_TABLE, table_csv
 from pert_companion.portfolio.work import rows_of, serve
+from pert_companion.programs.client import Programs
 from pert_companion.writers.json_file import Document, to_json
 
 NAME = "pert-portfolio"
@@ -110,7 +114,34 @@ def run(options: argparse.Namespace) -> int:
         serve(programs, sys.stdin.buffer)
         return 0
     _check_words(options)
-    jobs = [Job(path, _previous(path, options.previous), str(path)) for path in options.deck]
+    with tempfile.TemporaryDirectory() as folder:
+        return _write_page(programs, _jobs(options, Path(folder)), options)
+
+
+def _jobs(options: argparse.Namespace, folder: Path) -> list[Job]:
+    """Returns the decks to read. That of standard input gets a file in a folder."""
+    jobs = []
+    for path in options.deck:
+        place = _kept_input(folder) if path == STANDARD_STREAM else path
+        jobs.append(Job(place, _previous(path, options.previous), str(path)))
+    return jobs
+
+
+def _kept_input(folder: Path) -> Path:
+    """Returns a file with what standard input has, since workers and hosts have another one.
+
+    If it cannot be read, it stays standard input, and the row of the deck says why.
+    """
+    path = folder / "deck.csv"
+    try:
+        path.write_bytes(read_deck_bytes(STANDARD_STREAM))
+    except (CompanionError, OSError):
+        return STANDARD_STREAM
+    return path
+
+
+def _write_page(programs: Programs, jobs: Sequence[Job], options: argparse.Namespace) -> int:
+    """Makes the rows, writes what is asked for, and returns the status."""
     outputs = _outputs(options, jobs)
     for name in ("pert", "pert_check"):
         if options.hosts is None:

@@ -16,6 +16,7 @@ from itertools import chain
 from pathlib import Path
 
 from pert_companion.model.errors import InputError
+from pert_companion.model.source import read_bytes, shown_name
 from pert_companion.model.strict import parse_day
 
 MOST_BYTES = 256 * 1024 * 1024
@@ -186,11 +187,7 @@ def find_ledger(deck: Path) -> Ledger | None:
 
 def read_ledger(path: Path) -> Ledger:
     """Returns the ledger of a file; `InputError` if it is none."""
-    with path.open("rb") as file:
-        data = file.read(MOST_BYTES + 1)
-    if len(data) > MOST_BYTES:
-        raise InputError(f"{path}: longer than {MOST_BYTES} bytes, no ledger")
-    return parse_ledger(data, str(path))
+    return parse_ledger(read_bytes(path, MOST_BYTES, "ledger"), shown_name(path))
 
 
 def to_bytes(ledger: Ledger) -> bytes:

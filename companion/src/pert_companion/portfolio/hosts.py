@@ -15,10 +15,12 @@ from pathlib import Path
 
 from pert_companion.model.errors import CompanionError, UsageError
 from pert_companion.model.sidefile import side_path
+from pert_companion.model.source import read_bytes
 from pert_companion.portfolio.job import Job
 from pert_companion.portfolio.row import Row
 from pert_companion.portfolio.stored import row_from
 
+MOST_BYTES = 1024 * 1024
 TOGETHER = 4
 """The decks that go to a host in one connection."""
 
@@ -58,7 +60,8 @@ def host_of(line: str) -> str:
 
 def _logins(path: Path) -> list[str]:
     """Returns the lines with logins of a file."""
-    lines = (line.strip() for line in path.read_text("utf-8", "surrogateescape").splitlines())
+    text = read_bytes(path, MOST_BYTES, "list of hosts").decode("utf-8", "surrogateescape")
+    lines = (line.strip() for line in text.splitlines())
     return [line for line in lines if line and not line.startswith("#")]
 
 
