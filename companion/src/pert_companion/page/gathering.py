@@ -86,7 +86,7 @@ class Gathered:
         """Returns the plan that progress is compared with, if one is given."""
         return self.source.baseline
 
-    @property
+    @cached_property
     def has_baseline(self) -> bool:
         """Says whether there is a baseline besides the plan: a named one, or the source's own."""
         return self.baseline is not None or bool(own_baseline(self.state.side))
