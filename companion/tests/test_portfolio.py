@@ -183,6 +183,17 @@ def test_the_page_and_the_table(decks: Path, capsys: pytest.CaptureFixture[str])
     assert "bad.csv" in said and "4 decks, 1 refused" in said and "\r" not in said
 
 
+def test_the_table_has_money_and_data_dates(tmp_path: Path) -> None:
+    """A deck in cents of 30 April: amounts are in its currency, the day is the close of business."""
+    deck = tmp_path / "april.csv"
+    for name in ("april.csv", "april.json"):
+        shutil.copy(TOP / "examples" / "pump" / name, tmp_path / name)
+    assert run(deck, "--csv", "--no-cache", "-o", tmp_path / "page.html") == 0
+    (row,) = csv.DictReader(io.StringIO((tmp_path / "page.csv").read_text()))
+    assert (row["as_of"], row["budget"], row["latest"]) == ("2026-04-30", "355800.00", "408381.40")
+    assert row["overrun"] == "52581.40"
+
+
 def test_one_deck_is_counted_as_one(decks: Path, capsys: pytest.CaptureFixture[str]) -> None:
     """The last line says `1 deck`."""
     assert run(decks / "house.csv", "--no-cache", "-o", decks / "page.html") == 0

@@ -165,6 +165,7 @@ def test_rows_that_are_no_vouchers_are_named() -> None:
             "Date,Account,Amount\n31/03/2026,A,1\n03/31/2026,A,1\n",
             "in 31/03/2026 the day is first",
         ),
+        ("Date,Account,Amount\n2026-03-31,A,5\0\n", r"row 2: the currency '.x00' has characters"),
         ("Date,Account,Amount\n", "there is no voucher"),
         ("Date,Account,Amount\nx,A,1\n", "there is no voucher; row 2: date 'x'"),
         ('Date,Account,Amount\n2026-03-31,"A,1\n', "a quote is missing"),

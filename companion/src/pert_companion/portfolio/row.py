@@ -125,7 +125,7 @@ def _dated(state: ProjectState, name: str) -> Row:
         name,
         code=state.deck.project.code,
         title=state.deck.project.title,
-        as_of=state.as_of.isoformat(),
+        as_of=state.data_day.isoformat(),
         day_minutes=state.side.calendar.day_minutes,
         currency=words.currency,
         money_scale=words.money_scale,
@@ -201,7 +201,7 @@ def _moved(row: Row, state: ProjectState, before: ProjectState) -> Row:
         units = clock.units_until(now) - clock.units_until(then)
         days = Fraction(units * before.side.unit_minutes, before.side.calendar.day_minutes)
         moved = round(days * row.day_minutes)
-    return replace(row, previous_as_of=before.as_of.isoformat(), moved=moved)
+    return replace(row, previous_as_of=before.data_day.isoformat(), moved=moved)
 
 
 def _next_milestone(state: ProjectState, tasks: Sequence[TaskDates]) -> Milestone | None:

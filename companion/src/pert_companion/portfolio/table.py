@@ -4,7 +4,7 @@ import csv
 import io
 from collections.abc import Sequence
 
-from pert_companion.model.figures import days_text
+from pert_companion.model.figures import days_text, money_text
 from pert_companion.model.output import FileKind
 from pert_companion.page.words import shown
 from pert_companion.portfolio.row import Row
@@ -25,9 +25,11 @@ PLAIN = (
         "contract_name",
         "missed",
     ),
-    *("latest", "budget", "overrun", "day_price", "currency", "money_scale", "fault"),
+    *("latest", "budget", "overrun", "day_price", "currency", "fault"),
 )
 """The columns that are fields of a row."""
+AMOUNTS = ("latest", "budget", "overrun", "day_price")
+"""Those that are amounts."""
 
 Cells = dict[str, str | int | None]
 
@@ -35,7 +37,7 @@ Cells = dict[str, str | int | None]
 def table_csv(rows: Sequence[Row], stale_days: int) -> bytes:
     """Returns the rows in the order of their decks as CSV in UTF-8.
 
-    Amounts are in units of money of each deck, lengths in days.
+    Amounts are in the currency of each deck, lengths in days.
     """
     fresh = freshness(rows, stale_days)
     text = io.StringIO(newline="")
@@ -53,6 +55,9 @@ def _cells(row: Row) -> Cells:
     """Returns the cells of a row by the names of their columns."""
     mile = row.milestone
     cells: Cells = {name: getattr(row, name) for name in PLAIN}
+    for name in AMOUNTS:
+        if cells[name] is not None:
+            cells[name] = money_text(getattr(row, name), row.money_scale)
     cells |= {
         "late_days": _days(row.late, row),
         "moved_days": _days(row.moved, row),

@@ -192,6 +192,9 @@ def _one_currency(sheet: Sheet) -> str:
     first: tuple[str, int] = ("", 0)
     for row in sheet.rows:
         for found in _currencies(row):
+            if not found.isprintable():
+                why = f"the currency {found!r} has characters that are not seen"
+                raise InputError(f"{sheet.place(row)}: {why}")
             if first[0] and found != first[0]:
                 raise InputError(
                     f"{sheet.file}: two currencies: {first[0]} in row {first[1]}, {found} in row"
