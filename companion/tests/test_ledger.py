@@ -284,3 +284,16 @@ def test_the_ledger_is_next_to_its_deck(tmp_path: Path) -> None:
     ledger_path(path).write_bytes(to_bytes(ledger))
     assert ledger_path(path).name == "wing.ledger.csv"
     assert find_ledger(path) == ledger
+
+
+def test_odd_balances_are_said_in_the_currency() -> None:
+    """A deck in cents: half a cent, and 12.50 below zero, are no numbers of cents."""
+    half = Voucher(date(2026, 3, 10), "FND", Decimal("64.005"))
+    below = Voucher(date(2026, 3, 11), "WAL", Decimal("-12.5"))
+    found = with_ledger(deck(), Ledger((half, below)), 100).findings
+    assert [finding.why for finding in found] == [
+        "64.005 is no whole number of units of money; it is rounded",
+        "its balance is -12.50, below zero; the deck has 0",
+    ]
+    whole = with_ledger(deck(), Ledger((half,)), 1).findings
+    assert "(a deck in cents: pert-import --cents)" in whole[0].why

@@ -16,6 +16,7 @@ from pert_companion.carry.progress import morning_after
 from pert_companion.model.bookings import BookingKind, Finding
 from pert_companion.model.cards import AccountCard, ChargeCard, ToGoCard
 from pert_companion.model.deck import Deck
+from pert_companion.model.figures import currency_text, money_text
 from pert_companion.model.ledger import Ledger, ToGo, Voucher
 
 MAX_AMOUNT = 10**12
@@ -120,22 +121,24 @@ class _Books:
             self.rounded.add(account)
             self._find_fraction(f"account {account} on {day}", exact)
         if abs(found) > MAX_AMOUNT:
-            why = f"the balance {found} is more than a deck can have, {MAX_AMOUNT}"
+            balance, most = money_text(found, self.scale), money_text(MAX_AMOUNT, self.scale)
+            why = f"the balance {balance} is more than a deck can have, {most}"
             self.findings.append(Finding(BookingKind.BALANCE, f"account {account} on {day}", why))
             return MAX_AMOUNT if found > 0 else 0
         return found
 
     def _find_fraction(self, place: str, exact: Fraction) -> None:
-        why = (
-            f"{float(exact):.2f} is no whole number of the deck's units of money; it is rounded"
-            " (a deck in cents: pert-import --cents)"
-        )
+        hint = " (a deck in cents: pert-import --cents)" if self.scale == 1 else ""
+        why = f"{self._currency(exact)} is no whole number of units of money; it is rounded{hint}"
         self.findings.append(Finding(BookingKind.FRACTION, place, why))
 
     def _find_negative(self, account: str, day: date, exact: Fraction) -> None:
-        balance = Decimal(exact.numerator) / exact.denominator / self.scale
-        why = f"its balance is {balance:f}, below zero; the deck has 0"
+        why = f"its balance is {self._currency(exact)}, below zero; the deck has 0"
         self.findings.append(Finding(BookingKind.BALANCE, f"account {account} on {day}", why))
+
+    def _currency(self, exact: Fraction) -> str:
+        """Returns units of money of the deck in the currency, with all their decimals."""
+        return currency_text(Decimal(exact.numerator) / exact.denominator / self.scale)
 
 
 def _take(charges: list[tuple[date, int]], amount: int) -> Iterator[tuple[date, int]]:
