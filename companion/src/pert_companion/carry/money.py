@@ -11,6 +11,7 @@ from pert_companion.carry.model import Node
 from pert_companion.carry.units import Rounding
 from pert_companion.model.calendar import Calendar
 from pert_companion.model.cards import AccountCard, ChargeCard, ToGoCard
+from pert_companion.model.figures import money_text
 from pert_companion.model.losses import Loss, LossKind
 from pert_companion.model.plan import Crash, Task
 
@@ -30,12 +31,13 @@ class Money:
         """Returns an amount rounded up to whole units; 0 if a deck cannot have it."""
         value = Fraction(amount) * self.scale
         if not 0 <= value <= most:
-            why = f"a deck has amounts from 0 to {most}; 0 is taken"
+            why = f"a deck has amounts from 0 to {money_text(most, self.scale)}; 0 is taken"
             self._lose(LossKind.COST, task, field, amount, why)
             return 0
         units = math.ceil(value)
         if units != value:
-            self._lose(LossKind.FRACTION, task, field, amount, f"rounded up to {units}")
+            rounded = money_text(units, self.scale)
+            self._lose(LossKind.FRACTION, task, field, amount, f"rounded up to {rounded}")
         return units
 
     def set_cost(self, node: Node, calendar: Calendar, rounding: Rounding) -> None:
