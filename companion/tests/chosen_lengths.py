@@ -8,7 +8,16 @@ from dataclasses import replace
 from datetime import timedelta
 from decimal import Decimal
 
-from cpm import Dates, dates_of, own_bounds, plain_links
+from cpm import (
+    Dates,
+    PlainLink,
+    as_late,
+    dates_of,
+    is_as_late,
+    own_bounds,
+    plain_links,
+    push_back,
+)
 from pert_companion.analysis.lengths import LengthChoice
 from pert_companion.analysis.schedule import Schedule
 from pert_companion.analysis.scheduling import rest_schedule
@@ -53,7 +62,7 @@ def check_dates(plan: Plan, schedule: Schedule) -> None:
     The plan has not begun, and has the durations of the schedule.
     """
     chosen = {task.uid: task for task in schedule.tasks}
-    found = dates_of(plan)
+    found = as_late(plan, dates_of(plan))
     for task in plan.tasks():
         assert task.minutes == chosen[task.uid].chosen_minutes
         check_listed(plan, task, found[task.uid])
@@ -104,7 +113,25 @@ def rest_dates(plan: Plan, left: Mapping[str, int]) -> dict[str, tuple[int, int]
             position = finish if link.kind.value[0] == "F" else start
             assert position is not None
             early[link.successor] = max(early[link.successor], position + link.lag)
-    return {uid: (early[uid], early[uid] + left[uid]) for uid in left}
+    late = {uid for uid in left if is_as_late(tasks[uid]) and done[uid][0] is None}
+    found = _moved(early, left, late, [link for link in links if link.predecessor in late])
+    return {uid: (found[uid], found[uid] + left[uid]) for uid in left}
+
+
+def _moved(
+    early: Mapping[str, int], left: Mapping[str, int], late: set[str], links: list[PlainLink]
+) -> dict[str, int]:
+    """Returns the starts in which late tasks wait as long as they delay no other.
+
+    `links` are those from late tasks.
+    """
+    end = max(early[uid] + left[uid] for uid in left)
+    held = {uid: end - left[uid] if uid in late else early[uid] for uid in left}
+    for _ in range(len(held) + 2):
+        for link in links:
+            if link.successor in left:
+                push_back(link, held, left)
+    return {uid: max(early[uid], held[uid]) for uid in left}
 
 
 def _actual(plan: Plan, task: Task) -> tuple[int | None, int | None]:

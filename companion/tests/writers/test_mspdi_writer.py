@@ -223,7 +223,7 @@ def test_tasks_with_progress() -> None:
 
 
 def test_a_shortened_elapsed_task() -> None:
-    """A task by the clock that is shortened counts working time from then on."""
+    """A task of two days by the clock that is a day shorter takes one, by the clock."""
     data = project(TASKS)
     carried = carry(read(data))
     schedule = rest_schedule(state_of(carried))
@@ -234,7 +234,7 @@ def test_a_shortened_elapsed_task() -> None:
     schedule = replace(schedule, tasks=tuple(shorter))
     changed, _ = into_mspdi(data, "plan.xml", schedule, carried.side)
     texts = task_texts(changed, "4")
-    assert (texts["Duration"], texts["DurationFormat"]) == ("PT8H0M0S", "7")
+    assert (texts["Duration"], texts["DurationFormat"]) == ("PT24H0M0S", "8")
 
 
 def test_a_task_that_the_original_lacks() -> None:

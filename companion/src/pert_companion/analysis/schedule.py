@@ -58,6 +58,8 @@ class ScheduledTask:
     """The last day of work by which the task is to end."""
     deadline_slack_minutes: int | None = None
     """Working minutes from its finish to the end of its deadline; negative if it is late."""
+    is_as_late: bool = False
+    """Whether it waits as long as it delays no other task."""
     calendar: str = ""
     """The name of its own calendar, whose days its durations and float are; else empty."""
 

@@ -11,7 +11,7 @@ from datetime import date, datetime
 
 from pert_companion.analysis.actuals import Actuals
 from pert_companion.analysis.lengths import LengthChoice, check_length, chosen_length, next_step
-from pert_companion.analysis.as_late import delays
+from pert_companion.analysis.as_late import delays, is_as_late
 from pert_companion.analysis.latest import broken_lines, contract_end, contract_line
 from pert_companion.analysis.real_dates import (
     RealDates,
@@ -381,6 +381,7 @@ class _Builder:
             resources=tuple(self.resources.get(task.code, [])),
             deadline=task.deadline,
             deadline_slack_minutes=deadline_slack(self.side.calendar, task.deadline, ends),
+            is_as_late=is_as_late(task),
         )
 
 

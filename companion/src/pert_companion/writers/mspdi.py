@@ -30,6 +30,7 @@ _LINK_TYPES = {
     LinkKind.START_FINISH: 2,
     LinkKind.START_START: 3,
 }
+_AS_SOON, _AS_LATE = 0, 1
 _START_NO_EARLIER = 4
 _FINISH_NO_EARLIER = 6
 _TENTHS = 10
@@ -73,7 +74,8 @@ def to_mspdi(
         _add_task(tasks, number, row, money_scale)
         if row.task is not None:
             wait = waits.get(row.task.code, FirstDayWait())
-            _add_constraint(tasks[-1], calendar, origin, wait, schedule.unit_minutes)
+            unit, is_late = schedule.unit_minutes, row.task.is_as_late
+            _add_constraint(tasks[-1], calendar, origin, wait, unit, is_late)
             if row.task.deadline is not None:
                 evening = calendar.evening(row.task.deadline)
                 _add(tasks[-1], "Deadline", moment_text(evening))
@@ -181,17 +183,19 @@ def _add_constraint(
     origin: int,
     wait: FirstDayWait,
     unit_minutes: int,
+    is_as_late: bool,
 ) -> None:
     """Adds the first moment at which a task may start or finish, if it waits for the calendar.
 
-    A file has one constraint a task; if both ends wait, the start is what it says.
+    A file has one constraint a task; if both ends wait, the start is what it says. A task that
+    waits for no day may be one that is to be as late as possible.
     """
     if wait.start > 0:
         kind, moment = _START_NO_EARLIER, calendar.at(origin + wait.start * unit_minutes)
     elif wait.finish > 0:
         kind, moment = _FINISH_NO_EARLIER, calendar.end_at(origin + wait.finish * unit_minutes)
     else:
-        _add(element, "ConstraintType", "0")
+        _add(element, "ConstraintType", str(_AS_LATE if is_as_late else _AS_SOON))
         return
     _add(element, "ConstraintType", str(kind))
     _add(element, "ConstraintDate", moment_text(moment))
