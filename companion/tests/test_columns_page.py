@@ -24,7 +24,7 @@ def rows() -> list[tuple[list[str], list[str]]]:
 
 
 def named(cell: str) -> list[str]:
-    """Returns the fields of a cell: `basestart` .. `basecost` are all from the first to the last."""
+    """Returns the fields of a cell; `basestart` .. `basecost` are all from one to the other."""
     names = re.findall("`([a-z]+)`", cell)
     if ".." not in cell:
         return names

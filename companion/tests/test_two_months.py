@@ -7,21 +7,21 @@ import csv
 import io
 import json
 from collections.abc import Callable, Sequence
-from dataclasses import dataclass, replace
+from dataclasses import dataclass
 from datetime import date, datetime
 from pathlib import Path
 from typing import Any
 
 import pytest
 from gan_files import started_gan
-from lists import US, csv_bytes, rows_of
+from lists import US, rows_of
 from planner_files import gan_bytes, mspdi_bytes, pmxml_bytes, xer_bytes
 from running import run_words
 from test_list_calendars import workbook_bytes
 from two_months import FREE, NOW, START, dated, running, station, walked
 
 from pert_companion.cli import exporting, importing, schedule
-from pert_companion.model.plan import Plan, Task
+from pert_companion.model.plan import Plan
 
 BY = date(2026, 9, 18)
 Capture = pytest.CaptureFixture[bytes]
