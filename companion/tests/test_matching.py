@@ -5,6 +5,7 @@ from collections.abc import Sequence
 from hypothesis import given
 from hypothesis import strategies as st
 
+from pert_companion.model.registers import Rename, Renames
 from pert_companion.model.sidefile import SideTask
 from pert_companion.state.matching import Matching, match_tasks
 
@@ -42,6 +43,15 @@ def test_a_code_does_not_take_a_task_that_an_id_has() -> None:
 def test_a_code_matches_tasks_whose_ids_are_gone() -> None:
     """A file that was saved with other ids is matched by its codes."""
     assert pairs(match_tasks(tasks("1A 2B 3C"), tasks("7C 8A"))) == "3C-7C 1A-8A"
+
+
+def test_a_rename_holds_where_codes_are_the_only_ids() -> None:
+    """A is called B now, and another task has got the code A; an id of a source comes first."""
+    renames = Renames((Rename("A", "B"),))
+    found = match_tasks(tasks("AA"), tasks("AA BB"), renames)
+    assert pairs(found) == "AA-BB"
+    assert [each.code for each in found.new] == ["A"]
+    assert pairs(match_tasks(tasks("1A"), tasks("1A 2B"), renames)) == "1A-1A"
 
 
 @st.composite

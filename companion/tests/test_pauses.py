@@ -83,6 +83,18 @@ def test_the_least_length_in_one_piece_is_found() -> None:
     )
 
 
+def test_a_task_that_just_fits_does_not_pause() -> None:
+    """In 21 days the railing begins on day 1, lasts 13 and may end on day 14, as the steel does."""
+    house = decking("1", "14", "9", "20")
+    links = [("RAIL.S", "PREP"), ("RAIL", "RAIL.S"), ("RAIL.F", "RAIL"), ("RAIL.F", "STEEL")]
+    afters = [AfterCard(*link) for link in (*links, ("SERVE", "RAIL.S"))]
+    railing = (card("RAIL.S", 0), card("RAIL", 13), card("RAIL.F", 0))
+    deck = replace(house, tasks=house.tasks + railing, afters=(*house.afters, *afters))
+    side = replace(SIDE, tasks=(*SIDE.tasks, side_task("RAIL", "RAIL.S", "RAIL.F")))
+    durations = {each.code: each.normal for each in deck.tasks}
+    assert [task.code for task in pausing_tasks(deck, side, durations, 21)] == ["DECK"]
+
+
 def decking(prep: str, steel: str, deck: str, serve: str) -> Deck:
     """Returns the deck with other durations: `5/2@3` can take 2, at 3 a unit."""
     words = {"PREP": prep, "STEEL": steel, "DECK": deck, "SERVE": serve}

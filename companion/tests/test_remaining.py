@@ -86,6 +86,8 @@ def test_what_is_left_by_source_percent_and_list() -> None:
     listed = remaining(plan.deck, side, {"DIG": Said(9, 7), "POUR": Said(0)})
     assert left_of(listed, "DIG") == Left("DIG", State.BEGUN, 9, 7, Basis.LEFT, 100)
     assert left_of(listed, "POUR") == Left("POUR", State.WAITING, 1, 1, Basis.LEFT, 0)
+    fixed = remaining(plan.deck, side, {"DIG": Said(9, 9)})
+    assert left_of(fixed, "DIG") == Left("DIG", State.BEGUN, 9, 9, Basis.LEFT, 100)
 
 
 def test_at_least_a_unit_is_left_and_no_more_than_a_card_may_have() -> None:
