@@ -253,7 +253,7 @@ def test_wrong_words(wing: Path, capsys: Capture, tmp_path: Path) -> None:
     done = run(capsys, "export", lone, "-o", tmp_path / "o.xml", "--into", plan)
     assert done.status == 1 and "without its side file" in done.error
     done = run(capsys, "export", wing, "-o", tmp_path / "o.xml", "--into", wing)
-    assert done.status == 1 and f"{wing}: no plan" in done.error
+    assert done.status == 1 and f"{wing}: a deck already" in done.error
     done = run(capsys, "export", wing, "-o", tmp_path / "o.xer", "--into", plan)
     assert done.status == 2 and "plan.xml writes .xml" in done.error
     assert not any(path.name.startswith("o") for path in tmp_path.iterdir())
