@@ -14,6 +14,7 @@ from pert_companion.cli.common import run_command
 from pert_companion.model.errors import InputError
 from pert_companion.model.losses import MEANINGS, NAMED, Loss, LossKind, accepted_text
 from pert_companion.model.sidefile import from_json, side_path
+from pert_companion.portfolio.job import Job
 from pert_companion.portfolio.row import row_of
 
 Capture = pytest.CaptureFixture[bytes]
@@ -94,7 +95,7 @@ def test_page_portfolio_and_workbook_say_what_was_accepted(
     assert (
         "Not carried over from <bdi>plan.csv</bdi>, as accepted: 1 \u00d7 unread duration" in text
     )
-    assert row_of(PROGRAMS, deck, None, "april.csv").note == SAID
+    assert row_of(PROGRAMS, Job(deck, None, "april.csv")).note == SAID
     words = [str(deck), "-o", str(book)]
     assert run_command(exporting.NAME, exporting.parser(), exporting.run, words) == 0
     sheet = load_workbook(io.BytesIO(book.read_bytes()))["Not carried over"]

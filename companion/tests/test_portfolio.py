@@ -81,7 +81,7 @@ def run(*words: object) -> int:
 
 def test_a_row_has_the_figures_of_the_programs(decks: Path) -> None:
     """The house: forecast and price by hand from `pert curve` of what is left and the summary."""
-    row = row_of(PROGRAMS, decks / "house.csv", None, "house.csv")
+    row = row_of(PROGRAMS, Job(decks / "house.csv", None, "house.csv"))
     plan = opened(decks / "house.csv")
     top = next(iter(PROGRAMS.summary(plan.deck).values()))
     assert (row.code, row.as_of, row.fault) == ("H1", "2024-03-18", "")
@@ -97,7 +97,7 @@ def test_a_row_has_the_figures_of_the_programs(decks: Path) -> None:
 
 def test_the_shed_is_on_time_and_its_next_day_costs_3(decks: Path) -> None:
     """At 9 days the shed costs 45, and a day less costs 3."""
-    row = row_of(PROGRAMS, decks / "shed.csv", None, "shed.csv")
+    row = row_of(PROGRAMS, Job(decks / "shed.csv", None, "shed.csv"))
     assert (row.forecast, row.contract, row.late, row.day_price) == (
         "2024-01-09",
         "2024-01-09",
@@ -108,16 +108,16 @@ def test_the_shed_is_on_time_and_its_next_day_costs_3(decks: Path) -> None:
 
 def test_the_day_that_is_likely_is_that_of_the_simulation(decks: Path) -> None:
     """The house has three estimates; a deck with one for each task says nothing of chances."""
-    row = row_of(PROGRAMS, decks / "house.csv", None, "house.csv")
+    row = row_of(PROGRAMS, Job(decks / "house.csv", None, "house.csv"))
     known = sureness(opened(decks / "house.csv").rest)
     assert known is not None and known.likely_end is not None
     assert row.likely == known.likely_end.isoformat() >= row.forecast
-    assert row_of(PROGRAMS, decks / "roof.csv", None, "roof.csv").likely == ""
+    assert row_of(PROGRAMS, Job(decks / "roof.csv", None, "roof.csv")).likely == ""
 
 
 def test_the_next_milestone_is_named_with_its_day(decks: Path) -> None:
     """A takes three days from Monday, so it is handed over on Wednesday evening."""
-    row = row_of(PROGRAMS, decks / "tasks.csv", None, "tasks.csv")
+    row = row_of(PROGRAMS, Job(decks / "tasks.csv", None, "tasks.csv"))
     assert row.milestone is not None
     assert (row.milestone.name, row.milestone.day) == ("Handed over", "2026-03-04")
 
@@ -127,15 +127,52 @@ def test_what_moved_is_counted_in_working_time(decks: Path) -> None:
     before = decks / "before"
     before.mkdir()
     (before / "roof.csv").write_text(MONDAY_DECK.replace("4,4,4,4,4", "3,3,3,3,3"))
-    row = row_of(PROGRAMS, decks / "roof.csv", before / "roof.csv", "roof.csv")
+    row = row_of(PROGRAMS, Job(decks / "roof.csv", before / "roof.csv", "roof.csv"))
     assert (row.moved, row.previous_as_of) == (row.day_minutes, "2026-03-02")
-    back = row_of(PROGRAMS, before / "roof.csv", decks / "roof.csv", "roof.csv")
+    back = row_of(PROGRAMS, Job(before / "roof.csv", decks / "roof.csv", "roof.csv"))
     assert back.moved == -row.day_minutes
+
+
+def test_a_baseline_is_what_end_and_budget_are_held_to(decks: Path) -> None:
+    """The plan had three days for the building instead of four, and a budget of 120, not of 130."""
+    plan = decks / "plan"
+    plan.mkdir()
+    money = "ACCT,X,1.1,{budget},Work\nEND\n"
+    now = TASKS.format(code="T1").replace("1.1,3,3,3,3,2,0,50", "1.1,3,3,3,3,2,50,0")
+    now = now.replace("1.1,4,4,4,4,3,0,70", "1.1,4,4,4,4,3,70,0")
+    (decks / "tasks.csv").write_text(now.replace("END\n", money.format(budget=120)))
+    first = now.replace("1.1,4,4,4,4,3,70,0", "1.1,3,3,3,3,3,60,0")
+    (plan / "tasks.csv").write_text(first.replace("END\n", money.format(budget=110)))
+    alone = row_of(PROGRAMS, Job(decks / "tasks.csv", None, "tasks.csv"))
+    assert (alone.contract, alone.late, alone.first_budget) == ("2026-03-08", 0, None)
+    job = Job(decks / "tasks.csv", None, "tasks.csv", plan / "tasks.csv")
+    row = row_of(PROGRAMS, job)
+    assert (row.forecast, row.contract) == ("2026-03-08", "2026-03-07")
+    assert (row.contract_name, row.late) == ("planned end", row.day_minutes)
+    assert (row.latest, row.budget, row.overrun, row.first_budget) == (120, 120, 0, 110)
+    words = (decks / "tasks.csv", "--baseline", plan, "--csv", "--no-cache")
+    assert run(*words, "-o", decks / "page.html") == 0
+    assert "10 against the first budget" in (decks / "page.html").read_text()
+    (cells,) = csv.DictReader(io.StringIO((decks / "page.csv").read_text()))
+    assert (cells["contract"], cells["late_days"], cells["first_budget"]) == (
+        *("2026-03-07", "1"),
+        "110",
+    )
+
+
+@pytest.mark.parametrize("option", ["--previous", "--baseline"])
+def test_a_folder_that_there_is_not_is_refused(
+    decks: Path, option: str, capsys: pytest.CaptureFixture[str]
+) -> None:
+    """It is no folder without decks: nothing would have moved, in silence."""
+    words = (decks / "shed.csv", option, decks / "none", "-o", decks / "page.html")
+    assert run(*words) == 2
+    assert f"{option}: there is no folder {decks}/none" in capsys.readouterr().err
 
 
 def test_loads_are_spread_over_calendar_weeks(decks: Path) -> None:
     """Frame is 2 a day for 10 days from Monday 2 March, tiles 10 a day for 4 days after it."""
-    row = row_of(PROGRAMS, decks / "roof.csv", None, "roof.csv")
+    row = row_of(PROGRAMS, Job(decks / "roof.csv", None, "roof.csv"))
     found = [(load.resource, load.week, load.amount) for load in row.loads]
     assert found == [("CREW", "2026-W10", 14), ("CREW", "2026-W11", 46)]
     plan = opened(decks / "roof.csv")
@@ -147,7 +184,7 @@ def test_an_activity_without_length_loads_the_week_it_is_in(decks: Path) -> None
     """The tiles take no time and are on Thursday of the second week."""
     deck = MONDAY_DECK.replace("ACT,B,M,T,1,4,4,4,4,4", "ACT,B,M,T,1,0,0,0,0,0")
     (decks / "roof.csv").write_text(deck)
-    row = row_of(PROGRAMS, decks / "roof.csv", None, "roof.csv")
+    row = row_of(PROGRAMS, Job(decks / "roof.csv", None, "roof.csv"))
     assert [(load.week, load.amount) for load in row.loads] == [
         ("2026-W10", 14),
         ("2026-W11", 46),
@@ -162,8 +199,8 @@ def test_weeks_are_those_of_iso_8601() -> None:
 
 def test_a_deck_with_a_fault_has_it_in_its_row(decks: Path) -> None:
     """A refused deck and a missing one leave the others as they are."""
-    assert "record 1" in row_of(PROGRAMS, decks / "bad.csv", None, "bad.csv").fault
-    missing = row_of(PROGRAMS, decks / "none.csv", None, "none.csv")
+    assert "record 1" in row_of(PROGRAMS, Job(decks / "bad.csv", None, "bad.csv")).fault
+    missing = row_of(PROGRAMS, Job(decks / "none.csv", None, "none.csv"))
     assert missing.fault == "No such file or directory"
 
 
@@ -413,17 +450,18 @@ def test_unchanged_decks_come_from_the_cache(decks: Path) -> None:
 def test_the_cache_goes_by_side_file_previous_deck_and_name(decks: Path) -> None:
     """Whatever a row is made of changes its key."""
     cache = Cache(decks / "kept", PROGRAMS)
-    plain = cache.key(decks / "shed.csv", None, "shed.csv")
-    assert plain == cache.key(decks / "shed.csv", None, "shed.csv")
-    assert plain != cache.key(decks / "shed.csv", decks / "roof.csv", "shed.csv")
-    assert plain != cache.key(decks / "shed.csv", None, "other.csv")
+    job, roof = Job(decks / "shed.csv", None, "shed.csv"), decks / "roof.csv"
+    plain = cache.key(job)
+    assert plain == cache.key(replace(job))
+    others = [replace(job, previous=roof), replace(job, baseline=roof), replace(job, name="other")]
+    assert len({plain, *map(cache.key, others)}) == 4
     (decks / "shed.json").write_text("{}")
-    assert plain != cache.key(decks / "shed.csv", None, "shed.csv")
+    assert plain != cache.key(job)
 
 
 def test_what_is_kept_is_checked(decks: Path) -> None:
     """A row goes through JSON unchanged; anything else is no row."""
-    row = row_of(PROGRAMS, decks / "roof.csv", None, "roof.csv")
+    row = row_of(PROGRAMS, Job(decks / "roof.csv", None, "roof.csv"))
     text = row_text(row)
     assert row_from(text, "roof.csv") == row
     assert row_from(text, "other.csv") is None
@@ -452,6 +490,7 @@ WRONG: dict[str, list[object]] = {
     "day_minutes": [0, -480, 1441],
     "late": [None, 10**19, 1.5, "1"],
     "latest": [1],
+    "first_budget": [1, "1"],
     "missed": [-1, 1],
     "moved": [1],
     "day_price": [-(10**19)],
@@ -467,7 +506,7 @@ WRONG: dict[str, list[object]] = {
 @pytest.mark.parametrize("key", WRONG)
 def test_a_row_with_a_value_that_no_deck_has_is_none(decks: Path, key: str) -> None:
     """Dates that are none, numbers out of range, scales, and halves of what belongs together."""
-    row = row_of(PROGRAMS, decks / "roof.csv", None, "roof.csv")
+    row = row_of(PROGRAMS, Job(decks / "roof.csv", None, "roof.csv"))
     found = json.loads(row_text(row))
     assert row_from(json.dumps(found), "roof.csv") == row
     for value in WRONG[key]:
@@ -703,12 +742,12 @@ def test_a_crash_of_a_worker_is_a_fault_of_its_deck(
 ) -> None:
     """One deck ends its process, another one raises an error: the others have their rows."""
 
-    def row_or_crash(programs: Programs, path: Path, previous: Path | None, name: str) -> Row:
-        if name == "shed.csv":
+    def row_or_crash(programs: Programs, job: Job) -> Row:
+        if job.name == "shed.csv":
             os.kill(os.getpid(), signal.SIGKILL)
-        if name == "roof.csv":
+        if job.name == "roof.csv":
             raise MemoryError("no more")
-        return row_of(programs, path, previous, name)
+        return row_of(programs, job)
 
     monkeypatch.setattr(work, "row_of", row_or_crash)
     names = many(decks)
@@ -729,7 +768,7 @@ def test_a_host_answers_a_row_for_each_line(
     ]
     serve(PROGRAMS, [packed(number, job).encode() for number, job in enumerate(jobs)])
     lines = capsys.readouterr().out.splitlines()
-    rows = [row_of(PROGRAMS, job.path, job.previous, job.name) for job in jobs]
+    rows = [row_of(PROGRAMS, job) for job in jobs]
     assert sorted(lines[1::2]) == [f"{number} {row_text(row)}" for number, row in enumerate(rows)]
     assert lines[0::2] == [""] * len(jobs)
     for text in (b"nonsense", b"[1]", b'{"number": "x", "name": "a", "files": {}}'):

@@ -67,10 +67,11 @@ _pert_companion() {
         esac
         ;;
     pert-portfolio)
-        options='-h --help --version -o --output --overwrite --csv --json --previous --stale --cache --no-cache --hosts --remote --worker --bin'
+        options='-h --help --version -o --output --overwrite --csv --json --previous --baseline --stale --cache --no-cache --hosts --remote --worker --bin'
         case $3 in
         -o | --output) value='file' ;;
         --previous) value='file' ;;
+        --baseline) value='file' ;;
         --cache) value='file' ;;
         --hosts) value='file' ;;
         --bin) value='file' ;;

@@ -6,6 +6,7 @@ complete -c pert-portfolio -l overwrite -d 'replace files of another kind, and f
 complete -c pert-portfolio -l csv -d 'write the rows as CSV too, next to the page'
 complete -c pert-portfolio -l json -d 'print the rows as JSON, with or without a page'
 complete -c pert-portfolio -l previous -r -F -d 'a folder with the decks of the report before, under the same names'
+complete -c pert-portfolio -l baseline -r -F -d 'a folder with the plans that they are held to, under the same names'
 complete -c pert-portfolio -l stale -x -d 'flag figures that are so many days older than the newest (31)'
 complete -c pert-portfolio -l cache -r -F -d 'where rows are kept (the user\'s cache)'
 complete -c pert-portfolio -l no-cache -d 'keep no rows, and use none'

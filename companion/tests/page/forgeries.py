@@ -234,9 +234,17 @@ REFUSED: dict[str, tuple[Forge, str]] = {
 }
 """Forgeries of the data: the verifier shows no figures, and says why."""
 
+
+def other_start(page: str) -> str:
+    """Forges a page of a plan that begins a year earlier, in its deck and in its side data."""
+    changed = deck_text(lambda text: text.replace("2024-03-04", "2023-03-04", 1), True)(page)
+    return side_value("start", "2023-03-04")(changed)
+
+
 CHANGED: dict[str, Forge] = {
     "a currency in the data": side_value("currency", "kEUR"),
     "decimals in the data": side_value("money_scale", 100),
+    "another first day in all data": other_start,
     "a title in the data": deck_text(lambda text: text.replace("House", "Horse"), and_digest=True),
 }
 """Data of another project, which is as consistent: it has another checksum."""

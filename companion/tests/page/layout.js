@@ -62,7 +62,12 @@
     for (const { node, rects, element } of texts) {
         for (let box = element; box !== null && box !== document.documentElement; box = box.parentElement) {
             const style = getComputedStyle(box);
-            if (box.matches(".wide")) break;
+            if (box.matches(".wide")) { // what is beyond its end cannot be scrolled to
+                const { left } = box.getBoundingClientRect();
+                const last = left - box.scrollLeft + box.scrollWidth;
+                if (rects.some((rect) => rect.left < left - box.scrollLeft - ROUNDING || rect.right > last + ROUNDING)) add("cut", node.data);
+                break;
+            }
             const isClipped = style.overflowX === "hidden" || style.overflowX === "clip";
             if (!isClipped || box === document.body) continue;
             const { left, right } = box.getBoundingClientRect();

@@ -27,8 +27,10 @@ MOVES = """
     const text = (selector, root) =>
         (root ?? document).querySelector(selector)?.textContent ?? null;
     for (let length = FROM; length <= TO; length += 1) {
-        slider.value = String(length);
-        slider.dispatchEvent(new Event("input"));
+        if (slider !== null) { // a page of one length has none
+            slider.value = String(length);
+            slider.dispatchEvent(new Event("input"));
+        }
         await new Promise(requestAnimationFrame);
         const rows = {};
         for (const row of document.querySelectorAll("tr.task")) {
@@ -159,3 +161,24 @@ def cost(deck: Deck, card: ActivityCard, duration: int) -> int:
 def deck_of(text: bytes) -> Deck:
     """Returns a deck of its bytes."""
     return parse_deck(text, "deck.csv")
+
+
+REDRAWN = """
+(() => {
+    const written = new DOMParser().parseFromString(HTML, "text/html");
+    const drawn = ["#out-length", "#out-unit", "#out-end", "#out-late", "#out-cost", "#out-more",
+        "#out-next", "#out-total", "#option-chosen > *", "[id^='bridge-'] > *",
+        "tr.task > .start", "tr.task > .finish", "tr.task > .slack", "tr.task > .duration"];
+    const texts = (root) => drawn.flatMap((it) => [...root.querySelectorAll(it)].map(
+        (cell) => `${it} ${cell.parentElement.id}: ${cell.textContent.trim()}`));
+    const critical = (root) => [...root.querySelectorAll("tr.critical")].map(({ id }) => id);
+    const [before, after] = [written, document].map((root) => [...texts(root), critical(root).join(" ")]);
+    return before.flatMap((text, at) => (text === after[at] ? [] : [`${text} / ${after[at]}`]));
+})()
+"""
+
+
+def redrawn(page: Page, path: Path) -> list[str]:
+    """Returns what the script of a page has drawn otherwise than it is in the file."""
+    found: list[str] = page.run(REDRAWN.replace("HTML", json.dumps(path.read_text("utf-8"))))
+    return found

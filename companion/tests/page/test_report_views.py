@@ -21,7 +21,7 @@ from pert_companion.model.clock import Clock
 from pert_companion.model.errors import InputError
 from pert_companion.model.registers import Rename, Renames
 from pert_companion.model.sidefile import SideFile
-from pert_companion.page import changed, charts, chooser, decision, first, money, timeline
+from pert_companion.page import changed, charts, checks, chooser, decision, first, money, timeline
 from pert_companion.page.bridges import account_moves
 from pert_companion.page.doubts import doubts_table
 from pert_companion.page.gathering import Gathered
@@ -67,12 +67,8 @@ def test_amounts_have_their_decimals_and_currency() -> None:
         "1,000 days",
     )
     assert number_text(-1000) == "\u22121,000"
-    assert (signed("5"), signed("\u22125"), signed("0"), signed("0.00")) == (
-        "+5",
-        "\u22125",
-        "0",
-        "0.00",
-    )
+    signs = [signed(text) for text in ("5", "\u22125", "0", "0.00", "0\u00a0EUR", "5\u00a0EUR")]
+    assert signs == ["+5", "\u22125", "0", "0.00", "0\u00a0EUR", "+5\u00a0EUR"]
 
 
 def test_dates_and_titles() -> None:
@@ -86,22 +82,29 @@ def side_of(calendar: Calendar, start: date, minutes: int) -> SideFile:
 
 
 @pytest.mark.parametrize(
-    ("minutes", "calendar", "word"),
+    ("minutes", "lengths", "less"),
     [
-        (480, Calendar(), "working day"),
-        (2400, Calendar(), "week"),
-        (60, Calendar(), "hour"),
-        (30, Calendar(), "unit"),
+        (480, ["1 working day", "30 working days", "1,030 working days"], "One working day less"),
+        (2400, ["5 working days", "150 working days", "5,150 working days"], "5 working days less"),
+        (
+            60,
+            ["0.12 working days", "3.75 working days", "128.75 working days"],
+            "One working day less",
+        ),
     ],
 )
-def test_the_word_for_a_unit(minutes: int, calendar: Calendar, word: str) -> None:
-    assert words_of(side_of(calendar, date(2024, 3, 4), minutes), None).unit == word
+def test_lengths_are_in_days(minutes: int, lengths: list[str], less: str) -> None:
+    """Whatever a unit of the deck is; 0.125 days are 0.12, the even one of the two."""
+    words = words_of(side_of(Calendar(), date(2024, 3, 4), minutes), None)
+    assert [words.length(units) for units in (1, 30, 1030)] == lengths
+    assert words.one_less == less
 
 
-def test_the_word_for_a_unit_of_every_day() -> None:
+def test_days_of_a_deck_in_which_every_day_counts() -> None:
     plan = opened(SHED)
     assert words_of(plan.side, "kr").money(5) == "5\u00a0kr"
-    assert words_of(implied_side_file(plan.deck), None).unit == "day"
+    days = words_of(implied_side_file(plan.deck), None)
+    assert (days.length(2), days.days(-3)) == ("2 days", "\u22123")
 
 
 def dates_by_runs(runs: list[list[int]], first: date, minute: int) -> date:
@@ -206,17 +209,19 @@ def test_the_first_screen_of_the_house(house: Gathered) -> None:
         ("Budget", "13,600 EUR"),
         ("One day less", "100 EUR"),
     ]
-    assert screen.alerts == ()
+    assert checks.checks(house) == checks.Checks((), ())
 
 
 def test_what_is_hard_to_believe_is_an_alert() -> None:
     """As pert-check-status finds it in the month of May; each leads to a section of the page."""
     found = gathered_of(MONTHS / "may.csv", previous=MONTHS / "april.csv")
-    alerts = [(alert.key, text_of(alert.text)) for alert in first.alerts(found)]
+    shown_checks = checks.checks(found)
+    alerts = [(alert.key, text_of(alert.text)) for alert in shown_checks.alerts]
     assert alerts == [
         ("doubts", "To check, amount to go did not fall by what was spent: Windows"),
         ("doubts", "To check, out of sequence: Make the windows"),
     ]
+    assert shown_checks.tables == ()
     assert {key for key, _ in alerts} <= {section.key for section in page_of(found).sections}
     table = doubts_table(found)
     assert table is not None and table.caption == "2 to check"
@@ -235,9 +240,13 @@ def test_the_headline_says_how_sure_it_is(house: Gathered) -> None:
     found = house.sureness
     assert found is not None and house.state.rest.end is not None
     assert sentences(house)[1] == (
-        "By normal durations the end is 11 Apr 2024, with a chance of"
-        f" {percent_text(found.chance_by(house.state.rest.end))}; even chance is"
-        f" {day_text(found.even_end)}, and four in five {day_text(found.likely_end)} (simulated)."
+        f"That day has a chance of {percent_text(found.chance_by(house.state.rest.end))};"
+        f" even chance is {day_text(found.even_end)}, and four in five"
+        f" {day_text(found.likely_end)} (simulated)."
+    )
+    held = sentences(with_contract(house, date(2024, 4, 13)))[1]
+    assert (
+        f", and the contract date one of {percent_text(found.chance_by(date(2024, 4, 13)))}" in held
     )
     assert house.chances[25] == found.chance_by(house.state.rest.end)
 
@@ -474,14 +483,18 @@ def test_what_changed_since_the_report_before(tmp_path: Path) -> None:
         ["All accounts", "+200", "+100", "+200", "+500"],
         ["Now", "", "", "", "14,220"],
     ]
+    assert rows_of(view, "each budget") == [
+        ["Now", "13,800", "+420"],
+        ["Last report", "13,600", "+620"],
+    ]
     assert view.order == changed.ORDER
     assert view.notes == (
         "Since the last report, 1 figure of the time before it changed. The last report is shown"
         " as it was reported.",
     )
     assert sentences(found)[3] == (
-        "Since the report of 11 Mar 2024 the end is 5 working days later, from 7 Apr 2024, most of"
-        " it by Dig, pour, cure (+4), and the estimate is 500 EUR more."
+        "Since the report of 11 Mar 2024 the end is 5 days later, from 7 Apr 2024, the largest move"
+        " by Dig, pour, cure (+4), and the estimate is 500 EUR more."
     )
 
 
@@ -569,7 +582,7 @@ def test_a_report_like_the_last_one_has_no_rows_by_task(tmp_path: Path) -> None:
     found = gathered_of(deck, previous=deck)
     assert found.changes is not None
     view = changed.changes_view(found.changes, DAYS)
-    assert (len(view.tables), view.order) == (3, "")
+    assert (len(view.tables), view.order) == (4, "")
     assert rows_of(view, "by account")[1:-1] == [["All accounts", "0", "0", "0", "0"]]
 
 

@@ -7,6 +7,7 @@ import re
 from collections.abc import Callable, Iterator
 from dataclasses import replace
 from datetime import date, timedelta
+from decimal import Decimal
 from functools import partial
 from pathlib import Path
 
@@ -190,11 +191,38 @@ def test_a_changed_source_is_refused_next_to_the_right_deck(
     deck = (place / "house.csv").read_bytes()
     page = verify({"report.html": report, "house.csv": deck})
     assert page.text("#verdict") == RIGHT
-    assert details(page)["house.csv"] == "the deck that the page was made of"
+    assert details(page)["house.csv"] == "the deck of these figures"
     page = verify({"report.html": report, "other.csv": HOUSE.read_bytes()})
     assert page.text("#verdict") == f"{REFUSAL}the page was made of another deck than other.csv"
     page = verify({"report.html": report, "house.json": b"{}"})
     assert page.text("#verdict").startswith(f"{REFUSAL}the page was made without a side file")
+
+
+def test_figures_of_another_deck_are_refused_next_to_the_right_one(
+    verify: Callable[..., Page], place: Path, report: str
+) -> None:
+    """The source is the right one, while deck, certificate and side data are of another plan."""
+    cheap = (place / "house.csv").read_bytes().replace(b",2400,150,", b",1400,150,")
+    (place / "cheap.csv").write_bytes(cheap.replace(b"1.2.1,2400", b"1.2.1,1400"))
+    write_page(place / "cheap.csv", place / "cheap.html")
+    forged = report
+    for name in ("pert-deck", "pert-side", "pert-certificate"):
+        other = block((place / "cheap.html").read_text("utf-8"), name)
+        forged = forged.replace(f">{block(forged, name)}<", f">{other}<")
+    assert verify({"forged.html": forged}).text("#verdict").startswith("certified ")
+    page = verify({"forged.html": forged, "house.csv": (place / "house.csv").read_bytes()})
+    expected = f"{REFUSAL}the figures of the page are those of another deck than house.csv"
+    assert page.text("#verdict") == expected
+
+
+def test_a_page_of_what_is_left_says_that_its_deck_was_made(
+    verify: Callable[..., Page], place: Path
+) -> None:
+    write_page(HOUSE, place / "rest.html")
+    files = {"rest.html": (place / "rest.html").read_bytes(), "house.csv": HOUSE.read_bytes()}
+    assert details(verify(files))["house.csv"] == (
+        "the page holds it; whether the figures are of what is left of it, pert-report --check says"
+    )
 
 
 def test_one_changed_digit_gets_the_line_and_reason_of_pert_check(
@@ -256,7 +284,8 @@ def test_dates_are_those_of_the_calendar(verify: Callable[..., Page], unit: int)
     calendar = side.calendar
     origin = calendar.position(calendar.morning(side.start))
     for length, ends, *_ in rows(page, "curve"):
-        end = calendar.end_at(origin + int(length.split(" ")[0]) * unit).date()
+        days = Decimal(length.removesuffix(" working days"))
+        end = calendar.end_at(origin + int(days * calendar.day_minutes)).date()
         assert ends == f"{end.day} {end:%b} {end.year}"
 
 
@@ -289,7 +318,7 @@ def test_a_length_that_there_is_not_has_no_figures(
     page = verify({"report.html": report})
     for text in ("26", "36", "", "3e1"):
         page.run(f"number.value = '{text}'; number.dispatchEvent(new Event('input')); undefined")
-        assert list(details(page, "chosen-length").values()) == ["none between 27 and 35 is chosen"]
+        assert list(details(page, "chosen-length").values()) == ["none from 27 to 35 is chosen"]
         assert rows(page, "schedule") == []
 
 

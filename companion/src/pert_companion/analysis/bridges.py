@@ -12,6 +12,7 @@ from typing import TypeVar
 
 from pert_companion.analysis.compare import StateFigures
 from pert_companion.analysis.end_moves import EndMoves, EndState, end_moves
+from pert_companion.analysis.forecast import finished_end, is_done
 from pert_companion.model.cards import ActivityCard, StatusCard, TaskCard
 from pert_companion.model.clock import Clock
 from pert_companion.model.deck import Deck
@@ -45,7 +46,7 @@ class Bridges:
 def bridges(old: StateFigures, new: StateFigures) -> Bridges:
     """Returns the bridges of the end from an older state to a newer one."""
     try:
-        steps = tuple(_end_steps(old.state, new.state))
+        steps = tuple(_end_steps(old, new))
     except CompanionError:
         steps = ()  # a deck between two states may be none that the programs accept
     return Bridges(steps, _moves(old, new))
@@ -58,23 +59,27 @@ def _moves(old: StateFigures, new: StateFigures) -> EndMoves | None:
         return None
 
 
-def _end_steps(old: ProjectState, new: ProjectState) -> Iterator[EndStep]:
+def _end_steps(before: StateFigures, now: StateFigures) -> Iterator[EndStep]:
     """Yields the steps from the older forecast of the end to the newer one."""
+    old, new = before.state, now.state
     matching = match_states(old, new)
     codes = dict(_part_codes(matching))
     known = {**codes, **_other_codes(matching, old.side, new.side)}
-    yield EndStep("forecast of the report before", old.rest.end or date.max)
+    yield EndStep("forecast of the report before", before.end)
     restated = _with_status(old, new, known, old.as_of)
     yield EndStep("restated past", _end_of(old, *restated))
     progressed = _with_status(old, new, known, new.as_of)
     yield EndStep("progress since", _end_of(old, *progressed))
     estimated = _with_durations(progressed[0], new.deck, codes), progressed[1]
     yield EndStep("re-estimates", _end_of(old, *estimated))
-    yield EndStep("scope and links", new.rest.end or date.max)
+    yield EndStep("scope and links", now.end)
 
 
 def _end_of(old: ProjectState, deck: Deck, side: SideFile) -> date:
-    """Returns the last day of the work that is left of a deck that has the older state's links."""
+    """Returns the last day of work of a deck that has the older state's links, done or left."""
+    state = replace(old, deck=deck, side=side, data=b"")
+    if is_done(state):
+        return finished_end(state)
     rest = remaining(deck, side)
     length = old.rest.length_with({left.code: left.normal for left in rest.left})
     return Clock(rest.side).end(length) or date.max

@@ -38,6 +38,8 @@ _QUANTILES = 1 << _BITS
 """Equally likely durations of a task: the means of so many slices of its distribution."""
 _STEPS = 4096
 """Steps in which a distribution is added up."""
+_PLACES = np.linspace(0.0, 1.0, _STEPS + 1)
+_MIDDLES = (np.arange(_QUANTILES) + 0.5) / _QUANTILES
 
 Times = NDArray[np.int64]
 """A time in ticks for each run of a batch."""
@@ -50,7 +52,10 @@ class Simulation:
     lengths: tuple[int, ...]
     """The length of each run in units of the deck, rounded up to whole units, in rising order."""
     criticality: Mapping[str, Fraction]
-    """The share of runs in which a task with work, by the code of its first card, was critical."""
+    """The share of runs in which a task with work, by the code of its first card, was critical.
+
+    It is empty if nobody asked for it.
+    """
     uncertain: int
     """How many tasks have estimates that differ."""
     tasks: int
@@ -67,25 +72,29 @@ class Simulation:
 
 
 def simulate(
-    network: Deck, tasks: Sequence[Sequence[str]], durations: Mapping[str, int] | None = None
+    network: Deck,
+    tasks: Sequence[Sequence[str]],
+    durations: Mapping[str, int] | None = None,
+    counts_critical: bool = True,
 ) -> Simulation | None:
     """Returns what happens in 4,000 runs, or None if no estimates differ: then nothing is known.
 
     `tasks` has the codes of the activities that are one task, which are all early or all late in a
     run; what is in no task, such as a wait, is drawn alone. With `durations`, those of a schedule
     in units, the estimates of a shortened activity shrink in proportion. Two calls for one network
-    draw the same chances, so that their differences are those of the durations.
+    draw the same chances, so that their differences are those of the durations. Without
+    `counts_critical` there is no criticality, and half the work.
     """
     drawn = [_Drawn.of(card, durations) for card in network.activities]
     groups = _groups(network, drawn, tasks)
     uncertain = sum(_is_uncertain(group, drawn) for group in groups)
     if not any(each.is_uncertain for each in drawn):
         return None
-    runner = _Runner(network, drawn, groups)
+    runner = _Runner(network, drawn, groups, counts_critical)
     lengths: list[int] = []
     for ends in islice(runner.batches(), RUNS // _BATCH):
         lengths.extend((-(-ends // _TICKS)).tolist())
-    counts = zip(groups, runner.critical)
+    counts = zip(groups, runner.critical) if counts_critical else ()
     shares = {network.activities[group[0]].code: Fraction(count, RUNS) for group, count in counts}
     return Simulation(tuple(sorted(lengths)), shares, uncertain, len(groups))
 
@@ -147,24 +156,29 @@ class _Drawn:
         return ticks
 
 
-@lru_cache(maxsize=512)
+@lru_cache(maxsize=8192)
 def quantiles(mode: Fraction) -> NDArray[np.float64]:
     """Returns equally likely values of the PERT-beta distribution on 0 to 1 with this mode.
 
     They are its quantiles in the middle of slices of the same chance, in rising order.
     """
-    at = np.linspace(0.0, 1.0, _STEPS + 1)
     rising, falling = 4 * float(mode), 4 * (1 - float(mode))
-    density = at**rising * (1 - at) ** falling
+    density = _PLACES**rising * (1 - _PLACES) ** falling
     sums = np.concatenate(([0.0], np.cumsum((density[1:] + density[:-1]) / 2)))
-    middles = (np.arange(_QUANTILES) + 0.5) / _QUANTILES
-    return np.interp(middles, sums / sums[-1], at)
+    return np.interp(_MIDDLES, sums / sums[-1], _PLACES)
 
 
 class _Runner:
     """Runs a network in batches, and counts how often each task is critical."""
 
-    def __init__(self, network: Deck, drawn: Sequence[_Drawn], groups: Sequence[list[int]]) -> None:
+    def __init__(
+        self,
+        network: Deck,
+        drawn: Sequence[_Drawn],
+        groups: Sequence[list[int]],
+        counts_critical: bool,
+    ) -> None:
+        self.counts_critical = counts_critical
         events = {event.code: place for place, event in enumerate(network.events)}
         self.arcs = [(events[it.begins], events[it.ends]) for it in network.activities]
         self.end = events[network.project.end]
@@ -182,7 +196,8 @@ class _Runner:
         while True:
             durations = self.durations(source)
             early = self.early(durations)
-            self.count(durations, early, self.late(durations, early[self.end]))
+            if self.counts_critical:
+                self.count(durations, early, self.late(durations, early[self.end]))
             yield early[self.end]
 
     def durations(self, source: np.random.PCG64) -> list[Times | np.int64]:

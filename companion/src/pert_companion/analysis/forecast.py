@@ -166,6 +166,22 @@ def _forecast_task(
     )
 
 
+def is_done(state: ProjectState) -> bool:
+    """Says whether all tasks of a project are finished."""
+    if not state.deck.statuses:
+        return False
+    done = {left.code for left in state.remaining.left if left.state is State.FINISHED}
+    return all(done.issuperset(task.parts) for task in state.side.tasks)
+
+
+def current_end(state: ProjectState) -> date | None:
+    """Returns the last day of work: of what is left by normal durations, or of finished work.
+
+    None after the year 9999.
+    """
+    return finished_end(state) if is_done(state) else state.rest.end
+
+
 def finished_end(state: ProjectState) -> date:
     """Returns the last day of work of a finished project, or the day of reports if it has none."""
     days = [card.day for card in state.deck.statuses if card.letter == "F"]

@@ -11,6 +11,7 @@ from datetime import date
 from enum import Enum
 
 from pert_companion.model import deck as decks
+from pert_companion.model.amounts import measure_of
 from pert_companion.model.cards import TermsCard
 from pert_companion.model.deck import Deck
 from pert_companion.programs import results
@@ -56,8 +57,10 @@ class Option:
     against_today: int
     """What it costs in all beyond today's plan; below 0 if it saves."""
     work_against_today: int
+    step: int
+    """The units of the next shortening: a day, or less if no complete day is left."""
     next: int | None
-    """What one unit less costs in all; None at the shortest length."""
+    """What that costs in all; None at the shortest length."""
 
     @property
     def total(self) -> int:
@@ -96,6 +99,8 @@ class Step:
     name: str
     amount: int
     is_sum: bool = False
+    key: str = ""
+    """What depends on the length: `work`, `time` or `whole`."""
 
 
 def time_price(terms: TermsCard, length: int) -> TimePrice:
@@ -184,7 +189,7 @@ def _option(work: Work, length: int, marks: Sequence[Mark]) -> Option:
     """Returns the option of one length."""
     cost, _ = results.cost_at(work.curve, length)
     total, terms = total_cost(work, length), work.deck.terms
-    following = None if length == work.shortest else total_cost(work, length - 1) - total
+    step = min(measure_of(work.side).step, length - work.shortest)
     return Option(
         length=length,
         marks=tuple(marks),
@@ -193,7 +198,8 @@ def _option(work: Work, length: int, marks: Sequence[Mark]) -> Option:
         time=None if terms is None else time_price(terms, length).total,
         against_today=total - total_cost(work, work.longest),
         work_against_today=cost - work.curve[0].cost,
-        next=following,
+        step=step,
+        next=total_cost(work, length - step) - total if step else None,
     )
 
 
@@ -214,9 +220,9 @@ def bridge(state: ProjectState, option: Option) -> tuple[Step, ...]:
         Step("what was spent and re-estimated beyond that", tasks - today),
         Step("packages without tasks", latest - tasks),
         Step("latest estimate", latest, is_sum=True),
-        Step("the shorter work", option.work_against_today),
+        Step("the shorter work", option.work_against_today, key="work"),
     ]
     if option.time is not None:
-        steps.append(Step("the price of time", option.time))
+        steps.append(Step("the price of time", option.time, key="time"))
     whole = latest + option.work_against_today + (option.time or 0)
-    return (*steps, Step("in all", whole, is_sum=True))
+    return (*steps, Step("in all", whole, is_sum=True, key="whole"))

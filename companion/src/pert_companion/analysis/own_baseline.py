@@ -1,8 +1,11 @@
 """The baseline that the source of a plan has saved, for who names no other one."""
 
+from datetime import date
+
 from pert_companion.analysis.scheduling import TaskDates
 from pert_companion.model.calendar import Calendar
 from pert_companion.model.sidefile import SideFile, SideTask
+from pert_companion.state.project import ProjectState
 
 
 def own_baseline(side: SideFile) -> dict[str, TaskDates]:
@@ -13,6 +16,17 @@ def own_baseline(side: SideFile) -> dict[str, TaskDates]:
         if dates is not None:
             found[task.code] = dates
     return found
+
+
+def planned_end(state: ProjectState, baseline: ProjectState | None) -> date | None:
+    """Returns the last day of work of the baseline; None after the year 9999.
+
+    It is the one that is named, else the one that the source has saved, else the plan itself.
+    """
+    own = {} if baseline is not None else own_baseline(state.side)
+    if own:
+        return max(task.last_day for task in own.values())
+    return (baseline or state).plan.end
 
 
 def _dates(task: SideTask, calendar: Calendar) -> TaskDates | None:

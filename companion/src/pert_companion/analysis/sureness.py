@@ -71,13 +71,16 @@ class Sureness:
         )
 
 
-def sureness(work: Work, durations: Mapping[str, int] | None = None) -> Sureness | None:
+def sureness(
+    work: Work, durations: Mapping[str, int] | None = None, has_drivers: bool = True
+) -> Sureness | None:
     """Returns how sure the end of the work is, or None if no estimates of it differ.
 
-    `durations` are those of a schedule by activity; without them nothing is shortened.
+    `durations` are those of a schedule by activity; without them nothing is shortened. Without
+    `has_drivers` there are no drivers, and half the work.
     """
     tasks = work.side.tasks
-    runs = simulate(work.network, [task.parts for task in tasks], durations)
+    runs = simulate(work.network, [task.parts for task in tasks], durations, has_drivers)
     if runs is None:
         return None
     return Sureness(runs, work.clock, {task.code: task.name or task.code for task in tasks})

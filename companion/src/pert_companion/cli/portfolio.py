@@ -5,6 +5,7 @@ import os
 import sys
 import tempfile
 from collections.abc import Sequence
+from itertools import chain
 from pathlib import Path
 
 from pert_companion.cli.choosing import add_bin_option, programs_of
@@ -30,6 +31,7 @@ EXAMPLES = """\
   pert-portfolio wing.csv hull.csv -o page.html         a row for each project
   pert-portfolio now/*.csv --previous before -o page.html
                                                         with what moved since before/wing.csv ..
+  pert-portfolio now/*.csv --baseline plan -o page.html against the ends and budgets of plan/wing.csv ..
   pert-portfolio now/*.csv --csv -o page.html           page.csv too, for a spreadsheet
   pert-portfolio now/*.csv --json                       the rows for other programs
   pert-portfolio now/*.csv --hosts hosts.txt -o page.html
@@ -61,6 +63,12 @@ def parser() -> CommandParser:
         metavar="DIR",
         type=Path,
         help="a folder with the decks of the report before, under the same names",
+    )
+    command.add_argument(
+        "--baseline",
+        metavar="DIR",
+        type=Path,
+        help="a folder with the plans that they are held to, under the same names",
     )
     command.add_argument(
         "--stale",
@@ -123,7 +131,8 @@ def _jobs(options: argparse.Namespace, folder: Path) -> list[Job]:
     jobs = []
     for path in options.deck:
         place = _kept_input(folder) if path == STANDARD_STREAM else path
-        jobs.append(Job(place, _previous(path, options.previous), str(path)))
+        previous, baseline = _like(path, options.previous), _like(path, options.baseline)
+        jobs.append(Job(place, previous, str(path), baseline))
     return jobs
 
 
@@ -167,12 +176,15 @@ def _check_words(options: argparse.Namespace) -> None:
     if not options.deck or (options.output is None and not options.json):
         raise UsageError("name decks and a page: pert-portfolio DECK.. -o PAGE")
     check_json(options, "the page")
+    for option, folder in (("--previous", options.previous), ("--baseline", options.baseline)):
+        if folder is not None and not folder.is_dir():
+            raise UsageError(f"{option}: there is no folder {folder}")
     if options.csv and not is_file(options.output):
         raise UsageError("--csv needs a page with a name, since the table gets the same")
 
 
-def _previous(path: Path, folder: Path | None) -> Path | None:
-    """Returns the deck of the report before, or None if there is none of this name."""
+def _like(path: Path, folder: Path | None) -> Path | None:
+    """Returns the deck of the same name in another folder, or None if there is none."""
     if folder is None or not (folder / path.name).is_file():
         return None
     return folder / path.name
@@ -191,7 +203,7 @@ def _cache_folder(chosen: Path | None) -> Path | None:
 
 def _outputs(options: argparse.Namespace, jobs: Sequence[Job]) -> Outputs:
     """Returns what writes the page, which must be no deck."""
-    decks = [*options.deck, *(job.previous for job in jobs)]
+    decks = [path for _, path in chain.from_iterable(job.decks() for job in jobs)]
     outputs = outputs_of(options, decks, [options.hosts])
     if options.output is not None:
         outputs.check(options.output, PAGE)

@@ -152,6 +152,20 @@ def estimate_table(comparison: Comparison, money: StateMoney) -> Table:
     )
 
 
+def budgets_table(comparison: Comparison, money: StateMoney) -> Table:
+    """Returns by how much the estimate is over each budget: of now, of last time, and the first."""
+    old, new, history = comparison.old, comparison.new, money.history
+    budgets = [("Now", new.budget), ("Last report", old.budget)]
+    if history.baseline is not history.states[0]:
+        budgets.append(("Baseline", history.baseline.budget))
+    rows = []
+    for name, budget in budgets:
+        over = money.change(new.latest - budget)
+        rows.append(Row(plain(name), (money.text(budget), over)))
+    heads = ("Budget of", "Budget", "Estimate over it")
+    return Table("Today’s estimate against each budget", heads, tuple(rows))
+
+
 def _changes(moves: Sequence[AccountMove], money: StateMoney) -> tuple[Line, ...]:
     """Returns the sums of moves by cause, and of all causes."""
     columns = zip(*(move.amounts for move in moves))

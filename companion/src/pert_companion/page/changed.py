@@ -8,6 +8,7 @@ from pert_companion.analysis.compare import Comparison, History, StateFigures, c
 from pert_companion.model.figures import ratio_text, signed_days
 from pert_companion.page.bridges import (
     StateMoney,
+    budgets_table,
     end_table,
     estimate_table,
     task_name,
@@ -68,7 +69,9 @@ def changes_view(changes: Changed, words: Words) -> Changes:
     if moves is not None and (moves.tasks or moves.others):
         tables.append(task_table(moves, comparison))
         order = ORDER
-    tables.append(estimate_table(comparison, money))
+    if comparison.old.state.deck.accounts or comparison.new.state.deck.accounts:
+        tables.append(estimate_table(comparison, money))
+        tables.append(budgets_table(comparison, money))
     notes = []
     if not steps:
         notes.append("The bridge of the end date cannot be made from these two decks.")
@@ -101,7 +104,7 @@ def states_table(history: History, money: StateMoney) -> Table:
         ),
         Row(
             plain("Earliest end"),
-            tuple(plain(day_text(s.earliest_end)) for s in columns),
+            tuple(plain(day_text(min(s.earliest_end, s.end))) for s in columns),
         ),
         Row(plain("Budget"), tuple(money.text(state.budget) for state in columns)),
         Row(plain("Spent"), tuple(money.text(state.actual) for state in columns)),

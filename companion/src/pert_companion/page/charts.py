@@ -4,7 +4,7 @@ A chart is as wide as its place on the page and as high as it says, in pixels. P
 per cent or of pixels, rounded, from exact fractions.
 """
 
-from collections.abc import Sequence
+from collections.abc import Collection, Sequence
 from dataclasses import dataclass
 from datetime import date, timedelta
 from fractions import Fraction
@@ -143,6 +143,49 @@ def _extent(
     before = {"start": Fraction(0), "middle": needed / 2, "end": needed}
     left = share * width - before[_side(number, len(labels))]
     return left, left + needed
+
+
+def in_a_row(
+    labels: Sequence[tuple[Fraction, str]], widths: tuple[int, int, int]
+) -> tuple[Tick, ...]:
+    """Returns ticks whose labels begin at their places, as many labels as have room.
+
+    `widths` are the least pixels of the axis on a telephone, in a window of less than 720 pixels
+    and in wider ones. Labels with a year go before others; a tick without room has no label.
+    """
+    order = sorted(range(len(labels)), key=lambda at: (not labels[at][1][-1:].isdigit(), at))
+    level: dict[int, int] = {}
+    for place, width in enumerate(widths):
+        for number in order:
+            if number not in level and _fits(labels, number, level, width):
+                level[number] = place
+    return tuple(
+        Tick(
+            percent(share, 1),
+            label if at in level else "",
+            "start",
+            level.get(at) == 1,
+            level.get(at) == 2,
+        )
+        for at, (share, label) in enumerate(labels)
+    )
+
+
+def _fits(
+    labels: Sequence[tuple[Fraction, str]], number: int, kept: Collection[int], width: int
+) -> bool:
+    """Says whether a label is inside an axis of so many pixels, and clear of those kept."""
+    left, right = _row_extent(labels, number, width)
+    others = [_row_extent(labels, other, width) for other in kept]
+    is_clear = all(right + GAP <= begin or end + GAP <= left for begin, end in others)
+    return is_clear and (right <= width or not kept)
+
+
+def _row_extent(
+    labels: Sequence[tuple[Fraction, str]], number: int, width: int
+) -> tuple[Fraction, Fraction]:
+    share, label = labels[number]
+    return share * width, share * width + Fraction(LETTER) * len(label)
 
 
 def date_ticks(first: date, days: int) -> list[tuple[int, str, bool]]:

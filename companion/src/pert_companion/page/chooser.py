@@ -7,6 +7,7 @@ from itertools import chain
 
 from pert_companion.analysis.options import chosen_option, time_price, total_cost
 from pert_companion.page import charts
+from pert_companion.page.decision import part_of_day
 from pert_companion.page.gathering import Gathered
 from pert_companion.page.view import Chart, Dot, Line, Row, Series, Table, Tick, plain, signed
 from pert_companion.page.words import Words, day_text
@@ -22,14 +23,17 @@ class Choice:
     """What the page shows of the length that is chosen, at first."""
 
     length: int
+    """In units of the deck, as the slider has it."""
     least: int
     most: int
+    days: str
+    """The length as a number of days."""
     end: str
     late: str
     costs: tuple[tuple[str, str, Line], ...]
     """Key, name and amount: work, overhead, bonus, penalty, total."""
     next: Line
-    """What one unit less costs in all."""
+    """What one day less costs in all."""
     more: Line
     """What it costs in all beyond today's plan."""
 
@@ -83,11 +87,12 @@ def choice(gathered: Gathered, words: Words) -> Choice:
         costs.append(("total", "In all", plain(words.money(option.total))))
     following = "no length is shorter"
     if option.next is not None:
-        following = signed(words.money(option.next))
+        following = f"{signed(words.money(option.next))}{part_of_day(option, words)}"
     return Choice(
         option.length,
         rest.shortest,
         rest.longest,
+        words.days(option.length),
         day_text(option.end),
         late_words(gathered, words),
         tuple(costs),
@@ -104,11 +109,11 @@ def late_words(gathered: Gathered, words: Words) -> str:
     late = gathered.length - gathered.state.rest.clock.units_until(contract.day)
     if late == 0:
         return f"on the {contract.name}"
-    return f"{words.units(abs(late))} {'after' if late > 0 else 'before'} the {contract.name}"
+    return f"{words.length(abs(late))} {'after' if late > 0 else 'before'} the {contract.name}"
 
 
 def breakpoints(gathered: Gathered, words: Words) -> Table:
-    """Returns the breakpoints with dates, costs and the price of the next unit."""
+    """Returns the breakpoints with dates, costs and the price of a day at each."""
     rest = gathered.state.rest
     heads = ["Length", "Ends", "Cost of the work"]
     if rest.deck.terms is not None:
@@ -118,10 +123,15 @@ def breakpoints(gathered: Gathered, words: Words) -> Table:
         cells = [day_text(rest.clock.end(point.length)), words.digits(point.cost)]
         if rest.deck.terms is not None:
             cells.append(words.digits(total_cost(rest, point.length)))
-        cells.append("\u2013" if point.slope is None else words.digits(point.slope))
-        rows.append(Row(plain(words.units(point.length)), tuple(plain(cell) for cell in cells)))
-    heads.append(f"Work of one {words.unit} less")
+        cells.append("\u2013" if point.slope is None else step_price(point.slope, words))
+        rows.append(Row(plain(words.length(point.length)), tuple(plain(cell) for cell in cells)))
+    heads.append(f"Work of {words.one_less[0].lower()}{words.one_less[1:]}")
     return Table("Breakpoints of the curve", tuple(heads), tuple(rows), (1,))
+
+
+def step_price(slope: int, words: Words) -> str:
+    """Returns what a day costs at a price of a unit."""
+    return words.digits(slope * words.measure.step)
 
 
 def stretches(gathered: Gathered, words: Words) -> list[Stretch]:
@@ -137,12 +147,18 @@ def stretches(gathered: Gathered, words: Words) -> list[Stretch]:
         if terms is not None:
             saved = total_cost(gathered.state.rest, upper) - total_cost(gathered.state.rest, lower)
             if saved == 0 and price:
-                text = f"{lower} to {upper} {words.unit}s cost the same in all: take {upper},"
-                found.append(Stretch(lower, upper, f"{text} which shortens less."))
+                text = f"{range_text(lower, upper, words)} cost the same in all: take"
+                text = f"{text} {words.days(upper)}, which shortens less."
+                found.append(Stretch(lower, upper, text))
         if price == 0:
-            text = f"{lower} to {upper} {words.unit}s cost the same work: take {lower}."
-            found.append(Stretch(lower, upper, text))
+            text = f"{range_text(lower, upper, words)} cost the same work: take"
+            found.append(Stretch(lower, upper, f"{text} {words.days(lower)}."))
     return found
+
+
+def range_text(lower: int, upper: int, words: Words) -> str:
+    """Returns a range of lengths: `30 to 32 days`."""
+    return f"{words.days(lower)} to {words.length(upper)}"
 
 
 def curve_lines(gathered: Gathered) -> list[list[tuple[int, int]]]:
@@ -179,13 +195,14 @@ def curve_chart(gathered: Gathered, words: Words) -> Chart:
         "Least cost by length",
         HEIGHT,
         charts.margin_for(texts),
-        length_ticks(gathered, x),
+        length_ticks(gathered, x, words),
         charts.y_axis(HEIGHT, texts),
         tuple(series),
         dots=(chosen_dot(gathered, x, scale),),
         verticals=contract_line(gathered, x),
         prices=tuple(prices(curve, x, scale, words)),
-        x_label=f"Length in {words.unit}s, and the last day of work",
+        x_label=f"Length in {words.day}s, and the last day of work",
+        ring="chosen length",
     )
 
 
@@ -218,7 +235,7 @@ def contract_line(gathered: Gathered, x: charts.Scale) -> tuple[Tick, ...]:
     return (Tick(charts.percent(share, 1), contract.name, charts.anchor(share)),)
 
 
-def length_ticks(gathered: Gathered, x: charts.Scale) -> tuple[Tick, ...]:
+def length_ticks(gathered: Gathered, x: charts.Scale, words: Words) -> tuple[Tick, ...]:
     """Returns ticks of lengths with their dates below, as many as have room."""
     state = gathered.state
     span = state.rest.longest - state.rest.shortest
@@ -227,21 +244,22 @@ def length_ticks(gathered: Gathered, x: charts.Scale) -> tuple[Tick, ...]:
     labels = []
     for number in numbers:
         length = state.rest.shortest + (span * number + count // 2) // count
-        labels.append((x.share(length), f"{length}|{day_text(state.rest.clock.end(length))}"))
+        end = day_text(state.rest.clock.end(length))
+        labels.append((x.share(length), f"{words.days(length)}|{end}"))
     return charts.spread(labels)
 
 
 def prices(
     curve: Sequence[results.Breakpoint], x: charts.Scale, y: charts.Scale, words: Words
 ) -> list[Tick]:
-    """Returns the price of a unit over each stretch that is wide enough for it.
+    """Returns the price of a day over each stretch that is wide enough for it.
 
     A stretch that is too narrow has none, so that no price is beside another stretch.
     """
     found = []
     for upper, lower in zip(curve, curve[1:]):
         width = x.share(upper.length) - x.share(lower.length)
-        text = f"+{words.digits(upper.slope or 0)}"
+        text = f"+{step_price(upper.slope or 0, words)}"
         needed = Fraction(charts.LETTER) * len(text) + 6
         if width * charts.WIDE < needed:
             continue

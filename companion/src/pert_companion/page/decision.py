@@ -40,8 +40,10 @@ def option_for(options: Sequence[Option], reason: Reason) -> Option | None:
 
 def decision_sentence(gathered: Gathered, words: Words) -> Line:
     """Returns in one sentence what there is to decide, and its price in all."""
-    rest, options = gathered.state.rest, gathered.options
-    if rest.longest == rest.shortest:
+    options = gathered.options
+    if gathered.is_done:
+        return plain("There is nothing to decide: all work is finished.")
+    if not gathered.has_choice:
         return plain("There is nothing to decide: no task of what is left can be shortened.")
     cheapest = option_for(options, Reason.CHEAPEST)
     if cheapest is not None and cheapest.against_today < 0:
@@ -51,11 +53,11 @@ def decision_sentence(gathered: Gathered, words: Words) -> Line:
 
 
 def date_sentence(gathered: Gathered, words: Words) -> Line:
-    """Returns what keeping the contract date costs, or what one unit less does if it is kept."""
+    """Returns what keeping the contract date costs, or what one day less does if it is kept."""
     contract, options = gathered.contract, gathered.options
     today, shortest = options[0], options[-1]
     if contract is None or today.end is None or today.end <= contract.day:
-        return first_unit_sentence(today, words)
+        return first_day_sentence(today, words)
     for reason in (Reason.CONTRACT, Reason.PLANNED, Reason.TARGET):
         wanted = option_for(options, reason)
         if wanted is not None:
@@ -91,26 +93,32 @@ def more_text(amount: int, words: Words) -> str:
     return f"{words.money(abs(amount))} {'less' if amount < 0 else 'more'}"
 
 
-def first_unit_sentence(today: Option, words: Words) -> Line:
-    """Returns what the first unit less costs."""
+def first_day_sentence(today: Option, words: Words) -> Line:
+    """Returns what the first day less costs."""
     more = today.next or 0
-    text = f"One {words.unit} less would {'save' if more < 0 else 'cost'} "
+    text = f"{words.one_less} would {'save' if more < 0 else 'cost'} "
     end = " in all." if today.time is not None else " for the work."
-    return (*plain(text), *plain(words.money(abs(more))), *plain(end))
+    part = part_of_day(today, words)
+    return (*plain(text), *plain(f"{words.money(abs(more))}{part}"), *plain(end))
 
 
 def terms_texts(gathered: Gathered, words: Words) -> list[str]:
     """Returns what time costs, with dates; a text without a price of time."""
-    rest, money = gathered.state.rest, words.money
-    terms, unit = rest.deck.terms, words.unit
+    rest, terms = gathered.state.rest, gathered.state.rest.deck.terms
     if terms is None:
         return ["The deck has no price of time (TERMS), so an option costs what its work costs."]
-    texts = [f"Each {unit} costs {money(terms.overhead)} of overhead."]
+
+    def money(price: int) -> str:
+        return words.money(price * words.measure.step)
+
+    texts = [f"Each {words.step} costs {money(terms.overhead)} of overhead."]
     day = day_text(rest.clock.end(terms.target))
     if terms.bonus:
-        texts.append(f"Each {unit} before the target, {day}, earns {money(terms.bonus)}.")
+        texts.append(f"Each {words.step} before the target, {day}, earns {money(terms.bonus)}.")
     if terms.penalty:
-        texts.append(f"Each {unit} after the target, {day}, costs {money(terms.penalty)} more.")
+        texts.append(
+            f"Each {words.step} after the target, {day}, costs {money(terms.penalty)} more."
+        )
     contract = gathered.contract
     if (
         contract is not None
@@ -126,18 +134,18 @@ def options_table(gathered: Gathered, words: Words) -> Table:
     has_time = gathered.state.rest.deck.terms is not None
     heads = ["Option", "Ends", "Cost of the work"]
     heads += ["Price of time", "In all"] if has_time else []
-    heads += ["Against today", f"One {words.unit} less"]
+    heads += ["Against today", words.one_less]
     has_chances = bool(gathered.chances)
     heads += ["Chance"] if has_chances else []
     rows = []
-    for option in (*gathered.options, gathered.chosen):
+    chosen = (gathered.chosen,) if gathered.has_choice else ()
+    for option in (*gathered.options, *chosen):
         cells = [plain(day_text(option.end)), plain(words.digits(option.work))]
         if has_time:
             cells.append(plain(words.digits(option.time or 0)))
             cells.append(plain(words.digits(option.total)))
         cells.append(plain(signed_text(option.against_today, words)))
-        last = "\u2013" if option.next is None else signed_text(option.next, words)
-        cells.append(plain(last))
+        cells.append(plain(next_text(option, words)))
         if has_chances:
             chance = gathered.chances.get(option.length)
             cells.append(plain("\u2013" if chance is None else percent_text(chance)))
@@ -147,7 +155,7 @@ def options_table(gathered: Gathered, words: Words) -> Table:
 
 def option_row(option: Option, cells: list[Line], words: Words) -> Row:
     """Returns the row of an option; the cheapest in all stands out."""
-    name = (*plain(f"{words.units(option.length)}: "), *mark_names(option))
+    name = (*plain(f"{words.length(option.length)}: "), *mark_names(option))
     key = CHOSEN_ROW if option.has(Reason.CHOSEN) else ""
     return Row(name, tuple(cells), is_sum=option.has(Reason.CHEAPEST), key=key)
 
@@ -164,19 +172,35 @@ def mark_names(option: Option) -> Line:
     return line
 
 
+def next_text(option: Option, words: Words) -> str:
+    """Returns what a day less costs: `+120`, or `+30 for 0.25 days` if no complete day is left."""
+    if option.next is None:
+        return "\u2013"
+    return f"{signed_text(option.next, words)}{part_of_day(option, words)}"
+
+
+def part_of_day(option: Option, words: Words) -> str:
+    """Returns what the price of the next shortening is for if no complete day is left."""
+    if option.step == words.measure.step:
+        return ""
+    return f" for {words.length(option.step)}"
+
+
 def signed_text(amount: int, words: Words) -> str:
     """Returns an amount with its sign; 0 has none."""
     return signed(words.digits(amount))
 
 
 def bridge_table(gathered: Gathered, words: Words) -> Table | None:
-    """Returns how the cost of the work becomes that of the option that is best in all."""
-    option = option_for(gathered.options, Reason.CHEAPEST) or gathered.options[0]
-    steps = bridge(gathered.state, option)
+    """Returns how the cost of the work becomes the latest estimate, and that of the chosen length.
+
+    The script draws the rows that have a key again when another length is chosen.
+    """
+    steps = bridge(gathered.state, gathered.chosen)
     if not steps:
         return None
     rows = tuple(bridge_row(step, words) for step in steps)
-    caption = f"From the cost of the work to all that ending on {day_text(option.end)} costs"
+    caption = "From the cost of the work to all that the project costs at the chosen length"
     return Table(caption, ("", "Amount"), rows)
 
 
@@ -184,4 +208,5 @@ def bridge_row(step: Step, words: Words) -> Row:
     """Returns a line of the bridge."""
     text = words.digits(step.amount) if step.is_sum else signed_text(step.amount, words)
     name = step.name[0].upper() + step.name[1:]
-    return Row(plain(name), (plain(text.replace("-", MINUS)),), is_sum=step.is_sum)
+    key = f"bridge-{step.key}" if step.key else ""
+    return Row(plain(name), (plain(text.replace("-", MINUS)),), is_sum=step.is_sum, key=key)

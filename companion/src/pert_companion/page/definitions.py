@@ -1,6 +1,7 @@
 """The terms of the page with their definitions; a name on the page is a link to its own."""
 
 from pert_companion.page.view import Word
+from pert_companion.page.words import Words
 
 MEANINGS = {
     "End": "The last day of work by normal durations: what today's plan says.",
@@ -15,8 +16,8 @@ MEANINGS = {
     " time; of those that cost the same, the shortest.",
     "Cost of the work": "The least cost of all tasks at this length. It is proved by the"
     " certificate.",
-    "Price of time": "Overhead for each unit of time, less the bonus for units before the target,"
-    " plus the penalty for those after it.",
+    "Price of time": "Overhead for each day, less the bonus for days before the target, plus the"
+    " penalty for days after it.",
     "In all": "Cost of the work and price of time together.",
     "Against today": "What an option costs in all, less what today's plan costs in all.",
     "Chance": "The share of simulated runs that end by the day, with the estimates of shortened"
@@ -40,12 +41,14 @@ MEANINGS = {
 SLACK = "Total float: how much later the task can end without the project ending later"
 
 
-def definitions(unit: str) -> dict[str, Word]:
+def definitions(words: Words) -> dict[str, Word]:
     """Returns the terms by the names that the page uses."""
     meanings = dict(MEANINGS)
-    meanings[f"One {unit} less"] = f"What ending one {unit} sooner costs more, in all."
-    meanings[f"Work of one {unit} less"] = f"What the work of ending one {unit} sooner costs more."
-    meanings["Slack"] = f"{SLACK}, in {unit}s."
+    less = words.one_less
+    one = less.removesuffix(" less").lower()
+    meanings[less] = f"What ending {one} sooner costs more, in all."
+    meanings[f"Work of {one} less"] = f"What the work of ending {one} sooner costs more."
+    meanings["Slack"] = f"{SLACK}, in {words.day}s."
     return {name: Word(_key(name), name, meaning) for name, meaning in meanings.items()}
 
 

@@ -3,7 +3,7 @@
 The schedule is that of the work that is left, which is the plan if nothing has begun.
 """
 
-from collections.abc import Callable, Collection, Sequence
+from collections.abc import Callable, Collection, Iterable
 from dataclasses import dataclass, replace
 from datetime import date
 from fractions import Fraction
@@ -16,10 +16,12 @@ from pert_companion.analysis.contract import (
     load_day_minutes,
 )
 from pert_companion.analysis.earned_value import EarnedValue, earned_value
+from pert_companion.analysis.forecast import current_end, is_done
+from pert_companion.analysis.latest import broken_lines
 from pert_companion.analysis.measured import measured_money
 from pert_companion.analysis.money import MoneyOverTime, network_to_go
 from pert_companion.analysis.options import Option, chosen_option, optimal_length, options
-from pert_companion.analysis.own_baseline import own_baseline
+from pert_companion.analysis.own_baseline import own_baseline, planned_end
 from pert_companion.analysis.plausibility import Doubt, doubts
 from pert_companion.analysis.schedule import Schedule
 from pert_companion.analysis.scheduling import TaskDates, in_one_piece, normal_dates, schedule_of
@@ -34,6 +36,7 @@ from pert_companion.programs.certificate import segment_of
 from pert_companion.state.matching import match_states
 from pert_companion.state.project import ProjectState
 from pert_companion.state.remaining import State
+from pert_companion.state.work import Work
 
 MOST_PERIODS = 60
 """Periods of a load chart."""
@@ -63,13 +66,18 @@ class Gathered:
     sureness: Sureness | None
     """How sure today's plan is; None if no estimates differ."""
     chances: dict[int, Fraction]
-    """The chance of each option to end within its length; empty if nothing is known."""
+    """The chance of each option, and of the length that is shown first, to end by its last day.
+
+    It is empty if nothing is known.
+    """
     load: results.Load | None
     period: int
     earned: EarnedValue | None
     changes: Changed | None
     """What changed since the report before, if one is given."""
     money: MoneyOverTime | None
+    broken: tuple[str, ...]
+    """A line for each latest date of a task that today's plan breaks."""
 
     @property
     def wishes(self) -> Wishes:
@@ -95,6 +103,21 @@ class Gathered:
     def previous(self) -> ProjectState | None:
         """Returns the state of the report before this one, if one is given."""
         return self.source.previous
+
+    @cached_property
+    def is_done(self) -> bool:
+        """Says whether all work is finished."""
+        return is_done(self.state)
+
+    @property
+    def end(self) -> date | None:
+        """Returns the last day of work, with nothing shortened or as it was finished."""
+        return current_end(self.state)
+
+    @property
+    def has_choice(self) -> bool:
+        """Says whether there is more than one length of what is left."""
+        return self.state.rest.shortest < self.state.rest.longest
 
     @cached_property
     def chosen(self) -> Option:
@@ -126,14 +149,24 @@ def project_amounts(state: ProjectState) -> results.SummaryRow | None:
     return None if found is None else found[state.plan.top]
 
 
+def original_budget(state: ProjectState, baseline: ProjectState | None) -> int | None:
+    """Returns the budget of the baseline in money of the state.
+
+    None if no baseline is given, or if it has no accounts.
+    """
+    amounts = None if baseline is None else project_amounts(baseline)
+    if amounts is None or baseline is None:
+        return None
+    return amounts.budget * state.side.money_scale // baseline.side.money_scale
+
+
 def gather(source: Source, progress: Progress) -> Gathered:
     """Returns everything for the page of a source; `progress` gets a text now and then."""
     state, baseline, previous = source.state, source.baseline, source.previous
     rest = state.rest
     length = _first_length(state, source.wishes)
     plan = baseline or state
-    planned, planned_end = planned_tasks(state, baseline)
-    contract = contract_of(state, planned_end)
+    contract = contract_of(state, planned_end(state, baseline))
     listed = options(state, held_dates(contract))
     lengths = {length, rest.longest, *(option.length for option in listed)}
     answer, certificate = _certified(state, lengths, progress)
@@ -146,17 +179,26 @@ def gather(source: Source, progress: Progress) -> Gathered:
         length=length,
         schedule=schedule_of(rest, rest.point(length)),
         today=normal_dates(rest),
-        planned=planned,
+        planned=planned_tasks(state, baseline),
         contract=contract,
         options=listed,
         sureness=sureness(rest),
-        chances=_chances(state, listed),
+        chances=_chances(state, [length, *(option.length for option in listed)]),
         load=_load(state, period),
         period=period,
         earned=earned_value(state, plan) if state.has_begun else None,
         changes=None if previous is None else changed(state, previous, baseline),
         money=_money(source),
+        broken=_broken_dates(rest),
     )
+
+
+def _broken_dates(rest: Work) -> tuple[str, ...]:
+    """Returns a line for each latest date of a task that the work breaks with nothing shortened."""
+    if not any(task.constraint for task in rest.side.tasks):
+        return ()
+    today = schedule_of(rest, rest.point(rest.longest))
+    return tuple(broken_lines(rest.side, today.tasks))
 
 
 def _certified(
@@ -175,13 +217,14 @@ def _certified(
     return answer, compactor.text()
 
 
-def _chances(state: ProjectState, listed: Sequence[Option]) -> dict[int, Fraction]:
-    """Returns the chance of each option to end within its length."""
+def _chances(state: ProjectState, lengths: Iterable[int]) -> dict[int, Fraction]:
+    """Returns the chances of schedules of these lengths to end by their last days."""
     found = {}
-    for option in listed:
-        sure = sureness(state.rest, state.rest.point(option.length).durations)
+    for length in dict.fromkeys(lengths):
+        sure = sureness(state.rest, state.rest.point(length).durations, has_drivers=False)
         if sure is not None:
-            found[option.length] = sure.runs.chance_of(option.length)
+            end = state.rest.clock.end(length)
+            found[length] = sure.runs.chance_of(length) if end is None else sure.chance_by(end)
     return found
 
 
@@ -221,20 +264,18 @@ def _first_length(state: ProjectState, wishes: Wishes) -> int:
     return cheapest
 
 
-def planned_tasks(
-    state: ProjectState, baseline: ProjectState | None
-) -> tuple[dict[str, TaskDates], date | None]:
-    """Returns the tasks of the baseline by the codes of the state, and its last day of work.
+def planned_tasks(state: ProjectState, baseline: ProjectState | None) -> dict[str, TaskDates]:
+    """Returns the tasks of the baseline by the codes of the state.
 
     It is the one that is named, else the one that the source has saved, else the plan itself.
     """
     own = {} if baseline is not None else own_baseline(state.side)
     if own:
-        return own, max(task.last_day for task in own.values())
+        return own
     plan = baseline or state
     by_code = {task.code: task for task in normal_dates(plan.plan)}
     matching = match_states(plan, state)
-    return {new.code: by_code[old.code] for old, new in matching.pairs}, plan.plan.end
+    return {new.code: by_code[old.code] for old, new in matching.pairs}
 
 
 class _Watch:

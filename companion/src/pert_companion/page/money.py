@@ -11,6 +11,7 @@ from pert_companion.analysis.earned_value import EarnedValue, Figures, Scope
 from pert_companion.analysis.measured import packages_apart
 from pert_companion.analysis.money import ONE_DAY, MoneyPoint
 from pert_companion.model import figures
+from pert_companion.model.amounts import Measure
 from pert_companion.model.clock import Clock
 from pert_companion.page import charts
 from pert_companion.page.chooser import box_points
@@ -149,11 +150,10 @@ def earned_forecasts(earned: EarnedValue, words: Words) -> tuple[tuple[str, str]
     ):
         found.append((name, "\u2013" if amount is None else money(round(amount))))
     found.append(("TCPI, the CPI that the rest needs", ratio_text(total.tcpi)))
-    units = words.unit
-    variance = earned.schedule_variance
-    tenths = round(variance * 10)
+    measure = words.measure
+    tenths = round(earned.schedule_variance * 10 * measure.unit_minutes / measure.day_minutes)
     sign = "\u2212" if tenths < 0 else ""
-    text = f"{sign}{abs(tenths) // 10}.{abs(tenths) % 10} {units}s"
+    text = f"{sign}{abs(tenths) // 10}.{abs(tenths) % 10} {words.day}s"
     found.append(("SV(t), earned schedule less time passed", text))
     found.append(("SPI(t)", ratio_text(earned.spi_of_time)))
     return (*found, *budgets_apart(earned, words))
@@ -274,9 +274,16 @@ def load(gathered: Gathered, words: Words) -> Load | None:
     return Load(
         tuple(named),
         len(state.rest.network.resources) - len(shown_resources),
-        f"{gathered.period} days of the deck" if gathered.period > 1 else "one day of the deck",
+        period_text(gathered, words),
         table,
     )
+
+
+def period_text(gathered: Gathered, words: Words) -> str:
+    """Returns how long a period is: `5 working days`."""
+    rest = gathered.state.rest
+    measure = Measure(load_day_minutes(rest.side, rest.deck), rest.side.calendar.day_minutes)
+    return replace(words, measure=measure).length(gathered.period)
 
 
 def period_starts(gathered: Gathered, periods: int) -> list[str]:

@@ -8,6 +8,10 @@
     const form = JSON.parse($("pert-certificate").textContent);
     if (form === null) return; // it is larger than a page can hold
     const view = JSON.parse($("pert-view").textContent);
+    if (!view.has_choice) { // the page has no slider, and shows the only length
+        document.documentElement.classList.add("live");
+        return;
+    }
     const MONTHS = "Jan Feb Mar Apr May Jun Jul Aug Sep Oct Nov Dec".split(" ");
     const DAY = 86400000;
     const [WAITING, BEGUN, FINISHED] = [0, 1, 2];
@@ -38,15 +42,41 @@
     const signed = (amount) => `${amount > 0n ? "+" : ""}${money(amount)}`;
     const signedDigits = (amount) => `${amount > 0n ? "+" : ""}${digits(amount)}`;
 
-    function units(count) {
-        const number = grouped(String(count < 0n ? -count : count));
-        return `${number} ${view.unit}${number === "1" ? "" : "s"}`;
+    // Returns units of the deck as a number of days without separators: `1030`, `82.5`. Halves of hundredths go to the even one, as in Python.
+    function plainDays(units) {
+        if (view.calendar.unit === view.day_minutes) return String(units);
+        const [all, day] = [BigInt(units) * BigInt(view.calendar.unit) * 100n, BigInt(view.day_minutes)];
+        const [size, sign] = all < 0n ? [-all, "-"] : [all, ""];
+        const [whole, twice] = [size / day, (size % day) * 2n];
+        const hundredths = twice > day || (twice === day && whole % 2n === 1n) ? whole + 1n : whole;
+        const part = String(hundredths % 100n).padStart(2, "0").replace(/0+$/, "");
+        return `${hundredths === 0n ? "" : sign}${hundredths / 100n}${part === "" ? "" : `.${part}`}`;
     }
+
+    const days = (units) => plainDays(units).replace("-", "\u2212").replace(/[0-9]+/, grouped);
+
+    // Returns a length without its sign: `30 days`.
+    function lengthText(units) {
+        const number = days(units < 0n ? -units : units);
+        return `${number} ${view.day}${number === "1" ? "" : "s"}`;
+    }
+
+    // By how many units a length is shortened: by a day, or by a unit if units are longer.
+    const step = BigInt(Math.max(1, Math.floor(view.day_minutes / view.calendar.unit)));
 
     function dayText(time) {
         if (time === null) return "\u2013";
         const day = new Date(time);
         return `${day.getUTCDate()} ${MONTHS[day.getUTCMonth()]} ${day.getUTCFullYear()}`;
+    }
+
+    /**
+     * Returns by how many units a length is shortened next: by a day, or by what is left.
+     * @param {bigint} length
+     */
+    function shortening(length) {
+        const left = length - BigInt(curve.shortest);
+        return left < step ? left : step;
     }
 
     // ---- Days, as clock.py has them: places of working minutes in runs of days
@@ -100,9 +130,19 @@
         return found;
     }
 
+    // Late times keep the latest dates of the contract and of tasks, so that a schedule that breaks one has negative slack.
     function timesOf(durations, length) {
         const early = deck.events.map(() => 0);
         const late = deck.events.map(() => length);
+        if (view.latest_end !== null) late[deck.project.end] = Math.min(length, view.latest_end / view.calendar.unit);
+        for (const task of tasks) {
+            const latest = latestStart(task, durations);
+            const event = deck.activities[task.start >= 0 ? task.start : task.parts[0]].from;
+            late[event] = Math.min(late[event], latest);
+            if (task.finish < 0 || task.latestFinish === null) continue;
+            const last = deck.activities[task.finish].from;
+            late[last] = Math.min(late[last], task.latestFinish);
+        }
         for (const place of order) {
             const { from, to } = deck.activities[place];
             early[to] = Math.max(early[to], early[from] + durations[place]);
@@ -174,7 +214,8 @@
 
     // ---- Tasks
     let areGroupsDrawn = false; // since a task became critical, or is no more
-    const tasks = view.tasks.map(([parts, start, finish, state, name], place) => {
+    const unitsOf = (minutes) => (minutes === null ? null : minutes / view.calendar.unit);
+    const tasks = view.tasks.map(([parts, start, finish, state, name, first, last], place) => {
         const row = $(`t${place}`);
         const of = (selector) => row?.querySelector(selector) ?? null;
         return {
@@ -183,6 +224,8 @@
             finish,
             state,
             name,
+            latestStart: unitsOf(first), // in units after the start, or null
+            latestFinish: unitsOf(last),
             row,
             startCell: of(".start"),
             finishCell: of(".finish"),
@@ -196,10 +239,16 @@
 
     const sum = (task, durations) => task.parts.reduce((total, part) => total + Number(durations[part]), 0);
 
+    // Returns the latest start of a task by its own latest dates.
+    function latestStart(task, durations) {
+        const byFinish = task.latestFinish === null ? Infinity : task.latestFinish - sum(task, durations);
+        return Math.min(task.latestStart ?? Infinity, byFinish);
+    }
+
     // Returns the latest start of a task after which it ends in time, and so do its parts.
     function lateStartOf(task, durations, late) {
         const lateEnd = (card) => late[deck.activities[card].to];
-        const found = task.start >= 0 ? [lateEnd(task.start)] : [];
+        const found = [latestStart(task, durations), ...(task.start >= 0 ? [lateEnd(task.start)] : [])];
         let done = 0;
         for (const part of task.parts) {
             done += Number(durations[part]);
@@ -240,7 +289,7 @@
         }
         let slack = lateStartOf(task, durations, late) - start;
         if (task.finish >= 0) slack = Math.min(slack, late[deck.activities[task.finish].to] - finish);
-        return { start, finish, chosen, slack };
+        return { start, finish, chosen, slack: Math.floor(slack), isCritical: slack <= 0 };
     }
 
     function place(days) {
@@ -251,16 +300,25 @@
         if (element !== null && element.textContent !== text) element.textContent = text;
     }
 
-    function drawTask(task, durations, times) {
-        if (task.row === null || task.state === FINISHED) return;
-        const { start, finish, chosen, slack } = spanOf(task, durations, times);
+    // Returns the days of a task, its slack and duration in units, and whether it is critical. `exact` are its dates by its own calendar, if the
+    // page has them.
+    function drawnSpan(task, durations, times, exact) {
+        if (exact !== null) {
+            const [first, last, slack, chosen, isCritical] = exact;
+            return { begins: Date.parse(first), ends: Date.parse(last), slack, chosen, isCritical };
+        }
+        const { start, finish, chosen, slack, isCritical } = spanOf(task, durations, times);
         const begins = chosen > 0 ? beginDay(start) : endDay(start);
-        const ends = chosen > 0 ? endDay(finish) : begins;
+        return { begins, ends: chosen > 0 ? endDay(finish) : begins, slack, chosen, isCritical };
+    }
+
+    function drawTask(task, durations, times, exact) {
+        if (task.row === null || task.state === FINISHED) return;
+        const { begins, ends, chosen, slack, isCritical } = drawnSpan(task, durations, times, exact);
         if (task.state === WAITING) setText(task.startCell, dayText(begins));
         setText(task.finishCell, dayText(ends));
-        setText(task.slackCell, grouped(String(slack)));
-        setText(task.durationCell, grouped(String(chosen)));
-        const isCritical = slack <= 0;
+        setText(task.slackCell, days(slack));
+        setText(task.durationCell, days(chosen));
         if (isCritical !== task.isCritical) {
             task.isCritical = isCritical;
             task.row.classList.toggle("critical", isCritical);
@@ -334,7 +392,7 @@
             row.hidden = !isChanged;
             if (!isChanged) return;
             const extra = task.parts.reduce((total, part) => total + extraOf(part, here.durations[part]), 0n);
-            const texts = [normal, before, now].map((count) => grouped(String(count)));
+            const texts = [normal, before, now].map(days);
             [...texts, money(extra)].forEach((text, at) => setText(cells[at], text));
             row.classList.toggle("longer", now > before);
             rows.push({ normal, before, now });
@@ -348,14 +406,14 @@
         const count = `${shortened} task${shortened === 1 ? " is" : "s are"} shorter than in today\u2019s plan.`;
         setText($("out-same"), rows.length === 0 ? "Nothing is shortened." : count);
         $("changed").parentElement.hidden = rows.length === 0;
-        setText($("out-stop"), `At ${units(stop.length)}`);
+        setText($("out-stop"), `At ${lengthText(stop.length)}`);
         const longer = rows.filter((row) => row.now > row.before).length;
         const other = rows.filter((row) => row.now !== row.before).length;
         const isMuch = longer > 0 || other > Math.max(3, tasks.length / 5);
         $("out-warning").hidden = !isMuch;
         if (isMuch) {
             const again = longer > 0 ? `, and ${longer} of them ${longer === 1 ? "is" : "are"} longer again` : "";
-            const text = `Against ${units(stop.length)} this schedule changes ${other} task${other === 1 ? "" : "s"}${again}: it rearranges the work.`;
+            const text = `Against ${lengthText(stop.length)} this schedule changes ${other} task${other === 1 ? "" : "s"}${again}: it rearranges the work.`;
             setText($("out-warning"), text);
         }
     }
@@ -387,7 +445,9 @@
         const times = timesOf(durations, Number(chosen));
         holdTogether(durations, times);
         drawCosts(here);
-        for (const task of tasks) drawTask(task, durations, times);
+        const exact = view.exact?.find(([length]) => BigInt(length) === chosen)?.[1] ?? null;
+        tasks.forEach((task, place) => drawTask(task, durations, times, exact === null ? null : exact[place]));
+        $("out-counted").hidden = view.exact === null || exact !== null;
         drawGroups();
         drawChanges(drawChangedRows(here, plan, stop), stop);
         drawMark(here);
@@ -399,24 +459,28 @@
         const end = dayText(endDay(here.length));
         let lateText = "";
         if (late !== null && late === 0n) lateText = `on the ${view.contract.name}`;
-        else if (late !== null) lateText = `${units(late)} ${late > 0n ? "after" : "before"} the ${view.contract.name}`;
-        setText($("out-length"), grouped(String(here.length)));
-        setText($("out-unit"), here.length === 1n ? view.unit : `${view.unit}s`);
+        else if (late !== null) lateText = `${lengthText(late)} ${late > 0n ? "after" : "before"} the ${view.contract.name}`;
+        const [number, ...word] = lengthText(here.length).split(" ");
+        setText($("out-length"), number);
+        setText($("out-unit"), word.join(" "));
         setText($("out-end"), end);
         setText($("out-late"), lateText);
         setText($("out-cost"), money(here.cost));
         const [total, against] = [totalCost(here.length), totalCost(here.length) - totalCost(curve.longest)];
-        const next = here.length === curve.shortest ? null : totalCost(here.length - 1n) - total;
+        const less = shortening(here.length);
+        const next = less === 0n ? null : totalCost(here.length - less) - total;
+        const rest = less === step ? "" : ` for ${lengthText(less)}`; // no complete day is left
         setText($("out-more"), signed(against));
-        setText($("out-next"), next === null ? "no length is shorter" : signed(next));
+        setText($("out-next"), next === null ? "no length is shorter" : `${signed(next)}${rest}`);
         const costs = timeCosts(here.length);
         if (costs !== null) {
             for (const key of ["overhead", "bonus", "penalty"]) setText($(`out-${key}`), money(costs[key]));
             setText($("out-total"), money(total));
         }
-        setText($("out-line"), `${units(here.length)}, ends on ${end}: ${signed(against)} against today\u2019s plan`);
-        drawOption({ length: here.length, end, work: here.cost, total, against, next });
-        $("slider").setAttribute("aria-valuetext", `${units(here.length)}, ends on ${end}, costs ${money(total)}`);
+        setText($("out-line"), `${lengthText(here.length)}, ends on ${end}: ${signed(against)} against today\u2019s plan`);
+        drawOption({ length: here.length, end, work: here.cost, total, against, next: next === null ? "\u2013" : `${signedDigits(next)}${rest}` });
+        drawBridge(here.cost, total);
+        $("slider").setAttribute("aria-valuetext", `${lengthText(here.length)}, ends on ${end}, costs ${money(total)}`);
     }
 
     // Draws the row of the chosen length among the options, in the order of the heads that python wrote.
@@ -425,9 +489,17 @@
         const time = deck.terms === null ? [] : [digits(total - work), digits(total)];
         const same = view.chances.find(([each]) => BigInt(each) === length);
         const chance = view.chances.length === 0 ? [] : [same === undefined ? "\u2013" : same[1]];
-        const texts = [end, digits(work), ...time, signedDigits(against), next === null ? "\u2013" : signedDigits(next), ...chance];
-        setText(row.cells[0], `${units(length)}: chosen`);
+        const texts = [end, digits(work), ...time, signedDigits(against), next, ...chance];
+        setText(row.cells[0], `${lengthText(length)}: chosen`);
         texts.forEach((text, at) => setText(row.cells[at + 1], text));
+    }
+
+    // Draws the steps from the latest estimate to what the chosen length costs in all.
+    function drawBridge(work, total) {
+        if (view.latest === null) return;
+        const more = work - workCost(curve.longest);
+        const steps = { work: signedDigits(more), time: signedDigits(total - work), whole: digits(BigInt(view.latest) + more + total - work) };
+        for (const [key, text] of Object.entries(steps)) setText($(`bridge-${key}`)?.cells[1] ?? null, text);
     }
 
     function drawMark(here) {
@@ -448,29 +520,34 @@
     function choose(length, from) {
         chosen = length < curve.shortest ? curve.shortest : length > curve.longest ? curve.longest : length;
         if (from !== $("slider")) $("slider").value = String(chosen);
-        if (from !== $("number")) $("number").value = String(chosen);
+        if (from !== $("number")) $("number").value = plainDays(chosen);
         if (!isAsked) requestAnimationFrame(draw);
         isAsked = true;
     }
 
     function settle() {
-        history.replaceState(null, "", `#length=${chosen}`);
-        $("number").value = String(chosen);
+        history.replaceState(null, "", `#length=${plainDays(chosen)}`);
+        $("number").value = plainDays(chosen);
         setText($("said"), $("slider").getAttribute("aria-valuetext"));
     }
 
+    // Returns the units of a length in days, as a reader writes it or as the address has it; null for anything else.
     function lengthOf(text) {
-        const found = /^(?:#length=)?([0-9]{1,18})$/.exec(text);
-        return found === null ? null : BigInt(found[1]);
+        const found = /^(?:#length=)?([0-9]{1,12})(?:\.([0-9]{1,6}))?$/.exec(text);
+        if (found === null) return null;
+        const millionths = BigInt(found[1] + (found[2] ?? "").padEnd(6, "0"));
+        const [minutes, unit] = [millionths * BigInt(view.day_minutes), BigInt(view.calendar.unit) * 1000000n];
+        return (2n * minutes + unit) / (2n * unit);
     }
 
-    for (const input of [$("slider"), $("number")]) {
+    const inputs = new Map([[$("slider"), (text) => BigInt(text)], [$("number"), lengthOf]]);
+    for (const [input, read] of inputs) {
         input.addEventListener("input", () => {
-            const length = lengthOf(input.value);
+            const length = read(input.value);
             if (length !== null && length >= curve.shortest && length <= curve.longest) choose(length, input);
         });
         input.addEventListener("change", () => {
-            choose(lengthOf(input.value) ?? chosen, null);
+            choose(read(input.value) ?? chosen, null);
             requestAnimationFrame(settle);
         });
     }

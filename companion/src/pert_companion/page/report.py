@@ -5,18 +5,21 @@ from dataclasses import dataclass
 from markupsafe import Markup
 
 from pert_companion.analysis.forecast import WHY_DIFFERENT, end_of_sixths
+from pert_companion.analysis.latest import contract_minutes, latest_of
 from pert_companion.analysis.sureness import percent_text
 from pert_companion.model.deck import Deck, checksum
 from pert_companion.model.fitting import fitted_to
-from pert_companion.model.sidefile import to_json
+from pert_companion.model.sidefile import SideTask, to_json
 from pert_companion.page import data, money
 from pert_companion.page.changed import Changes, changes_view
+from pert_companion.page.checks import Checks, checks
 from pert_companion.page.chooser import HEIGHT, Chooser, chooser
 from pert_companion.page.decision import Decision, decision
 from pert_companion.page.definitions import definitions
 from pert_companion.page.doubts import doubts_table
+from pert_companion.page.exact import exact_dates
 from pert_companion.page.first import FirstScreen, first_screen
-from pert_companion.page.gathering import Gathered, item_amounts
+from pert_companion.page.gathering import Gathered, item_amounts, project_amounts
 from pert_companion.page.sure import Sure, sure
 from pert_companion.page.timeline import Timeline, progress_of, timeline
 from pert_companion.page.view import Section, Table, Word
@@ -29,7 +32,12 @@ class PageView:
     """What the templates show: what was gathered, and what is made of it for the page."""
 
     gathered: Gathered
-    unit: str
+    day: str
+    """What a day of work is called."""
+    is_daily: bool
+    """Whether a unit of the deck is a day."""
+    one_less: str
+    """What the price of a day less is called."""
     title: str
     as_of: str
     deck_name: str
@@ -55,6 +63,7 @@ class PageView:
     steps: tuple[str, ...]
     assumptions: tuple[str, ...]
     left_out: tuple[str, ...]
+    checks: Checks
 
 
 def page_of(gathered: Gathered) -> PageView:
@@ -63,20 +72,23 @@ def page_of(gathered: Gathered) -> PageView:
     words = words_of(state.rest.side, gathered.wishes.currency)
     chosen, drawn = chooser(gathered, words), timeline(gathered, words)
     amounts = money.money(gathered, words)
+    found = checks(gathered)
     texts = data_blocks(gathered)
     view = data.embedded(view_data(gathered, words, chosen, drawn))
     blocks = [*texts.items(), ("pert-view", view)]
     return PageView(
         gathered=gathered,
-        unit=words.unit,
+        day=words.day,
+        is_daily=words.days(1) == "1",
+        one_less=words.one_less,
         title=shown(state.deck.project.title or state.deck.project.code),
         as_of=day_text(state.data_day),
         deck_name=shown(state.name),
         digest=data.checksum_of_blocks(texts),
         blocks=tuple((name, Markup(text)) for name, text in blocks),
-        words=definitions(words.unit),
+        words={} if gathered.wishes.brief else definitions(words),
         first=first_screen(gathered, words),
-        sections=tuple(sections(gathered, amounts.load)),
+        sections=tuple(sections(gathered, amounts.load, found)),
         length_lead=length_lead(gathered),
         most_bytes=f"{data.MOST_BYTES:,}",
         chooser=chosen,
@@ -92,6 +104,7 @@ def page_of(gathered: Gathered) -> PageView:
         steps=tuple(steps(gathered)),
         assumptions=tuple(map(shown, state.remaining.notes)) if state.has_begun else (),
         left_out=tuple(left_out(gathered)),
+        checks=found,
     )
 
 
@@ -107,30 +120,36 @@ def data_blocks(gathered: Gathered) -> dict[str, str]:
     }
 
 
-def sections(gathered: Gathered, load: money.Load | None) -> list[Section]:
+def sections(gathered: Gathered, load: money.Load | None, found: Checks) -> list[Section]:
     """Returns the sections of the page in their order, for its contents."""
-    found = [Section("length", "What to decide"), Section("sure", "How sure")]
-    found.append(Section("schedule", "Schedule"))
+    listed = [Section("length", "What to decide"), Section("sure", "How sure")]
+    listed.append(Section("schedule", "Schedule"))
     if gathered.changes is not None:
-        found.append(Section("changes", "What changed"))
+        listed.append(Section("changes", "What changed"))
+    if found.tables:
+        listed.append(Section("checks", "Missed and left out"))
     if gathered.earned is not None:
-        found.append(Section("value", "Earned value"))
+        listed.append(Section("value", "Earned value"))
     if item_amounts(gathered.state) is not None:
-        found.append(Section("cost", "Cost by item"))
+        listed.append(Section("cost", "Cost by item"))
     if load is not None:
-        found.append(Section("load", "Load by period"))
+        listed.append(Section("load", "Load by period"))
     if gathered.doubts:
-        found.append(Section("doubts", "What to check"))
-    found.append(Section("checked", "What is proved"))
-    return found
+        listed.append(Section("doubts", "What to check"))
+    listed.append(Section("checked", "What is proved"))
+    return listed
 
 
 def length_lead(gathered: Gathered) -> str:
     """Returns the sentence above the choice of a length."""
     state = gathered.state
+    if gathered.is_done:
+        return "All work is finished."
+    if not gathered.has_choice:
+        return "There is only one length, so nothing can be chosen here."
     what = "the plan"
     if state.has_begun:
-        what = f"the work that is left on {day_text(state.data_day)}"
+        what = f"the work that is left after {day_text(state.data_day)}"
     return (
         f"Lengths of {what}, each with its cheapest schedule. Nothing that has begun or is past is"
         " changed. Everything here is computed in this page from the certificate."
@@ -144,7 +163,7 @@ def schedule_lead(gathered: Gathered) -> list[str]:
     """Returns the sentences above the schedule."""
     state = gathered.state
     texts = ["The schedule of the chosen length. A finish is the last day of work."]
-    if not state.has_begun:
+    if not state.has_begun or gathered.is_done:
         return texts
     texts.append(
         f"By what is left of each task, with nothing shortened, the end is"
@@ -219,11 +238,15 @@ def view_data(
     """Returns what the script of the page needs and the certificate does not have."""
     state = gathered.state
     contract = gathered.contract
+    top = project_amounts(state)
     return {
-        "unit": words.unit,
+        "day": words.day,
+        "day_minutes": words.measure.day_minutes,
         "currency": words.currency,
         "decimals": words.decimals,
         "length": gathered.length,
+        "has_choice": gathered.has_choice,
+        "latest": None if top is None else str(top.latest),
         "chances": [[str(it), percent_text(chance)] for it, chance in gathered.chances.items()],
         "calendar": {
             "first": state.rest.clock.first_day.isoformat(),
@@ -237,6 +260,8 @@ def view_data(
             "units": state.rest.clock.units_until(contract.day),
             "name": contract.name,
         },
+        "exact": exact_dates(gathered),
+        "latest_end": contract_minutes(state.rest.side, state.rest.network),
         "stretches": [[s.lower, s.upper, s.text] for s in chosen.stretches],
         "chart": {
             "least": chosen.scale.least,
@@ -247,8 +272,22 @@ def view_data(
     }
 
 
+def latest_minutes(gathered: Gathered, task: SideTask) -> tuple[int | None, int | None]:
+    """Returns the working minutes after the start by which a task has to begin and to end."""
+    side = gathered.state.rest.side
+    first = side.calendar.morning(side.start)
+    latest = latest_of(side, task)
+    moments = (latest.start, latest.finish)
+    start, finish = (None if it is None else side.calendar.between(first, it) for it in moments)
+    return start, finish
+
+
 def tasks_data(gathered: Gathered, network: Deck) -> list[list[object]]:
-    """Returns the real tasks for the script: places of activities, moments, state and name."""
+    """Returns the real tasks for the script.
+
+    Each has the places of its activities, of its moments, its state, its name, and the working
+    minutes after the start by which it has to begin and to end.
+    """
     places = {card.code: place for place, card in enumerate(network.activities)}
     progress = progress_of(gathered)
     rows: list[list[object]] = []
@@ -257,5 +296,6 @@ def tasks_data(gathered: Gathered, network: Deck) -> list[list[object]]:
         start = -1 if task.start_moment is None else places[task.start_moment]
         finish = -1 if task.finish_moment is None else places[task.finish_moment]
         state = list(State).index(progress[task.code].state)
-        rows.append([parts, start, finish, state, shown(task.name or task.code)])
+        name = shown(task.name or task.code)
+        rows.append([parts, start, finish, state, name, *latest_minutes(gathered, task)])
     return rows

@@ -118,7 +118,8 @@ const PertSide = (() => {
         constructor(start, unit, minutesOn, scale, currency, tasks) {
             this.start = start;
             this.days = new Days(start, unit.minutes, minutesOn);
-            this.unit = unit.name;
+            this.minutes = { unit: BigInt(unit.minutes), day: BigInt(unit.day) };
+            this.day = unit.name;
             this.decimals = String(scale).length - 1;
             this.currency = currency;
             this.tasks = tasks; // {name, outline, parts, start, finish}: places of activities, or null
@@ -139,8 +140,41 @@ const PertSide = (() => {
             return `${amount < 0n ? "\u2212" : ""}${whole}${part}${this.currency === "" ? "" : ` ${this.currency}`}`;
         }
 
-        units(count) {
-            return `${grouped(String(count))} ${this.unit}${count === 1n ? "" : "s"}`;
+        // Returns by how many units a length is shortened: by a day, or by a unit if units are longer.
+        get step() {
+            return this.minutes.day < this.minutes.unit ? 1n : this.minutes.day / this.minutes.unit;
+        }
+
+        // Returns units as a number of days without separators: `1030`, `82.5`. Halves of hundredths go to the even one.
+        plainDays(units) {
+            const [all, day] = [units * this.minutes.unit * 100n, this.minutes.day];
+            const [whole, twice] = [all / day, (all % day) * 2n];
+            const hundredths = twice > day || (twice === day && whole % 2n === 1n) ? whole + 1n : whole;
+            const part = String(hundredths % 100n).padStart(2, "0").replace(/0+$/, "");
+            return `${hundredths / 100n}${part === "" ? "" : `.${part}`}`;
+        }
+
+        // Returns the units of a number of days, rounded to the nearest, or null for what is none.
+        unitsOf(text) {
+            const found = /^([0-9]{1,12})(?:\.([0-9]{1,6}))?$/.exec(text);
+            if (found === null) return null;
+            const minutes = BigInt(found[1] + (found[2] ?? "").padEnd(6, "0")) * this.minutes.day;
+            return (2n * minutes + this.minutes.unit * 1000000n) / (this.minutes.unit * 2000000n);
+        }
+
+        numberOfDays(units) {
+            return this.plainDays(units).replace(/[0-9]+/, grouped);
+        }
+
+        lengthText(units) {
+            const number = this.numberOfDays(units);
+            return `${number} ${this.day}${number === "1" ? "" : "s"}`;
+        }
+
+        // Returns what the price of the next shortening is called: `One day less`.
+        get oneLess() {
+            const text = this.lengthText(this.step);
+            return `${text === `1 ${this.day}` ? `One ${this.day}` : text} less`;
         }
     }
 
@@ -171,12 +205,9 @@ const PertSide = (() => {
         need(new Set(cards).size === cards.length, "uses a card of the deck more than once");
     }
 
-    // Returns the word for a unit of the deck, as the page has it.
-    function unitName(unit, calendar) {
-        const everyDay = calendar.week.every((shifts) => minutesOf(shifts) > 0);
-        if (unit === calendar.day_minutes) return everyDay ? "day" : "working day";
-        if (unit === calendar.week_minutes || unit === 7 * calendar.day_minutes) return "week";
-        return unit === 60 ? "hour" : "unit";
+    // Returns what a day of work is called, as the page has it.
+    function dayName(calendar) {
+        return calendar.week.every((shifts) => minutesOf(shifts) > 0) ? "day" : "working day";
     }
 
     // Returns the first day of the deck.
@@ -214,7 +245,7 @@ const PertSide = (() => {
         const tasks = data.tasks.map((entry) => taskOf(entry, deck));
         data.tasks.forEach((entry, at) => demandDuration(entry, tasks[at], deck));
         demandOneUse(tasks);
-        const unit = { minutes: data.unit_minutes, name: unitName(data.unit_minutes, data.calendar) };
+        const unit = { minutes: data.unit_minutes, day: dayMinutes, name: dayName(data.calendar) };
         return new Side(data.start, unit, minutesOn, data.money_scale, data.currency, tasks);
     }
 
@@ -225,7 +256,7 @@ const PertSide = (() => {
             .map(({ fields }) => ({ name: fields[12] || fields[1], outline: [], parts: [deck.acts.get(fields[1])], start: null, finish: null }));
         const days = Number(deck.cards[0].fields[5] || "1");
         if (!isWhole(days, 1, 1e6)) throw new Refused("the deck has no unit");
-        return new Side(startOf(deck), { minutes: days, name: days === 1 ? "day" : days === 7 ? "week" : "unit" }, () => 1, 1, "", tasks);
+        return new Side(startOf(deck), { minutes: days, day: 1, name: "day" }, () => 1, 1, "", tasks);
     }
 
     // Returns what of a side file dates and amounts depend on, as a text to compare. The rest is rewritten when a deck is read again.

@@ -2,8 +2,8 @@
 
 from dataclasses import dataclass
 from datetime import date
-from fractions import Fraction
 
+from pert_companion.analysis.chance import EVEN, LIKELY
 from pert_companion.analysis.sureness import NOTHING_KNOWN, Sureness, percent_text
 from pert_companion.page import charts
 from pert_companion.page.chooser import box_points
@@ -48,23 +48,24 @@ def sure(gathered: Gathered) -> Sure:
     """Returns how sure the end of a page's plan is."""
     found = gathered.sureness
     if found is None:
-        return Sure(NOTHING_KNOWN, "", None, None, None)
+        lead = "The work is finished." if gathered.is_done else NOTHING_KNOWN
+        return Sure(lead, "", None, None, None)
     lead = LEAD.format(runs=f"{len(found.runs.lengths):,}")
     chart = chance_chart(gathered, found)
     return Sure(lead, found.scope, facts(gathered, found), chart, drivers(found))
 
 
 def sure_sentence(gathered: Gathered) -> Line:
-    """Returns which date the headline is, and how sure: `even chance 11 December`."""
+    """Returns how sure the date of the headline is: `even chance is 11 December`."""
     found, end = gathered.sureness, gathered.state.rest.end
     if found is None or end is None:
         return plain(NOTHING_KNOWN)
-    text = (
-        f"By normal durations the end is {day_text(end)}, with a chance of"
-        f" {percent_text(found.chance_by(end))}; even chance is {day_text(found.even_end)}, and"
-        f" four in five {day_text(found.likely_end)}"
-    )
-    return plain(f"{text} (simulated).")
+    text = f"That day has a chance of {percent_text(found.chance_by(end))}"
+    name, day = contract_day(gathered)
+    if day is not None and day != end:
+        text = f"{text}, and the {name} one of {percent_text(found.chance_by(day))}"
+    even, likely = day_text(found.even_end), day_text(found.likely_end)
+    return plain(f"{text}; even chance is {even}, and four in five {likely} (simulated).")
 
 
 def facts(gathered: Gathered, found: Sureness) -> Table:
@@ -73,14 +74,10 @@ def facts(gathered: Gathered, found: Sureness) -> Table:
     dates: list[tuple[str, date | None]] = [("By normal durations", gathered.state.rest.end)]
     if contract is not None:
         dates.append((contract.name[0].upper() + contract.name[1:], contract.day))
+    dates += [("Even chance (P50)", found.even_end), ("Four in five (P80)", found.likely_end)]
     rows = []
     for name, day in dates:
         chance = "\u2013" if day is None else percent_text(found.chance_by(day))
-        rows.append((day, Row(plain(name), (plain(day_text(day)), plain(chance)))))
-    for name, day, chance in (
-        ("P50, even chance", found.even_end, "50 %"),
-        ("P80, four in five", found.likely_end, "80 %"),
-    ):
         rows.append((day, Row(plain(name), (plain(day_text(day)), plain(chance)))))
     rows.sort(key=lambda pair: pair[0] or date.max)
     return Table(
@@ -98,20 +95,13 @@ def drivers(found: Sureness) -> Table:
 
 def chance_chart(gathered: Gathered, found: Sureness) -> Chart:
     """Returns the chance of ending within each length."""
-    lengths = found.runs.lengths
-    least, most = min(lengths[0], gathered.state.rest.longest) - 1, lengths[-1]
+    least, most = chart_ends(gathered, found)
     x, y = charts.Scale(least, most), charts.Scale(0, 100)
     points = [(length, round(found.runs.chance_of(length) * 100)) for length in drawn(least, most)]
     marks = []
     for name, day in (("normal durations", gathered.state.rest.end), contract_day(gathered)):
         if day is not None:
             marks.append(mark(found, day, name, x))
-    dots = []
-    for chance in (50, 80):
-        length = found.runs.length_with(Fraction(chance, 100))
-        left = charts.percent(x.share(length), 1)
-        height = charts.pixels(y.share(found.runs.chance_of(length) * 100), HEIGHT)
-        dots.append(Dot("chance", left, height, f"P{chance}"))
     return Chart(
         "Chance of ending by a day",
         HEIGHT,
@@ -119,10 +109,34 @@ def chance_chart(gathered: Gathered, found: Sureness) -> Chart:
         length_ticks(found, x),
         charts.y_axis(HEIGHT, ["0 %", "50 %", "100 %"]),
         (Series("chance", "chance of ending by then", box_points(points, x, y)),),
-        dots=tuple(dots),
+        dots=tuple(rings(found, x, y)),
         verticals=tuple(tick for tick in marks if tick is not None),
-        x_label="P50 and P80 are rings; simulated, not proved",
+        x_label="simulated, not proved",
     )
+
+
+def chart_ends(gathered: Gathered, found: Sureness) -> tuple[int, int]:
+    """Returns the lengths at the ends of the chart, which has the contract date too."""
+    lengths, longest = found.runs.lengths, gathered.state.rest.longest
+    marked = [lengths[0], lengths[-1], longest]
+    _, day = contract_day(gathered)
+    if day is not None:
+        marked.append(max(0, found.clock.units_until(day)))
+    return min(marked) - 1, max(marked)
+
+
+def rings(found: Sureness, x: charts.Scale, y: charts.Scale) -> list[Dot]:
+    """Returns the rings of P50 and P80, or one for both if they are of one length."""
+    even, likely = found.runs.length_with(EVEN), found.runs.length_with(LIKELY)
+    named = [(even, "P50", "end"), (likely, "P80", "start")]
+    if even == likely:
+        named = [(even, "P50 and P80", "start")]
+    dots = []
+    for length, name, side in named:
+        left = charts.percent(x.share(length), 1)
+        height = charts.pixels(y.share(found.runs.chance_of(length) * 100), HEIGHT)
+        dots.append(Dot("chance", left, height, name, side))
+    return dots
 
 
 def drawn(least: int, most: int) -> list[int]:

@@ -3,6 +3,7 @@
 from collections.abc import Iterator
 from dataclasses import dataclass, replace
 from datetime import date, datetime, timedelta
+from fractions import Fraction
 
 from pert_companion.analysis.own_baseline import own_baseline
 from pert_companion.analysis.schedule import ScheduledTask
@@ -16,6 +17,8 @@ from pert_companion.state.remaining import State
 MOST_ROWS = 60
 """Tasks above which those that are not urgent are shown only if all are."""
 SOON_DAYS = 30
+AXIS = (130, 200, 210)
+"""The least pixels of the bars on a telephone, in windows of less than 720 pixels, and in others."""
 
 
 @dataclass(frozen=True)
@@ -119,16 +122,16 @@ class _Builder:
         others: set[str] = set()
         if len(tasks) > MOST_ROWS:
             others = {task.code for task in tasks if not self.is_urgent(task, rows[task.code])}
-        ticks = tuple(
-            Tick(charts.percent(offset, self.days), label, "start", is_minor)
-            for offset, label, is_minor in charts.date_ticks(self.first, self.days)
+        labels = [
+            (Fraction(offset, self.days), label)
+            for offset, label, _ in charts.date_ticks(self.first, self.days)
             if offset < self.days
-        )
+        ]
         contract = self.gathered.contract
         return Timeline(
             tuple(self.with_groups(tasks, rows, others)),
             len(others),
-            ticks,
+            charts.in_a_row(labels, AXIS),
             self.line(self.as_of, self.data_day) if self.has_status else None,
             None if contract is None else self.line(contract.day, day_text(contract.day), 1),
             self.first,
@@ -138,7 +141,9 @@ class _Builder:
 
     def line(self, day: date, label: str, after: int = 0) -> Tick:
         """Returns the place of a line at the morning of a day, or its evening."""
-        return Tick(self.at((day - self.first).days + after), label)
+        days = (day - self.first).days + after
+        side = "start" if days * 4 < self.days else "end" if days * 4 > 3 * self.days else "middle"
+        return Tick(self.at(days), label, side)
 
     def at(self, days: int) -> str:
         """Returns the place of a day in the drawing."""
@@ -200,12 +205,13 @@ class _Builder:
         return code in self.moments if planned is None else planned.is_milestone
 
     def duration(self, task: ScheduledTask, is_finished: bool) -> Line:
-        """Returns what is left to do of a task in this schedule, in units."""
-        return plain("" if is_finished else str(task.chosen_minutes // self.side.unit_minutes))
+        """Returns what is left to do of a task in this schedule, in days."""
+        units = task.chosen_minutes // self.side.unit_minutes
+        return plain("" if is_finished else self.words.days(units))
 
     def slack_text(self, task: ScheduledTask) -> str:
-        """Returns the total float in units."""
-        return str(task.total_float_minutes // self.side.unit_minutes)
+        """Returns the total float in days."""
+        return self.words.days(task.total_float_minutes // self.side.unit_minutes)
 
     def flag(self, task: ScheduledTask, progress: Progress) -> str:
         """Returns what is late about a task that is not finished."""

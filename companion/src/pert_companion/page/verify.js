@@ -185,7 +185,7 @@
         demand(form !== null, "the certificate is larger than a page can hold; use pert-report --check");
         const deck = PertCheck.readDeck(bytes);
         const details = [["SHA-256 of the data", digest]];
-        await compareGiven(details, source);
+        await compareGiven(details, source, bytes);
         const answer = await answerOf(deck, partsOfData(form), isCurrent);
         if (answer === null) return null;
         if (!answer.startsWith("certified")) throw new Refusal(explained(answer));
@@ -193,14 +193,30 @@
         return { answer, details, deck, side: PertSide.read(side.text, deck), plan: PertSchedule.open(form, deck) };
     }
 
-    // Refuses a page that was made of another deck or another side file than those chosen with it.
-    async function compareGiven(details, source) {
+    const areSame = (one, other) => one.length === other.length && one.every((byte, at) => byte === other[at]);
+
+    // Returns what becomes of a deck before its curve is drawn, or null if a certificate is of the deck itself.
+    function stepsOf(bytes) {
+        try {
+            const { cards } = PertCheck.readDeck(bytes);
+            return cards.some(({ fields }) => fields[0] === "STATUS" || fields[0] === "ASOF") ? "what is left of it" : null;
+        } catch {
+            return "its network, or what is left of that";
+        }
+    }
+
+    // Refuses a page that was made of another deck or another side file than those chosen with it. `shown` are the bytes of the deck whose
+    // figures are shown; only pert-report can make those of what is left again.
+    async function compareGiven(details, source, shown) {
         const { deck, side } = source?.state ?? {};
         if (given.deck !== null) {
-            const [mine, other] = [new TextEncoder().encode(deck ?? ""), await bytesOf(given.deck, MOST_PAGE * 2)];
-            const isSame = mine.length === other.length && mine.every((byte, at) => byte === other[at]);
-            demand(isSame, `the page was made of another deck than ${given.deck.name}`);
-            details.push([given.deck.name, "the deck that the page was made of"]);
+            const { name } = given.deck;
+            const other = await bytesOf(given.deck, MOST_PAGE * 2);
+            demand(areSame(new TextEncoder().encode(deck ?? ""), other), `the page was made of another deck than ${name}`);
+            const steps = areSame(shown, other) ? null : stepsOf(other);
+            demand(steps !== null || areSame(shown, other), `the figures of the page are those of another deck than ${name}`);
+            const whole = "the deck of these figures";
+            details.push([name, steps === null ? whole : `the page holds it; whether the figures are of ${steps}, pert-report --check says`]);
         }
         if (given.side !== null) {
             const other = new TextDecoder().decode(await bytesOf(given.side, MOST_PAGE));
@@ -319,9 +335,9 @@
         fill($("facts"), factsOf(deck, side, plan));
         showCurve(side, plan);
         const number = $("number");
-        [number.min, number.max, number.value] = [plan.shortest, plan.longest, plan.longest].map(String);
-        $("number-name").textContent = `Length in ${side.unit}s`;
-        $("range").textContent = `from ${plan.shortest} to ${plan.longest}`;
+        number.value = side.plainDays(plan.longest);
+        $("number-name").textContent = `Length in ${side.day}s`;
+        $("range").textContent = rangeText(side, plan);
         number.oninput = () => showLength(side, plan, number.value);
         showLength(side, plan, number.value);
         $("figures").hidden = false;
@@ -336,42 +352,49 @@
         return facts;
     }
 
+    function rangeText(side, plan) {
+        return `from ${side.numberOfDays(plan.shortest)} to ${side.numberOfDays(plan.longest)}`;
+    }
+
     function endText(side, length) {
-        return `${side.units(length)}, ends on ${dayText(side.endDay(length))}`;
+        return `${side.lengthText(length)}, ends on ${dayText(side.endDay(length))}`;
     }
 
     function showCurve(side, plan) {
         const hasTotal = plan.terms !== null;
-        heads($("curve"), ["Length", "Ends on", "Cost of the work", ...(hasTotal ? ["In all"] : []), `One ${side.unit} less`], [1]);
+        heads($("curve"), ["Length", "Ends on", "Cost of the work", ...(hasTotal ? ["In all"] : []), side.oneLess], [1]);
         const rows = plan.breakpoints.map(({ length, cost, next }) => {
-            const cells = [side.units(length), dayText(side.endDay(length)), side.money(cost)];
+            const cells = [side.lengthText(length), dayText(side.endDay(length)), side.money(cost)];
             if (hasTotal) cells.push(side.money(plan.total(length)));
-            return row([...cells, next === null ? "\u2013" : side.money(next)], [1]);
+            return row([...cells, next === null ? "\u2013" : side.money(next * side.step)], [1]);
         });
         $("curve").tBodies[0].replaceChildren(...rows);
     }
 
     function showLength(side, plan, text) {
-        const isLength = /^[0-9]{1,18}$/.test(text) && BigInt(text) >= plan.shortest && BigInt(text) <= plan.longest;
-        if (!isLength) {
-            fill($("chosen-length"), [["Length", `none between ${plan.shortest} and ${plan.longest} is chosen`]]);
+        const length = side.unitsOf(text);
+        if (length === null || length < plan.shortest || length > plan.longest) {
+            fill($("chosen-length"), [["Length", `none ${rangeText(side, plan)} is chosen`]]);
             $("schedule").tBodies[0].replaceChildren();
             return;
         }
         try {
-            drawLength(side, plan.at(BigInt(text), side.tasks));
+            drawLength(side, plan, plan.at(length, side.tasks));
         } catch (error) {
             refuse(error.message);
         }
     }
 
-    function drawLength(side, { length, cost, next, total, tasks }) {
-        const facts = [["Length", side.units(length)], ["Ends on", dayText(side.endDay(length))], ["Cost of the work", side.money(cost)]];
+    function drawLength(side, plan, { length, cost, total, tasks }) {
+        const facts = [["Length", side.lengthText(length)], ["Ends on", dayText(side.endDay(length))], ["Cost of the work", side.money(cost)]];
         if (total !== null) facts.push(["In all, with the price of time", side.money(total)]);
-        facts.push([`One ${side.unit} less costs`, next === null ? "no length is shorter" : side.money(next)]);
+        const less = length - plan.shortest < side.step ? length - plan.shortest : side.step;
+        const rest = less === side.step ? "" : ` for ${side.lengthText(less)}`;
+        const next = `${side.money(plan.cost(length - less) - cost)}${rest}`;
+        facts.push([`${side.oneLess}, for the work`, less === 0n ? "no length is shorter" : next]);
         fill($("chosen-length"), facts);
-        $("schedule").caption.textContent = `What is left of each task at ${side.units(length)}, with nothing begun later than it has to`;
-        heads($("schedule"), ["Task", "Start", "Finish", `${side.unit[0].toUpperCase()}${side.unit.slice(1)}s`, "Shortened by", "Costs more"], [1, 2]);
+        $("schedule").caption.textContent = `What is left of each task at ${side.lengthText(length)}, with nothing begun later than it has to`;
+        heads($("schedule"), ["Task", "Start", "Finish", `${side.day[0].toUpperCase()}${side.day.slice(1)}s`, "Shortened by", "Costs more"], [1, 2]);
         const rows = tasks.slice(0, MOST_ROWS).map((task, at) => scheduleRow(side, side.tasks[at], task));
         if (tasks.length > MOST_ROWS) rows.push(row([`and ${tasks.length - MOST_ROWS} more tasks`], []));
         $("schedule").tBodies[0].replaceChildren(...rows);
@@ -380,7 +403,7 @@
     function scheduleRow(side, { name, outline }, { start, finish, duration, shortened, extra }) {
         const first = duration > 0n ? side.beginDay(start) : side.endDay(start);
         const last = duration > 0n ? side.endDay(finish) : first;
-        const made = row([name, dayText(first), dayText(last), String(duration), String(shortened), side.money(extra)], [1, 2]);
+        const made = row([name, dayText(first), dayText(last), side.numberOfDays(duration), side.numberOfDays(shortened), side.money(extra)], [1, 2]);
         if (outline.length > 0) made.cells[0].append(element("small", outline.join(" \u203a ")));
         return made;
     }

@@ -65,6 +65,8 @@ class Table:
     rows: tuple[Row, ...]
     texts: tuple[int, ...] = ()
     """Columns that are texts, counted from 0."""
+    has_phrases: bool = False
+    """Whether its texts are phrases, which take several lines."""
 
 
 @dataclass(frozen=True)
@@ -97,6 +99,8 @@ class Dot:
     x: str
     y: str
     label: str = ""
+    side: str = "start"
+    """`start` if its label is at its right, `end` if at its left."""
 
 
 @dataclass(frozen=True)
@@ -128,6 +132,8 @@ class Chart:
     prices: tuple[Tick, ...] = ()
     """Labels of stretches of the curve."""
     x_label: str = ""
+    ring: str = ""
+    """What the ring of the chosen length is called in the legend."""
 
 
 @dataclass(frozen=True)
@@ -170,13 +176,14 @@ class Section:
 
 
 def signed(text: str) -> str:
-    """Returns a text of a number with its sign."""
-    return text if text.startswith(MINUS) or text.strip("0.,") == "" else f"+{text}"
+    """Returns a number, which a currency may follow, with its sign; 0 has none."""
+    number = text.partition("\u00a0")[0]
+    return text if number.startswith(MINUS) or number.strip("0.,") == "" else f"+{text}"
 
 
 @dataclass(frozen=True)
 class Alert:
-    """Something to look at first, and the section that has more of it."""
+    """Something to look at first, and the place on the page that has more of it."""
 
     key: str
     text: Line

@@ -3,6 +3,7 @@
 from dataclasses import dataclass
 from datetime import date
 
+from pert_companion.model.amounts import Measure, measure_of
 from pert_companion.model.calendar import works_daily
 from pert_companion.model.lines import one_line
 from pert_companion.model.sidefile import SideFile
@@ -50,11 +51,13 @@ def plural(count: int, word: str) -> str:
 class Words:
     """The words and scales of one page."""
 
-    unit: str
-    """A unit of the deck: day, working day, week, hour or unit."""
+    day: str
+    """What a planner's day is called: day, or working day."""
     currency: str
     money_scale: int
     """How many units of money of the deck one of the currency is: 1, or a power of ten."""
+    measure: Measure = Measure(1, 1)
+    """How many days a unit of the deck is."""
 
     @property
     def decimals(self) -> int:
@@ -71,9 +74,28 @@ class Words:
         """Returns an amount with its currency."""
         return f"{self.digits(amount)}\u00a0{self.currency}".rstrip()
 
-    def units(self, count: int) -> str:
-        """Returns a length: `30 days`."""
-        return plural(count, self.unit)
+    def days(self, units: int) -> str:
+        """Returns units of the deck as a number of days: `1,030` or `82.5`."""
+        whole, point, part = self.measure.days(abs(units)).partition(".")
+        sign = MINUS if units < 0 and (whole, part) != ("0", "") else ""
+        return f"{sign}{int(whole):,}{point}{part}"
+
+    def length(self, units: int) -> str:
+        """Returns units of the deck as a length: `1 day`, `82.5 days`."""
+        text = self.days(units)
+        return f"{text} {self.day}{'' if text.lstrip(MINUS) == '1' else 's'}"
+
+    @property
+    def step(self) -> str:
+        """Returns by what lengths are shortened: `day`, or `5 days` if units are longer."""
+        text = self.length(self.measure.step)
+        return text.removeprefix("1 ")
+
+    @property
+    def one_less(self) -> str:
+        """Returns the name of the next shortening: `One day less`."""
+        step = self.step
+        return f"One {step} less" if step == self.day else f"{step} less"
 
 
 def words_of(side: SideFile, currency: str | None) -> Words:
@@ -81,13 +103,5 @@ def words_of(side: SideFile, currency: str | None) -> Words:
     scale = side.money_scale
     is_power = str(scale).strip("0") == "1"
     chosen = side.currency if currency is None else currency
-    return Words(_unit_word(side), shown(chosen), scale if is_power else 1)
-
-
-def _unit_word(side: SideFile) -> str:
-    calendar = side.calendar
-    if side.unit_minutes == calendar.day_minutes:
-        return "day" if works_daily(calendar) else "working day"
-    if side.unit_minutes in (calendar.week_minutes, 7 * calendar.day_minutes):
-        return "week"
-    return "hour" if side.unit_minutes == 60 else "unit"
+    day = "day" if works_daily(side.calendar) else "working day"
+    return Words(day, shown(chosen), scale if is_power else 1, measure_of(side))

@@ -23,6 +23,8 @@ from pert_companion.portfolio.stored import row_from
 MOST_BYTES = 1024 * 1024
 TOGETHER = 4
 """The decks that go to a host in one connection."""
+SSH = "ssh -o BatchMode=yes -o ConnectTimeout=20 -o ServerAliveInterval=10 -o ServerAliveCountMax=3"
+"""Ends a connection to a host that is silent, and asks for no password."""
 
 Answers = Iterator[tuple[int, Row]]
 
@@ -109,6 +111,7 @@ class _Round:
 
     def _words(self, folder: Path) -> list[str]:
         words = ["parallel", "--will-cite", "--plain", "--sshloginfile", str(folder / "logins")]
+        words += ["--ssh", os.environ.get("PARALLEL_SSH", SSH)]
         words += ["--joblog", str(folder / "log"), "--tagstring", "{#}"]
         words += ["--pipepart", "--arg-file", str(folder / "decks")]
         words += ["--block", "1", "--recend", r"\n\n", "--line-buffer"]

@@ -2,7 +2,7 @@
 
 import os
 from collections.abc import Sequence
-from dataclasses import dataclass
+from dataclasses import dataclass, replace
 from datetime import date
 from fractions import Fraction
 from itertools import chain
@@ -128,7 +128,7 @@ def line_of(row: Row, output: Path, fresh: Freshness) -> Line:
     money = Words("", shown(row.currency), row.money_scale)
     cells = (
         _late_cell(row),
-        _money_cell(row.overrun, money, Alarm.OVERRUN in found),
+        _overrun_cell(row, money, Alarm.OVERRUN in found),
         _day_cell(row.forecast),
         _day_cell(row.likely),
         _day_cell(row.contract, row.contract_name),
@@ -176,6 +176,15 @@ def _money_cell(amount: int | None, words: Words, is_bad: bool) -> Cell:
         return NO_NUMBER
     key = amount * LEAST_SCALE // words.money_scale
     return Cell(words.money(amount), str(key), "", "bad" if is_bad else "", True)
+
+
+def _overrun_cell(row: Row, money: Words, is_bad: bool) -> Cell:
+    """Returns the overrun, with the one over the first budget if the budget has changed."""
+    cell = _money_cell(row.overrun, money, is_bad)
+    if row.first_budget is None or row.first_budget == row.budget or row.latest is None:
+        return cell
+    more = money.money(row.latest - row.first_budget)
+    return replace(cell, note=f"{more} against the first budget")
 
 
 def _day_cell(day: str, note: str = "", tone: str = "") -> Cell:

@@ -47,7 +47,8 @@ def _days(row: Row) -> Iterable[str]:
 
 
 def _numbers(row: Row) -> Iterable[int]:
-    found = (row.late, row.moved, row.latest, row.budget, row.overrun, row.day_price, row.missed)
+    amounts = (row.latest, row.budget, row.overrun, row.first_budget, row.day_price)
+    found = (row.late, row.moved, row.missed, *amounts)
     return (number for number in found if number is not None)
 
 
@@ -65,6 +66,7 @@ def _is_consistent(row: Row) -> bool:
     return (
         (has_contract or has_none)
         and len(amounts) == 1
+        and (row.first_budget is None or row.budget is not None)
         and row.missed >= 0
         and (row.missed > 0) == bool(row.missed_first)
         and (row.moved is None or bool(row.previous_as_of))

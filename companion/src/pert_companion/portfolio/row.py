@@ -7,6 +7,9 @@ from fractions import Fraction
 from pathlib import Path
 
 from pert_companion.analysis.contract import PLANNED_END, contract_of
+from pert_companion.analysis.deadlines import missed_deadlines
+from pert_companion.analysis.forecast import current_end, is_done
+from pert_companion.analysis.own_baseline import planned_end
 from pert_companion.analysis.scheduling import TaskDates, normal_dates
 from pert_companion.analysis.sureness import sureness
 from pert_companion.model.amounts import measure_of
@@ -14,8 +17,9 @@ from pert_companion.model.clock import Clock
 from pert_companion.model.errors import CompanionError
 from pert_companion.model.losses import accepted_text
 from pert_companion.model.sidefile import side_path
-from pert_companion.page.gathering import project_amounts
+from pert_companion.page.gathering import original_budget, project_amounts
 from pert_companion.page.words import words_of
+from pert_companion.portfolio.job import Job
 from pert_companion.programs.client import Programs
 from pert_companion.programs.results import cost_at
 from pert_companion.state.project import ProjectState, open_state
@@ -72,6 +76,8 @@ class Row:
     latest: int | None = None
     budget: int | None = None
     overrun: int | None = None
+    first_budget: int | None = None
+    """The budget of the baseline; None if no baseline with accounts is given."""
     day_price: int | None = None
     """What one day less than the forecast costs; None if it cannot be shortened by one."""
     milestone: Milestone | None = None
@@ -86,17 +92,14 @@ class Row:
         return self.contract_name not in ("", PLANNED_END)
 
 
-def row_of(programs: Programs, path: Path, previous: Path | None, name: str) -> Row:
-    """Returns the row of a deck; one that cannot be used has its fault instead of figures.
-
-    `previous` is the deck of the report before, or None. `name` is what the page calls the deck.
-    """
+def row_of(programs: Programs, job: Job) -> Row:
+    """Returns the row of a deck; one that cannot be used has its fault instead of figures."""
     try:
-        return _row(programs, path, previous, name)
+        return _row(programs, job)
     except CompanionError as error:
-        return Row(name, fault=_unplaced(str(error), path, name))
+        return Row(job.name, fault=_unplaced(str(error), job.path, job.name))
     except OSError as error:
-        return Row(name, fault=error.strerror or str(error))
+        return Row(job.name, fault=error.strerror or str(error))
 
 
 def _unplaced(text: str, path: Path, name: str) -> str:
@@ -106,21 +109,32 @@ def _unplaced(text: str, path: Path, name: str) -> str:
     return text
 
 
-def _row(programs: Programs, path: Path, previous: Path | None, name: str) -> Row:
-    state = open_state(path, programs)
-    row = _dated(state, name)
+def _row(programs: Programs, job: Job) -> Row:
+    state = open_state(job.path, programs)
+    baseline = None if job.baseline is None else open_state(job.baseline, programs)
+    row = _with_money(_dated(state, baseline, job.name), state, baseline)
+    if job.previous is None:
+        return row
+    return _moved(row, state, open_state(job.previous, programs))
+
+
+def _with_money(row: Row, state: ProjectState, baseline: ProjectState | None) -> Row:
+    """Returns the row with the amounts of the accounts, if the deck has any."""
     top = project_amounts(state)
-    if top is not None:
-        row = replace(row, latest=top.latest, budget=top.budget, overrun=top.overrun)
-    return row if previous is None else _moved(row, state, open_state(previous, programs))
+    if top is None:
+        return row
+    first = original_budget(state, baseline)
+    return replace(
+        row, latest=top.latest, budget=top.budget, overrun=top.overrun, first_budget=first
+    )
 
 
-def _dated(state: ProjectState, name: str) -> Row:
+def _dated(state: ProjectState, baseline: ProjectState | None, name: str) -> Row:
     """Returns the row without amounts of accounts, and without what moved."""
     rest = state.rest
     words = words_of(state.side, None)
     tasks = normal_dates(rest)
-    missed = _missed(state, tasks)
+    missed = missed_deadlines(state, tasks)
     row = Row(
         name,
         code=state.deck.project.code,
@@ -129,19 +143,21 @@ def _dated(state: ProjectState, name: str) -> Row:
         day_minutes=state.side.calendar.day_minutes,
         currency=words.currency,
         money_scale=words.money_scale,
-        forecast=_day(rest.end),
+        forecast=_day(current_end(state)),
         likely=_likely(rest),
         missed=len(missed),
-        missed_first=missed[0] if missed else "",
+        missed_first=missed[0].name if missed else "",
         day_price=_day_price(rest),
         milestone=_next_milestone(state, tasks),
         loads=week_loads(rest),
         note=accepted_note(state),
     )
-    contract = contract_of(state, state.plan.end)
+    contract = contract_of(state, planned_end(state, baseline))
     if contract is None:
         return row
-    late = rest.longest - rest.clock.units_until(contract.day)
+    end = current_end(state)
+    units = rest.clock.units_until(end) if is_done(state) and end else rest.longest
+    late = units - rest.clock.units_until(contract.day)
     return replace(
         row,
         contract=contract.day.isoformat(),
@@ -152,7 +168,7 @@ def _dated(state: ProjectState, name: str) -> Row:
 
 def _likely(work: Work) -> str:
     """Returns the day by which the work ends with a chance of four in five, if that is known."""
-    found = sureness(work)
+    found = sureness(work, has_drivers=False)
     return "" if found is None else _day(found.likely_end)
 
 
@@ -169,19 +185,6 @@ def _finished(state: ProjectState) -> set[str]:
     return {left.code for left in state.remaining.left if left.state is State.FINISHED}
 
 
-def _missed(state: ProjectState, tasks: Sequence[TaskDates]) -> list[str]:
-    """Returns the names of unfinished tasks that end after their deadline, in plan order."""
-    done = _finished(state)
-    days = {task.code: task.last_day for task in tasks}
-    return [
-        task.name or task.code
-        for task in state.rest.side.tasks
-        if task.deadline is not None
-        and not done.issuperset(task.parts)
-        and days[task.code] > task.deadline
-    ]
-
-
 def accepted_note(state: ProjectState) -> str:
     """Returns what the import left out, as the user accepted it, or an empty text."""
     accepted = state.side.accepted
@@ -194,7 +197,7 @@ def _day(day: date | None) -> str:
 
 def _moved(row: Row, state: ProjectState, before: ProjectState) -> Row:
     """Returns the row with the movement of the forecast since the deck before."""
-    now, then = state.rest.end, before.rest.end
+    now, then = current_end(state), current_end(before)
     moved = None
     if now is not None and then is not None:
         clock = before.rest.clock

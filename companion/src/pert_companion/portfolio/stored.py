@@ -14,11 +14,12 @@ from typing import Any, get_args
 from pert_companion import VERSION
 from pert_companion.model.output import write_whole
 from pert_companion.model.sidefile import side_path
+from pert_companion.portfolio.job import Job
 from pert_companion.portfolio.plausible import is_plausible
 from pert_companion.portfolio.row import Milestone, Row, WeekLoad
 from pert_companion.programs.client import Programs
 
-FORM = 3
+FORM = 4
 """The form of what is stored; another one is not read."""
 MOST_BYTES = 16 * 1024 * 1024
 
@@ -78,12 +79,12 @@ class Cache:
             for name in ("pert", "pert_check"):
                 _add(self.start, Path(programs.find(name)))
 
-    def key(self, path: Path, previous: Path | None, name: str) -> str:
-        """Returns the checksum of a deck, its side file, the deck before, and the programs."""
+    def key(self, job: Job) -> str:
+        """Returns the checksum of a deck, those it is compared with, side files and programs."""
         digest = self.start.copy()
-        named = os.fsencode(name)
+        named = os.fsencode(job.name)
         digest.update(b"%d %b" % (len(named), named))
-        for deck in (path, previous):
+        for deck in (job.path, job.previous, job.baseline):
             for part in (None, None) if deck is None else (deck, side_path(deck)):
                 _add(digest, part)
         return digest.hexdigest()

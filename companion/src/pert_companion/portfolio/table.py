@@ -25,10 +25,10 @@ PLAIN = (
         "contract_name",
         "missed",
     ),
-    *("latest", "budget", "overrun", "day_price", "currency", "fault"),
+    *("latest", "budget", "overrun", "first_budget", "day_price", "currency", "fault"),
 )
 """The columns that are fields of a row."""
-AMOUNTS = ("latest", "budget", "overrun", "day_price")
+AMOUNTS = ("latest", "budget", "overrun", "first_budget", "day_price")
 """Those that are amounts."""
 
 Cells = dict[str, str | int | None]

@@ -26,6 +26,9 @@ from pert_companion.programs.client import Programs
 AT_ONCE = 16
 """Decks that are read one by one when a process has crashed, to find the one that did it."""
 
+ROLES = ("deck", "previous", "baseline")
+"""What the decks of a job are to its row."""
+
 Answers = Iterator[tuple[int, Row]]
 
 Progress = Callable[[int, int, str], None]
@@ -40,7 +43,7 @@ def rows_of(
     progress: Progress,
 ) -> list[Row]:
     """Returns the row of each deck, in order. Rows with faults are not kept in the cache."""
-    keys = [cache.key(job.path, job.previous, job.name) for job in jobs]
+    keys = [cache.key(job) for job in jobs]
     rows = {number: cache.get(key, jobs[number].name) for number, key in enumerate(keys)}
     wanted = [number for number, row in rows.items() if row is None]
     done = len(jobs) - len(wanted)
@@ -132,7 +135,7 @@ def _answer(future: "Future[Row]", job: Job) -> Row:
 def _row(programs: Programs, job: Job) -> Row:
     """Returns the row of a deck; ends the process if it is to stop, which a pool passes over."""
     try:
-        return row_of(programs, job.path, job.previous, job.name)
+        return row_of(programs, job)
     except SystemExit:
         os._exit(1)
 
@@ -189,10 +192,10 @@ def _placed(line: bytes, folder: Path) -> tuple[int, Job]:
         raise UsageError("standard input has a line that is no deck") from None
     if not isinstance(number, int) or not isinstance(name, str):
         raise UsageError("standard input has a line that is no deck")
-    paths = {role: folder / f"{role}-{number}.csv" for role in ("deck", "previous")}
+    paths = {role: folder / f"{role}-{number}.csv" for role in ROLES}
     for role, path in paths.items():
         for kind, target in (("", path), (".side", side_path(path))):
             if role + kind in files:
                 target.write_bytes(files[role + kind])
-    previous = paths["previous"] if "previous" in files else None
-    return number, Job(paths["deck"], previous, name)
+    previous, baseline = (paths[role] if role in files else None for role in ROLES[1:])
+    return number, Job(paths["deck"], previous, name, baseline)
