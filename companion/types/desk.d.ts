@@ -7,7 +7,8 @@
 //   GET  /?token=T                            sets the cookie, once; leads to /
 //   GET  /                                    page of the folder (HTML)
 //   GET  /projects/{project}                  page of a project (HTML)
-//   GET  /static/{name}                       scripts and styles of the pages
+//   GET  /static/{name}                       scripts and styles: those of desk/static, and the
+//                                             page's report.css, portfolio.css, portfolio.js
 //
 //   GET  /api/folder                          Folder: at once; rows that are not known yet are null
 //   GET  /api/projects/{project}/row          FolderRow: computed if it must be (ask for few at once)
