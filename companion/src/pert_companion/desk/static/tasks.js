@@ -1,0 +1,194 @@
+// The table of tasks, which is edited in place; the Gantt chart, which is the same rows with long bars; and the table of progress.
+"use strict";
+
+import { $, dayText, plural } from "./dom.js";
+import { Grid } from "./grid.js";
+import { Bars, dateColumns, nameColumn, rowClass, rowsOf } from "./rows.js";
+
+/**
+ * A column that is edited: key, heading, its meaning, width and class.
+ * @typedef {[Field, string, string, number, string]} EditedColumn
+ */
+
+/** @type {EditedColumn[]} */
+const FIELDS = [
+    ["links", "After", "The tasks that come before, as DIG or DIGSS+2d", 132, "text"],
+    ["normal", "Normal", "Normal duration in days", 70, "number"],
+    ["shortest", "Shortest", "Shortest duration in days", 74, "number"],
+    ["price", "A day less", "What the first day less costs", 84, "number"],
+    ["cost", "Cost", "Cost at the normal duration", 92, "number"],
+    ["optimistic", "Optimistic", "Optimistic estimate in days", 84, "number"],
+    ["likely", "Likely", "Likely estimate in days", 64, "number"],
+    ["pessimistic", "Pessimistic", "Pessimistic estimate in days", 88, "number"],
+    ["percent", "Done %", "Part of the work that is done, in per cent", 66, "number"],
+    ["actual_start", "Began", "The day on which work began", 112, "text"],
+    ["actual_finish", "Finished", "The last day of work", 112, "text"],
+    ["remaining", "Remaining", "Days that are left to do", 84, "number"],
+];
+const PLAN = ["links", "normal", "shortest", "price", "cost"];
+const ESTIMATES = ["optimistic", "likely", "pessimistic"];
+const PROGRESS = ["percent", "actual_start", "actual_finish", "remaining"];
+const SETS = { plan: PLAN, progress: PROGRESS, estimates: ESTIMATES, all: FIELDS.map((field) => field[0]) };
+const DATES = ["actual_start", "actual_finish"];
+const MONEY = ["price", "cost"];
+/** Pixels of a day in the Gantt chart, and of all days at most. */
+const ZOOMS = { fit: 0, weeks: 6, days: 22 };
+const WIDEST = 12000;
+
+/** Returns what the editor of a field begins with. @param {WorkRow} task @param {Field} key */
+function valueOf(task, key) {
+    const value = key === "links" ? task.links_text : task[key];
+    return value === null || value === undefined ? "" : String(value);
+}
+
+function shownOf(task, key) {
+    const value = valueOf(task, key);
+    if (DATES.includes(key)) return value === "" ? "" : dayText(value);
+    if (key === "price" && task.normal === task.shortest) return ""; // it cannot be shortened
+    return MONEY.includes(key) ? value.replace(/\B(?=(?:[0-9]{3})+(?![0-9]))(?<!\.[0-9]*)/g, ",") : value;
+}
+
+/** A table of the project's rows: what tables of all panels have in common. */
+class Rows {
+    /**
+     * @param {import("./model.js").Desk} desk
+     * @param {HTMLElement} host
+     * @param {string} name
+     * @param {(key: string) => void} [open]
+     */
+    constructor(desk, host, name, open) {
+        this.desk = desk;
+        this.folded = new Set();
+        this.takes = (_task, _dated) => true;
+        this.bars = new Bars(desk);
+        this.grid = new Grid(host, {
+            name,
+            columns: [],
+            rowClass,
+            cellClass: (row, key) => this.cellClass(row, key),
+            note: (row, key) => this.noteOf(row, key),
+            edit: (row, column, text) => desk.edit(row.task, /** @type {Field} */ (column.key), text),
+            open: (row) => (row.task === null ? this.fold(row.key) : open?.(row.key)),
+        });
+    }
+
+    nameColumn() {
+        return nameColumn((key) => this.fold(key));
+    }
+
+    fold(key) {
+        if (!this.folded.delete(key)) this.folded.add(key);
+        this.draw();
+    }
+
+    /** Takes the rows again, after a filter, a fold or an answer. */
+    draw() {
+        if (this.grid.host.closest("[hidden]") !== null) return; // it is drawn when it is opened
+        if (this.grid.headOf("bars") !== undefined) this.bars.take(this.grid);
+        this.grid.show(rowsOf(this.desk, this.takes, this.folded));
+    }
+
+    /** @param {EditedColumn} field @returns {import("./grid.js").Column} */
+    fieldColumn([key, head, hint, width, kind]) {
+        return {
+            key,
+            head,
+            hint,
+            width,
+            kind,
+            text: ({ task }) => (task === null ? "" : this.desk.pending.get(`${task.code} ${key}`) ?? shownOf(task, key)),
+            input: ({ task }) => (task?.editable.includes(key) ? this.desk.faults.get(`${task.code} ${key}`)?.written ?? valueOf(task, key) : null),
+        };
+    }
+
+    cellClass({ task }, key) {
+        if (task === null) return "";
+        const cell = `${task.code} ${key}`;
+        const state = this.desk.pending.has(cell) ? " pending" : this.desk.faults.has(cell) ? " refused" : "";
+        return `${task.editable.includes(key) ? "open" : ""}${state}`;
+    }
+
+    noteOf({ task }, key) {
+        const fault = task === null ? undefined : this.desk.faults.get(`${task.code} ${key}`);
+        if (fault === undefined) return "";
+        return `Not changed: ${fault.text.replace(/[.]?$/, ".")}${fault.written ? ` You wrote \u201c${fault.written}\u201d.` : ""}`;
+    }
+}
+
+/** The panel of tasks: a table with a filter. */
+export class Tasks extends Rows {
+    constructor(desk, host) {
+        super(desk, host, "Tasks");
+        this.setColumns();
+        $("columns").addEventListener("change", () => this.setColumns());
+        for (const id of ["find", "only"]) $(id).addEventListener("input", () => this.filter());
+    }
+
+    setColumns() {
+        const keys = SETS[$("columns").value];
+        const fields = FIELDS.filter(([key]) => keys.includes(key)).map((field) => this.fieldColumn(field));
+        const number = { key: "row", head: "Row", width: 48, kind: "number", text: ({ task }) => (task?.row === null || task === null ? "" : String(task.row)) };
+        this.grid.setColumns([this.nameColumn(), number, ...fields, ...dateColumns(), this.bars.column(200, 2)]);
+        this.draw();
+    }
+
+    filter() {
+        const wanted = $("find").value.trim().toLowerCase();
+        const only = $("only").value;
+        const kinds = {
+            all: () => true,
+            critical: (task, dated) => dated?.is_critical && task.state !== "finished",
+            late: (_task, dated) => dated?.is_late,
+            shortened: (_task, dated) => dated !== undefined && Number(dated.shortened) > 0,
+            open: (task) => task.state !== "finished",
+        };
+        this.takes = (task, dated) => kinds[only](task, dated) && `${task.name} ${task.code}`.toLowerCase().includes(wanted);
+        this.draw();
+    }
+
+    draw() {
+        super.draw();
+        const count = this.grid.rows.filter(({ task }) => task !== null).length;
+        $("shown").textContent = count === this.desk.tasks.length ? plural(count, "task") : `${count} of ${plural(this.desk.tasks.length, "task")}`;
+    }
+
+    /** Goes to a task, whatever the filter was. */
+    find(code) {
+        [$("find").value, $("only").value] = ["", "all"];
+        this.folded.clear();
+        this.filter();
+        this.grid.go(this.grid.rows.findIndex(({ key }) => key === code), 0);
+        this.grid.host.focus();
+    }
+}
+
+/** The panel of the Gantt chart. */
+export class Gantt extends Rows {
+    constructor(desk, host, open) {
+        super(desk, host, "Gantt chart", open);
+        $("zoom").addEventListener("change", () => this.setColumns());
+        this.setColumns();
+    }
+
+    setColumns() {
+        const days = { key: "duration", head: "Days", hint: "Days of work at the chosen length", width: 58, kind: "number", text: ({ dated }) => dated?.duration ?? "" };
+        const each = ZOOMS[$("zoom").value];
+        const bars = each === 0 ? this.bars.column(320, 3) : this.bars.column(Math.min(WIDEST, Math.round(each * this.bars.axis.days)));
+        const columns = [this.nameColumn(), days, ...dateColumns(), bars];
+        this.grid.setColumns(columns.map((column) => ({ ...column, input: undefined })));
+        this.draw();
+    }
+}
+
+/** The table of progress, in the panel of status. */
+export class Progress extends Rows {
+    constructor(desk, host) {
+        super(desk, host, "Progress of the tasks");
+        const fields = FIELDS.filter(([key]) => PROGRESS.includes(key)).map((field) => this.fieldColumn(field));
+        this.grid.setColumns([this.nameColumn(), ...fields, ...dateColumns()]);
+        $("progress-only").addEventListener("change", () => {
+            this.takes = $("progress-only").checked ? (task) => task.state !== "finished" : () => true;
+            this.draw();
+        });
+    }
+}
