@@ -23,7 +23,8 @@
 //
 //   GET  /api/projects/{project}              Project; ?length=UNITS chooses the length
 //   GET  /api/projects/{project}/schedule     Schedule; ?length=UNITS
-//   GET  /api/projects/{project}/length       Length; ?length=UNITS or ?by=YYYY-MM-DD
+//   GET  /api/projects/{project}/length       Length; ?length=UNITS or ?by=YYYY-MM-DD; with
+//                                             &chance=1 its chance is simulated, else it is null
 //   GET  /api/projects/{project}/options      Options: certain lengths with their chances
 //   GET  /api/projects/{project}/version      VersionAnswer: ask every few seconds
 //   POST /api/projects/{project}/edits        EditRequest -> EditAnswer
