@@ -42,6 +42,8 @@ COMPLETIONS := $(ROOT)/share/bash-completion/completions
 # Debian's package puts those for zsh elsewhere.
 ZSH ?= share/zsh/site-functions
 FISH := share/fish/vendor_completions.d
+MENU := share/applications
+ICONS := share/icons/hicolor/scalable/apps
 
 all: programs
 	@tools/first-run
@@ -110,6 +112,9 @@ install: placed programs
 	for command in $(COMMANDS); do install -m 644 tools/completion/companion.bash "$(COMPLETIONS)/$$command" || exit 1; done
 	install -m 644 tools/completion/_pert tools/completion/_pert-companion "$(ROOT)/$(ZSH)"
 	install -m 644 $(PROGRAMS:%=tools/completion/%.fish) $(RECHECK:%=tools/completion/%.fish) $(COMMANDS:%=tools/completion/%.fish) "$(ROOT)/$(FISH)"
+	install -d "$(ROOT)/$(MENU)" "$(ROOT)/$(ICONS)"
+	install -m 644 companion/pert-desk.desktop "$(ROOT)/$(MENU)"
+	install -m 644 companion/src/pert_companion/desk/static/icon.svg "$(ROOT)/$(ICONS)/pert-desk.svg"
 	@[ ! -d crates/pert_cli ] || { umask 022 && tools/reading-list "$(DOC)/reading"; }
 
 # Folders go too if nothing else is in them.
@@ -118,9 +123,10 @@ uninstall: placed
 	rm -f $(COMMANDS:%="$(COMPLETIONS)/%") "$(ROOT)/$(ZSH)/_pert" "$(ROOT)/$(ZSH)/_pert-companion"
 	rm -f "$(ROOT)/bin/pert-recheck" "$(MAN)/man1/pert-recheck.1" "$(COMPLETIONS)/pert-recheck" "$(ROOT)/$(FISH)/pert-recheck.fish"
 	rm -f $(PROGRAMS:%="$(ROOT)/$(FISH)/%.fish") $(COMMANDS:%="$(ROOT)/$(FISH)/%.fish")
+	rm -f "$(ROOT)/$(MENU)/pert-desk.desktop" "$(ROOT)/$(ICONS)/pert-desk.svg"
 	rm -rf "$(DOC)" "$(LIBRARY)"
 	@cd "$(ROOT)" && rmdir -p --ignore-fail-on-non-empty bin lib share/man/man1 share/man/man5 share/doc share/bash-completion/completions \
-		$(ZSH) $(FISH)
+		$(ZSH) $(FISH) $(MENU) $(ICONS)
 
 # The archive holds a folder with bin/ and share/, whose pages name /usr/local, and the checksum of each file. Names are sorted, and
 # owners, times and modes are fixed, so that whoever builds the same sources gets the same archive.

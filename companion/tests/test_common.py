@@ -148,8 +148,8 @@ def test_a_library_that_is_missing_is_one_line(
     monkeypatch: pytest.MonkeyPatch, capsys: pytest.CaptureFixture[str]
 ) -> None:
     """A library that modules import at their top is named before any work is done."""
-    for module in ("pert_companion.cli.exporting", "pert_companion.writers.ics"):
-        monkeypatch.delitem(sys.modules, module, raising=False)
+    for module in ("cli.exporting", "writers.exporting", "writers.ics"):
+        monkeypatch.delitem(sys.modules, f"pert_companion.{module}", raising=False)
     monkeypatch.setitem(cast(dict[str, object], sys.modules), "icalendar", None)
     monkeypatch.setattr(sys, "argv", ["pert", "pert-export", "deck.csv"])
     with pytest.raises(SystemExit) as stop:

@@ -20,6 +20,10 @@ BELOW = {
     "writers": {"analysis", "state", "programs", "model"},
     "page": {"analysis", "state", "programs", "model", "writers"},
     "portfolio": {"page", "analysis", "state", "programs", "model", "writers"},
+    "desk": {
+        *("portfolio", "page", "writers", "importing", "analysis", "state", "programs"),
+        *("readers", "carry", "model"),
+    },
 }
 """The folders that each folder may import from besides itself; `cli` may import from all."""
 ASKING = {"programs", "state"}

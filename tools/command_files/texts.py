@@ -117,4 +117,39 @@ TEXTS = {
         "The deck or its side file cannot be used; or something is named and --strict is given.",
         ("pert-ledger(1)", "pert-compare(1)"),
     ),
+    "pert-desk": Text(
+        "opens a folder of projects in the browser",
+        (
+            "It listens on 127.0.0.1 and prints one address with a token. The first browser that"
+            " opens it gets a cookie, and the token is used up. Nobody else can ask: other sites"
+            " are told apart by Host and Origin, and names of files never come from the browser.",
+            "Projects are the decks of the folder, with their side files and ledgers. What is"
+            " edited is kept in a journal in the folder .pert-desk at once, and written into the"
+            " deck when you save; what was there before each save is kept there too. States of a"
+            " date are in wing.states/ next to wing.csv.",
+            "Each step is what a command does. The page History has these commands.",
+            "It ends with Ctrl-C, with SIGTERM, or when its terminal is closed, and leaves no"
+            " process. If it is killed, unsaved edits are there again when the project is opened,"
+            " and a save that had begun is finished.",
+            SIDE_FILE,
+        ),
+        "The folder cannot be opened, or another desk has it open.",
+        ("pert-edit(1)", "pert-import(1)", "pert-report(1)", "pert_whatif(1)"),
+    ),
+    "pert-edit": Text(
+        "changes figures of a deck and its side file",
+        (
+            "A deck and its side file belong together: a duration that is changed in the deck alone"
+            " no longer fits. This command changes both, and the budget of a package with a cost."
+            " A shortest duration that was the normal one follows it, and so does a single"
+            " estimate.",
+            "Progress is taken as from a list of progress for pert-ledger(1). A new data date books"
+            " the ledger next to the deck again.",
+            SIDE_FILE,
+            WHOLE,
+        ),
+        "The deck or its side file cannot be used, or an edit makes no sense or is refused by"
+        " pert(1); nothing is written.",
+        ("pert-desk(1)", "pert-ledger(1)"),
+    ),
 }

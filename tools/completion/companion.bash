@@ -30,6 +30,20 @@ _pert_companion() {
         --count | --as-of | --weekdays) value='none' ;;
         esac
         ;;
+    pert-desk)
+        options='-h --help --version --port --no-browser --behind-proxy --address --listen --bin'
+        case $3 in
+        --bin) value='file' ;;
+        --port | --behind-proxy | --address | --listen) value='none' ;;
+        esac
+        ;;
+    pert-edit)
+        options='-h --help --version -o --output --overwrite --bin'
+        case $3 in
+        -o | --output) value='file' ;;
+        --bin) value='file' ;;
+        esac
+        ;;
     pert-export)
         options='-h --help --version --length --by --optimum --normal --bin --plan -o --output --overwrite --format --into --json'
         case $3 in
@@ -118,4 +132,4 @@ _pert_companion() {
         mapfile -t COMPREPLY < <(compgen -W "$options" -- "$2")
     fi
 }
-complete -o bashdefault -o default -F _pert_companion pert-check-status pert-compare pert-days pert-export pert-import pert-ledger pert-portfolio pert-remaining pert-report pert-schedule
+complete -o bashdefault -o default -F _pert_companion pert-check-status pert-compare pert-days pert-desk pert-edit pert-export pert-import pert-ledger pert-portfolio pert-remaining pert-report pert-schedule

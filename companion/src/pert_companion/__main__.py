@@ -16,6 +16,8 @@ COMMANDS = {
     "pert-check-status": "check_status",
     "pert-compare": "compare",
     "pert-days": "days",
+    "pert-desk": "desk",
+    "pert-edit": "edit",
     "pert-export": "exporting",
     "pert-import": "importing",
     "pert-ledger": "ledger",

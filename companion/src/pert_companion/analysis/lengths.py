@@ -50,6 +50,13 @@ def chosen_length(work: Work, choice: LengthChoice) -> int:
     return work.longest
 
 
+def choice_of(work: Work, length: int) -> LengthChoice:
+    """Returns the choice of a length in units, as people name it."""
+    if length == work.longest:
+        return LengthChoice()
+    return LengthChoice(days=Decimal(measure_of(work.side).days(length)))
+
+
 def named_length(work: Work, choice: LengthChoice) -> int | None:
     """Returns the length in units that a choice names by days or by a date; None for others.
 

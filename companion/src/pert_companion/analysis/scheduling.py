@@ -86,7 +86,11 @@ def rest_schedule(state: ProjectState, choice: LengthChoice = LengthChoice()) ->
     A finished task has its actual dates, and one under way its actual start; both have the float of
     what is left. If nothing has begun, this is the schedule of the plan.
     """
-    schedule = chosen_schedule(state.rest, choice)
+    return with_actual_dates(state, chosen_schedule(state.rest, choice))
+
+
+def with_actual_dates(state: ProjectState, schedule: Schedule) -> Schedule:
+    """Returns a schedule of what is left of a state with the actual dates of what is done."""
     if state.rest is state.plan:
         return schedule
     actuals = Actuals(state)

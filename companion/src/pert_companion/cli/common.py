@@ -19,6 +19,9 @@ PACKAGES = {
     "jinja2": "python3-jinja2",
     "markupsafe": "python3-markupsafe",
     "numpy": "python3-numpy",
+    "starlette": "python3-starlette",
+    "uvicorn": "python3-uvicorn",
+    "multipart": "python3-multipart",
 }
 """The Debian package of each library that the package imports."""
 

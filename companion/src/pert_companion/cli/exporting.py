@@ -2,15 +2,11 @@
 
 import argparse
 import sys
-from collections.abc import Iterator, Sequence
+from collections.abc import Sequence
 from dataclasses import dataclass
-from datetime import date
 from pathlib import Path
 
-from pert_companion.analysis.lengths import LengthChoice
-from pert_companion.analysis.performance import performance
 from pert_companion.analysis.schedule import Schedule
-from pert_companion.analysis.scheduling import chosen_work, in_one_piece, network_at
 from pert_companion.cli.choosing import (
     add_length_options,
     add_plan_option,
@@ -29,32 +25,16 @@ from pert_companion.cli.writing import (
     outputs_of,
 )
 from pert_companion.importing.conversion import MAX_BYTES
-from pert_companion.model.deck import Deck
 from pert_companion.model.errors import InputError, UsageError
-from pert_companion.model.lines import not_in_xml
-from pert_companion.model.output import CALENDAR_FILE, PLAN_XML, WORKBOOK, Output
-from pert_companion.model.predecessors import first_day_waits, real_links
+from pert_companion.model.output import Output
 from pert_companion.model.source import Source, read_bytes
 from pert_companion.readers import detect
 from pert_companion.state.project import ProjectState, open_state
-from pert_companion.state.work import Work
-from pert_companion.writers.csv_file import SCHEDULE_TABLE, to_csv
-from pert_companion.writers.ics import to_ics
+from pert_companion.writers.exporting import FORMATS, about_new_file, new_file
 from pert_companion.writers.into import WAYS_BACK, WayBack
 from pert_companion.writers.json_file import result_text
-from pert_companion.writers.mspdi import to_mspdi
-from pert_companion.writers.xlsx import Workbooks, to_xlsx
 
 NAME = "pert-export"
-FORMATS = {
-    ".xml": PLAN_XML,
-    ".xlsx": WORKBOOK,
-    ".csv": SCHEDULE_TABLE,
-    ".ics": CALENDAR_FILE,
-}
-"""The kind of file of each ending."""
-MOST_PERIODS = 400
-"""The periods that `pert load` has at most."""
 EXAMPLES = """\
   pert-export wing.csv --length 76 -o wing-76.xlsx          a workbook: schedule, curve, reports
   pert-export wing.csv --by 2026-09-30 -o wing.ics          what ends by a day, as a calendar
@@ -102,13 +82,13 @@ def run(options: argparse.Namespace) -> int:
     schedule = schedule_of_options(state, options)
     missing: list[str] = []
     if original is None:
-        data = _new_file(ending, state, schedule, options)
+        data = new_file(ending, state, schedule, length_choice(options))
     else:
         data, missing = _into(state, original, schedule)
     outputs.write(Output(options.output, kind, data))
     lines = list(missing)
     if original is None:
-        lines.extend(_about_new_file(ending, state, schedule))
+        lines.extend(about_new_file(ending, state, schedule))
     for line in lines:
         say(NAME, line)
     say(
@@ -135,27 +115,6 @@ def _outcome(
         unit_minutes=schedule.unit_minutes,
         missing=tuple(lines),
     )
-
-
-def _about_new_file(ending: str, state: ProjectState, schedule: Schedule) -> Iterator[str]:
-    """Yields lines on what is not in a new file, or not as it is in the deck."""
-    if ending in (".xlsx", ".xml"):
-        yield from _replaced(state.deck, schedule)
-    missing_parts = ", ".join(_left_out(state, schedule))
-    if ending == ".xml" and missing_parts:
-        yield f"not in this file, but in one written with --into: {missing_parts}"
-
-
-def _left_out(state: ProjectState, schedule: Schedule) -> Iterator[str]:
-    """Yields what the state has and a new file of MS Project does not."""
-    if state.deck.loads:
-        yield "resources"
-    if any(task.shortest_minutes < task.left_minutes for task in schedule.tasks):
-        yield "shortest durations and their prices"
-    if any(task.baselines for task in state.side.tasks):
-        yield "baselines"
-    if schedule.rest_of is not None:
-        yield "actual dates"
 
 
 def _ending(options: argparse.Namespace) -> str:
@@ -196,72 +155,8 @@ def _original(options: argparse.Namespace, ending: str) -> _Original:
     return _Original(source, way)
 
 
-def _replaced(deck: Deck, schedule: Schedule) -> Iterator[str]:
-    """Yields a line for each title with characters that XML, and so a workbook, cannot hold."""
-    titles = {item.code: item.title for item in deck.items}
-    titles.update({card.code: card.title for card in deck.resources})
-    titles.update({task.code: task.name for task in schedule.tasks})
-    for code, title in titles.items():
-        characters = ", ".join(not_in_xml(title))
-        if characters:
-            yield f"{code}: its title has {characters}, which is U+FFFD in the file"
-
-
 def _into(state: ProjectState, original: _Original, schedule: Schedule) -> tuple[bytes, list[str]]:
     name = original.source.name
     if not state.has_side_file:
         raise InputError(f"{state.path}: without its side file, tasks of {name} are not known")
     return original.way.put(original.source.data, name, schedule, state.side)
-
-
-def _new_file(
-    ending: str, state: ProjectState, schedule: Schedule, options: argparse.Namespace
-) -> bytes:
-    if ending == ".csv":
-        return to_csv(schedule)
-    if ending == ".ics":
-        return to_ics(schedule)
-    if ending == ".xml":
-        links = real_links(state.deck, state.side)
-        waits = first_day_waits(state.deck, state.side)
-        return to_mspdi(schedule, state.side.calendar, links, waits, state.side.money_scale)
-    return to_xlsx(_workbook(state, schedule, length_choice(options)))
-
-
-def _workbook(state: ProjectState, schedule: Schedule, choice: LengthChoice) -> Workbooks:
-    """Returns what the workbook shows: curve and load are those of the work of the schedule."""
-    plan = state.plan
-    counted = plan if schedule.is_past_plan else state.rest
-    chosen = chosen_work(counted, choice)
-    work, point = chosen.work, chosen.point
-    period = load_period(work, schedule.length)
-    network = network_at(work.counted_network, point)
-    load = work.load(in_one_piece(network, work.side, point), period)
-    is_measured = state.has_begun and bool(state.deck.accounts)
-    return Workbooks(
-        schedule,
-        counted.curve,
-        plan.counted_network,
-        plan.summary,
-        plan.value,
-        load,
-        _period_days(work, period, load.periods),
-        state.side.accepted,
-        performance(state, state) if is_measured else None,
-    )
-
-
-def load_period(work: Work, length: int) -> int:
-    """Returns the units of a period of the load: a week, or more if there would be too many."""
-    calendar = work.side.calendar
-    month = calendar.month_days * calendar.day_minutes
-    for minutes in (calendar.week_minutes, month, 3 * month):
-        units = max(1, minutes // work.side.unit_minutes)
-        if length // units < MOST_PERIODS:
-            return units
-    return length // MOST_PERIODS + 1
-
-
-def _period_days(plan: Work, units: int, periods: int) -> list[date]:
-    """Returns the day on which each period of so many units begins."""
-    return [plan.clock.begin_moment(number * units).date() for number in range(periods)]

@@ -27,6 +27,7 @@ from pert_companion.importing.month_end import Books, Lists, MonthEnd, close_mon
 from pert_companion.importing.outcomes import ledger_outcome
 from pert_companion.model.bookings import MEANINGS, BookingKind, Finding, not_accepted
 from pert_companion.model.figures import money_text
+from pert_companion.model.fitting import fitted_to
 from pert_companion.model.ledger import Ledger, ledger_path, read_ledger, to_bytes
 from pert_companion.model.output import LEDGER, Output, Outputs
 from pert_companion.programs.client import Programs
@@ -290,7 +291,9 @@ def _credit_lines(month: MonthEnd) -> Iterable[str]:
 
 def _files(books: Books, path: Path) -> list[Output]:
     """Returns the deck, its side file if it has one, and its ledger, as files to write."""
-    side = replace(books.side, deck_name=path.name) if books.has_side_file else None
+    side = None
+    if books.has_side_file:
+        side = fitted_to(replace(books.side, deck_name=path.name), books.deck)
     files = deck_outputs(path, books.deck.to_bytes(), side)
     if is_file(path):
         files.append(Output(ledger_path(path), LEDGER, to_bytes(books.ledger)))

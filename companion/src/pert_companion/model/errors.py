@@ -30,3 +30,7 @@ class EndedError(BaseException):
 
 class ProgramError(CompanionError):
     """A program of `pert` refused its input or failed. The line is the program's own fault line."""
+
+
+class ProgramEndedError(ProgramError):
+    """A program of `pert` ended without an answer and without a reason, as when it is killed."""

@@ -41,6 +41,11 @@ def find(path: Path, deck: Deck, data: bytes) -> SideFile | None:
         return None
     side = from_json(read_bytes(place, MAX_BYTES, "side file"), str(place))
     check_fits(side, deck, path, data)
+    return known_on(side, deck)
+
+
+def known_on(side: SideFile, deck: Deck) -> SideFile:
+    """Returns a side file with the progress that was known on the as-of date of its deck."""
     if side.data_date is None or side.data_date + timedelta(days=1) == deck.as_of_day:
         return side
     return as_of(side, deck.as_of_day)

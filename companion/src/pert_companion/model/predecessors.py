@@ -55,7 +55,7 @@ def first_day_waits(deck: Deck, side: SideFile) -> dict[str, FirstDayWait]:
     `carry` makes them of constraints and of tasks that are scheduled by hand: cards that come after
     nothing. Tasks without such a wait are not in it.
     """
-    search = _Search(deck, side)
+    search = LinkSearch(deck, side)
     found = {}
     for task in side.tasks:
         begins = [code for code in _cards(task) if code != task.finish_moment]
@@ -70,11 +70,11 @@ def first_day_waits(deck: Deck, side: SideFile) -> dict[str, FirstDayWait]:
 
 def real_links(deck: Deck, side: SideFile) -> dict[str, list[RealLink]]:
     """Returns the links of each real task to those before it, by the code of its first card."""
-    search = _Search(deck, side)
+    search = LinkSearch(deck, side)
     return {task.code: search.links_to(task) for task in side.tasks}
 
 
-class _Search:
+class LinkSearch:
     """Walks back from the cards of a task to the real tasks before it."""
 
     def __init__(self, deck: Deck, side: SideFile) -> None:

@@ -12,6 +12,7 @@ from pert_companion.page.gathering import Gathered
 from pert_companion.page.view import Chart, Dot, Line, Row, Series, Table, Tick, plain, signed
 from pert_companion.page.words import Words, day_text
 from pert_companion.programs import results
+from pert_companion.state.work import Work
 
 HEIGHT = 240
 MOST_OPEN = 24
@@ -69,7 +70,7 @@ def chooser(gathered: Gathered, words: Words) -> Chooser:
         curve_chart(gathered, words),
         breakpoints(gathered, words),
         len(points) > MOST_OPEN,
-        tuple(stretches(gathered, words)),
+        tuple(stretches(gathered.state.rest, words)),
         cost_axis(curve_lines(gathered))[0],
     )
 
@@ -134,9 +135,9 @@ def step_price(slope: int, words: Words) -> str:
     return words.digits(slope * words.measure.step)
 
 
-def stretches(gathered: Gathered, words: Words) -> list[Stretch]:
+def stretches(work: Work, words: Words) -> list[Stretch]:
     """Returns the lengths that cost the same as others, with what to take."""
-    curve, terms = gathered.state.rest.curve, gathered.state.rest.deck.terms
+    curve, terms = work.curve, work.deck.terms
     lengths = {point.length for point in curve}
     if terms is not None and curve[-1].length < terms.target < curve[0].length:
         lengths.add(terms.target)
@@ -145,7 +146,7 @@ def stretches(gathered: Gathered, words: Words) -> list[Stretch]:
     for upper, lower in zip(ordered, ordered[1:]):
         price = results.cost_at(curve, upper)[1] or 0
         if terms is not None:
-            saved = total_cost(gathered.state.rest, upper) - total_cost(gathered.state.rest, lower)
+            saved = total_cost(work, upper) - total_cost(work, lower)
             if saved == 0 and price:
                 text = f"{range_text(lower, upper, words)} cost the same in all: take"
                 text = f"{text} {words.days(upper)}, which shortens less."

@@ -64,10 +64,11 @@ def by_urgency(rows: Sequence[Row], fresh: Freshness) -> list[Row]:
     Among those with the same alarm, the one that is later by more days comes first; rows that are
     alike stay in their order.
     """
-    return sorted(rows, key=lambda row: _place(row, alarms(row, fresh)))
+    return sorted(rows, key=lambda row: place_of(row, fresh))
 
 
-def _place(row: Row, found: Sequence[Alarm]) -> tuple[bool, int, Fraction]:
-    """Returns what rows are ordered by."""
+def place_of(row: Row, fresh: Freshness) -> tuple[bool, int, Fraction]:
+    """Returns what rows are ordered by: whether it is refused, its first alarm, how late it is."""
+    found = alarms(row, fresh)
     first = ORDER.index(found[0]) if found else len(ORDER)
     return bool(row.fault), first, -Fraction(row.late or 0, row.day_minutes)

@@ -16,7 +16,7 @@ from pathlib import Path
 from typing import IO, cast
 
 from pert_companion.model.deck import Deck, parse_deck
-from pert_companion.model.errors import ProgramError, UsageError
+from pert_companion.model.errors import ProgramEndedError, ProgramError, UsageError
 from pert_companion.programs import results
 from pert_companion.programs.certificate import parts
 
@@ -35,7 +35,7 @@ class Programs:
         if self.folder is not None:
             found = shutil.which(name, path=os.fspath(self.folder))
         else:
-            checkout = Path(__file__).resolve().parents[3] / "bin"
+            checkout = Path(__file__).resolve().parents[4] / "bin"
             found = shutil.which(name, path=os.fspath(checkout)) or shutil.which(name)
         if found is None:
             place = f"in {self.folder}" if self.folder else "in bin/ or on the PATH"
@@ -50,7 +50,7 @@ class Programs:
         except OSError as error:
             raise UsageError(f"{command[0]}: {error.strerror}") from error
         if done.returncode != 0:
-            raise ProgramError(_refusal(name, done.returncode, done.stderr))
+            raise _refusal(name, done.returncode, done.stderr)
         return done.stdout
 
     def pert(self, deck: bytes, *words: str) -> bytes:
@@ -109,7 +109,7 @@ class Programs:
                 status = running.wait()
             if status != 0:
                 errors.seek(0)
-                raise ProgramError(_refusal("pert", status, errors.read()))
+                raise _refusal("pert", status, errors.read())
 
     def check(self, deck: bytes, certificate: Iterable[bytes]) -> str:
         """Returns the line of `pert_check`: `certified 6`, or `not certified line 9 reason 4`.
@@ -130,7 +130,7 @@ class Programs:
                 status = running.wait()
             if status not in (0, 6):
                 errors.seek(0)
-                raise ProgramError(_refusal("pert_check", status, errors.read()))
+                raise _refusal("pert_check", status, errors.read())
         return answer.decode().rstrip("\n")
 
 
@@ -149,7 +149,7 @@ def _feed(pipe: IO[bytes], texts: Iterable[bytes]) -> None:
         pass  # it has ended
 
 
-def _refusal(name: str, status: int, errors: bytes) -> str:
-    """Returns the line for the user when a program ends with a status other than 0."""
+def _refusal(name: str, status: int, errors: bytes) -> ProgramError:
+    """Returns the error, with the line for the user, of a program that ends with another status."""
     line = errors.decode("utf-8", "replace").strip("\n")
-    return line or f"{name} ended with status {status}"
+    return ProgramError(line) if line else ProgramEndedError(f"{name} ended with status {status}")

@@ -38,6 +38,11 @@ def _folder_states(folder: Path, programs: Programs) -> list[ProjectState]:
 
 def _decks(folder: Path) -> Iterator[Path]:
     for path in sorted(folder.glob("*.csv")):
-        with path.open("rb") as file:
-            if file.read(16).startswith(FIRST_BYTES):
-                yield path
+        if is_deck(path):
+            yield path
+
+
+def is_deck(path: Path) -> bool:
+    """Says whether a file begins as a deck does."""
+    with path.open("rb") as file:
+        return file.read(16).startswith(FIRST_BYTES)

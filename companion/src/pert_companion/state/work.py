@@ -67,6 +67,10 @@ class Work:
         """Returns the curve, from the longest length down."""
         return tuple(self.programs.curve(self.network))
 
+    def take_curve(self, curve: tuple[results.Breakpoint, ...]) -> None:
+        """Keeps the curve that somebody has asked another program for."""
+        self.__dict__["curve"] = curve
+
     @property
     def longest(self) -> int:
         """Returns the length at which nothing is shortened."""
@@ -149,12 +153,16 @@ class Work:
         """Returns what a network made from this one loads in each period of so many units."""
         return self.programs.load(network, period)
 
+    def certificate(self) -> Iterator[bytes]:
+        """Yields the certificate of the curve in parts, as `pert certify` prints it."""
+        return self.programs.certify(self.text)
+
     def segments(self) -> Iterator[Segment]:
         """Yields the segments of the certificate as they are found, from the longest length down.
 
         Nothing more is computed when the caller stops.
         """
-        return segments(self.programs.certify(self.text))
+        return segments(self.certificate())
 
     def certified(self, lengths: Collection[int], listen: Callable[[bytes], None]) -> str:
         """Returns what `pert_check` says of the certificate. `listen` gets its parts as they come.
@@ -167,7 +175,7 @@ class Work:
         return answer
 
     def _heard(self, reader: PointReader, listen: Callable[[bytes], None]) -> Iterator[bytes]:
-        for part in self.programs.certify(self.text):
+        for part in self.certificate():
             reader.take(part)
             listen(part)
             yield part
