@@ -9,6 +9,7 @@ from starlette.requests import Request
 
 from pert_companion import VERSION
 from pert_companion.analysis.lengths import longest_by
+from pert_companion.analysis.sureness import sureness
 from pert_companion.desk import answers, bookings, handing, imports, states, views
 from pert_companion.desk.amounts import read_day
 from pert_companion.desk.changes import changes_between
@@ -176,8 +177,12 @@ def length(desk: Desk, request: Request, _body: Body) -> Json:
     with found.lock:
         state, version = found.state, found.version
     day = read_day(request.query_params.get("by", ""))
-    units = _units(request) if day is None else longest_by(state.rest, day)
-    return views.length_json(state, views.nearest_length(state.rest, units), version)
+    named = _units(request) if day is None else longest_by(state.rest, day)
+    units = views.nearest_length(state.rest, named)
+    sure = None
+    if request.query_params.get("chance"):
+        sure = sureness(state.rest, state.rest.point(units).durations)
+    return views.length_json(state, units, version, sure)
 
 
 def options(desk: Desk, request: Request, _body: Body) -> Json:
