@@ -185,6 +185,10 @@ class Page:
         logged = [event["entry"]["text"] for event in self._own("Log.entryAdded")]
         return written + thrown + logged
 
+    def events(self, method: str) -> list[dict[str, Any]]:
+        """Returns what the browser told of this tab, such as `Network.responseReceived`."""
+        return self._own(method)
+
     def requests(self) -> list[str]:
         """Returns the addresses that were asked for, the page's own included."""
         return [event["request"]["url"] for event in self._own("Network.requestWillBeSent")]

@@ -1,6 +1,4 @@
 // Asks the desk's own server, and nothing else. The addresses and what they answer are in types/desk.d.ts.
-"use strict";
-
 /** The server refused: what it said, for people, and its code. */
 export class Refused extends Error {
     /**

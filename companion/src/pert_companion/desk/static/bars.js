@@ -1,6 +1,4 @@
 // Draws bars of tasks over a time axis, with the classes and the measures of the report page's schedule.
-"use strict";
-
 import { DAY, dayText, drawing } from "./dom.js";
 
 const STEPS = [7, 14, 28]; // days between ticks, before months

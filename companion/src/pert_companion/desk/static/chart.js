@@ -1,6 +1,4 @@
 // Draws least cost by length, with the classes and the measures of the report page's chart.
-"use strict";
-
 import { dayText, drawing, grouped } from "./dom.js";
 
 const HEIGHT = 220;
@@ -25,7 +23,8 @@ function scaleOf(least, most) {
 export function drawCurve(host, curve, length) {
     const points = [...curve.points].reverse();
     const hasTotal = points.some(({ work, total }) => work !== total);
-    const ticks = scaleOf(...rangeOf([...points.flatMap(({ work, total }) => [Number(work), Number(total)]), Number(length.work)]));
+    const amounts = [length, ...points].flatMap(({ work, total }) => [Number(work), Number(total)]);
+    const ticks = scaleOf(Math.min(...amounts), Math.max(...amounts));
     const [low, high] = [ticks[0], ticks[ticks.length - 1]];
     const span = curve.longest - curve.shortest || 1;
     const x = (units) => (units - curve.shortest) / span;
@@ -48,11 +47,6 @@ export function drawCurve(host, curve, length) {
     drawLengths(plot, points, x);
     host.setAttribute("aria-label", `Least cost by length: ${length.days} days cost ${length.work}`);
     host.replaceChildren(labels, plot);
-}
-
-/** @returns {[number, number]} */
-function rangeOf(amounts) {
-    return [Math.min(...amounts), Math.max(...amounts)];
 }
 
 function drawContract(plot, { units, name }, x) {

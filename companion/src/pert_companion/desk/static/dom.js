@@ -1,6 +1,4 @@
 // Makes elements, and writes dates and counts as words.py does.
-"use strict";
-
 const MONTHS = "Jan Feb Mar Apr May Jun Jul Aug Sep Oct Nov Dec".split(" ");
 const DRAWING = "http://www.w3.org/2000/svg";
 export const DAY = 86400000; // milliseconds
@@ -38,6 +36,19 @@ function put(made, attributes, children) {
     }
     made.append(...children);
     return made;
+}
+
+/** Returns a function that runs another one with the next frame, once however often it is asked. */
+export function onFrame(run) {
+    let isAsked = false;
+    const draw = () => {
+        isAsked = false;
+        run();
+    };
+    return () => {
+        if (!isAsked) requestAnimationFrame(draw);
+        isAsked = true;
+    };
 }
 
 /** Returns a name of a user's file, kept apart from the direction of the text around it. */

@@ -1,6 +1,4 @@
 // Lets files be dropped on a zone: they are chosen in its input, as if somebody had chosen them there. Elsewhere a dropped file opens nothing.
-"use strict";
-
 for (const name of ["dragover", "drop"]) document.addEventListener(name, (event) => event.preventDefault());
 
 for (const zone of document.querySelectorAll("[data-drop]")) {

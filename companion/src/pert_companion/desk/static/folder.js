@@ -1,6 +1,4 @@
 // The page of the folder: its projects as the portfolio's page has them, filled in as they are computed, and the import of planners' files.
-"use strict";
-
 import { Gone, Refused, get, post, upload } from "./api.js";
 import { $, dayText, element, plural, setText, table, title } from "./dom.js";
 import "./drop.js";
@@ -13,6 +11,7 @@ const AT_ONCE = 3; // rows that are asked for at the same time
 const lines = new Map();
 /** @type {PortfolioRow["heads"]} */
 let heads = [];
+let latest = { file: null, more: {} }; // what was imported last
 
 // ---- Projects
 
@@ -123,8 +122,9 @@ function optionsOf() {
     return Object.fromEntries(all.filter(([, value]) => value !== ""));
 }
 
-// Sends a file, and follows its import.
+// Sends a file, or names one of the folder, and follows its import.
 async function begin(file, more = {}) {
+    latest = { file, more };
     $("outcome").hidden = false;
     setText($("outcome-name"), file === null ? "Import" : `Import of ${file.name}`);
     $("outcome-name").focus();
@@ -140,9 +140,12 @@ async function shown(run) {
     }
 }
 
+// Says why there is no project. Often an option is missing, so the options are opened.
 function fail(text) {
     $("working").hidden = true;
-    $("found").replaceChildren(element("p", { class: "hint warn" }, text));
+    const again = element("button", { type: "button", class: "strong", onclick: () => begin(latest.file, latest.more) }, "Try again with these options");
+    $("found").replaceChildren(element("p", { class: "hint warn" }, text), element("p", { class: "buttons" }, again));
+    $("more").open = true;
     setText($("said"), text);
 }
 

@@ -6,43 +6,17 @@
 //     grid.redraw();       // after what they show changed
 //
 // The focus stays at the grid itself, whose `aria-activedescendant` names the cell, so no row takes it along when it is scrolled out of view.
-"use strict";
-
-import { element } from "./dom.js";
+import { element, onFrame } from "./dom.js";
 
 const ROW = 30; // pixels, as desk.css has it
 const MARGIN = 8; // rows above and below those in view
 const STEPS = { ArrowUp: [-1, 0], ArrowDown: [1, 0], ArrowLeft: [0, -1], ArrowRight: [0, 1], PageUp: [-15, 0], PageDown: [15, 0] };
 let grids = 0;
 
-/**
- * @typedef {object} Column
- * @property {string} key
- * @property {string} head
- * @property {string} [hint] what the heading means
- * @property {number} width in pixels
- * @property {number} [grow] its share of what the window is wider than all columns
- * @property {string} [kind] its class: name, text, number or bars
- * @property {(row: any) => string} [text] what is shown
- * @property {(row: any, cell: HTMLElement) => void} [draw] draws what is more than a text
- * @property {(row: any) => string | null} [input] what an editor begins with, or null if the cell cannot be edited
- */
-
-/**
- * @typedef {object} Wishes
- * @property {string} name
- * @property {Column[]} columns
- * @property {(row: any) => string} [rowClass]
- * @property {(row: any, key: string) => string} [cellClass]
- * @property {(row: any, key: string) => string} [note] what is said at a cell, such as why an edit was refused
- * @property {(row: any, column: Column, text: string) => void} [edit]
- * @property {(row: any) => void} [open] what Enter does at a cell that cannot be edited
- */
-
 export class Grid {
     /**
      * @param {HTMLElement} host an empty element, which scrolls
-     * @param {Wishes} wishes
+     * @param {GridWishes} wishes
      */
     constructor(host, wishes) {
         this.host = host;
@@ -54,7 +28,7 @@ export class Grid {
         this.lines = new Map(); // those in the page, by the place of the row
         this.at = { row: 0, column: 0 };
         this.editor = null;
-        this.isAsked = false;
+        this.ask = onFrame(() => this.draw());
         grids += 1;
         this.id = `grid${grids}`;
         this.head = element("div", { class: "entry entry-head", role: "row", "aria-rowindex": 1 });
@@ -68,7 +42,7 @@ export class Grid {
         this.listen();
     }
 
-    /** Shows other columns. @param {Column[]} columns */
+    /** Shows other columns. @param {GridColumn[]} columns */
     setColumns(columns) {
         this.close(true);
         this.columns = columns;
@@ -90,13 +64,13 @@ export class Grid {
     }
 
     listen() {
-        this.host.addEventListener("scroll", () => this.ask());
+        this.host.addEventListener("scroll", this.ask);
         this.host.addEventListener("keydown", (event) => this.press(event));
         this.host.addEventListener("mousedown", (event) => this.point(event));
         this.host.addEventListener("dblclick", () => this.act());
         this.host.addEventListener("focus", () => this.mark());
-        new ResizeObserver(() => this.ask()).observe(this.host);
-        addEventListener("beforeprint", () => this.draw(0, this.rows.length - 1));
+        new ResizeObserver(this.ask).observe(this.host);
+        addEventListener("beforeprint", () => this.draw(true));
         addEventListener("afterprint", () => this.draw());
     }
 
@@ -119,14 +93,11 @@ export class Grid {
         this.mark();
     }
 
-    ask() {
-        if (!this.isAsked) requestAnimationFrame(() => this.draw());
-        this.isAsked = true;
-    }
-
     /** Draws the rows that came into view, and removes those that left it. The row with the keyboard stays. */
-    draw(first = this.firstInView(), last = this.lastInView()) {
-        this.isAsked = false;
+    draw(isAll = false) {
+        const { scrollTop, clientHeight } = this.host;
+        const first = isAll ? 0 : Math.max(0, Math.floor(scrollTop / ROW) - MARGIN);
+        const last = isAll ? this.rows.length - 1 : Math.min(this.rows.length - 1, Math.ceil((scrollTop + clientHeight) / ROW) + MARGIN);
         const wanted = new Set([this.at.row, ...Array.from({ length: Math.max(0, last - first + 1) }, (_, at) => first + at)]);
         for (const [at, line] of this.lines) {
             if (wanted.has(at) && at < this.rows.length) continue;
@@ -138,15 +109,7 @@ export class Grid {
         this.mark();
     }
 
-    firstInView() {
-        return Math.max(0, Math.floor(this.host.scrollTop / ROW) - MARGIN);
-    }
-
-    lastInView() {
-        return Math.min(this.rows.length - 1, Math.ceil((this.host.scrollTop + this.host.clientHeight) / ROW) + MARGIN);
-    }
-
-    // Adds the line of a row in the order of rows, as a screen reader reads them.
+    // Adds the line of a row, in the order in which a screen reader reads them.
     add(at) {
         const line = element("div", { role: "row" });
         line.style.top = `${at * ROW}px`;
@@ -228,22 +191,16 @@ export class Grid {
 
     press(event) {
         if (event.target !== this.host || event.altKey || event.metaKey) return;
-        const isHandled = event.ctrlKey ? this.pressControl(event.key) : this.pressKey(event.key);
-        if (isHandled) event.preventDefault();
+        if (this.pressKey(event.key, event.ctrlKey)) event.preventDefault();
     }
 
-    pressControl(key) {
-        if (key === "Home") this.go(0, 0);
-        else if (key === "End") this.go(this.rows.length - 1, this.columns.length - 1);
-        else return false;
-        return true;
-    }
-
-    pressKey(key) {
+    // Returns whether a key has a meaning here.
+    pressKey(key, hasControl) {
         const step = STEPS[key];
-        if (step !== undefined) this.go(this.at.row + step[0], this.at.column + step[1]);
-        else if (key === "Home") this.go(this.at.row, 0);
-        else if (key === "End") this.go(this.at.row, this.columns.length - 1);
+        if (key === "Home") this.go(hasControl ? 0 : this.at.row, 0);
+        else if (key === "End") this.go(hasControl ? this.rows.length - 1 : this.at.row, this.columns.length - 1);
+        else if (hasControl) return false;
+        else if (step !== undefined) this.go(this.at.row + step[0], this.at.column + step[1]);
         else if (key === "Enter" || key === "F2") this.act();
         else if (key === "Delete" || key === "Backspace") return this.open("");
         else if (key.length === 1 && key !== " ") return this.open(key);
@@ -280,16 +237,11 @@ export class Grid {
 
     pressInEditor(event) {
         if (event.key === "Escape") this.close(false);
-        else if (event.key === "Enter") this.leave(event.shiftKey ? -1 : 1, 0);
+        else if (event.key === "Enter") this.go(this.at.row + (event.shiftKey ? -1 : 1));
         else if (event.key === "Tab") this.next(event.shiftKey ? -1 : 1);
         else return;
         event.preventDefault();
         event.stopPropagation();
-    }
-
-    leave(rows, columns) {
-        this.close(true);
-        this.go(this.at.row + rows, this.at.column + columns);
     }
 
     // Goes on to the next cell that can be edited, in this row or another one, and opens it.

@@ -1,6 +1,4 @@
 // Panels that keep the project or hand it on: states, comparison, exports, certificate, check, changes and history, vouchers.
-"use strict";
-
 import { Gone, Refused, get, post, upload } from "./api.js";
 import { $, dayText, element, plural, setText, table, title } from "./dom.js";
 
@@ -161,7 +159,7 @@ export class HistoryPanel {
     /** @param {import("./model.js").Desk} desk */
     constructor(desk) {
         this.desk = desk;
-        $("revert").addEventListener("click", () => desk.add({ path: "/revert", body: {}, text: "take all changes back" }));
+        $("revert").addEventListener("click", () => desk.do("revert"));
     }
 
     async draw() {

@@ -1,6 +1,4 @@
 // The chosen length: the line of figures above all panels, and the panel with the curve, certain lengths and all breakpoints.
-"use strict";
-
 import { get } from "./api.js";
 import { drawCurve } from "./chart.js";
 import { $, dayText, element, grouped, plural, setText, table } from "./dom.js";

@@ -2,21 +2,11 @@
 // waits, also when the tab is loaded again: nothing is lost because the server ended or another tab was faster.
 //
 // Events: `project` (all is new), `rows`, `length`, `schedule`, `steps` (something waits, or was done), `trouble`.
-"use strict";
-
 import { Gone, Refused, get, latest, post } from "./api.js";
 
 const RETRY = 2000; // milliseconds until a server that did not answer is asked again
 const LOOK = 4000; // milliseconds between questions for changes by others
 const STOPS = ["conflict", "changed-outside", "no-access"];
-
-/**
- * @typedef {object} Step
- * @property {string} path
- * @property {Record<string, any>} body
- * @property {string} text what it does, for people
- * @property {string} [cell] the cell that it came from
- */
 
 export class Desk extends EventTarget {
     /** @param {string} id */
@@ -32,16 +22,17 @@ export class Desk extends EventTarget {
         this.dated = new Map();
         /** @type {number | null} */
         this.chosen = null; // units, or null for the longest: then edits move the end
-        /** @type {Step[]} */
+        /** @type {DeskStep[]} */
         this.steps = [];
         this.pending = new Map(); // what was written in cells, until it is answered
         this.faults = new Map(); // why the latest edit of a cell was refused, and what was written
-        /** @type {{kind: string, text: string, changes: Change[], diff: string} | null} */
+        /** @type {DeskTrouble | null} */
         this.trouble = null;
         this.isBusy = false;
         this.said = ""; // what was done last, or why not
         this.askLength = latest((units) => this.readLength(units));
         this.askSchedule = latest(() => this.readSchedule());
+        this.askChance = latest((units) => this.readChance(units));
     }
 
     tell(name) {
@@ -72,7 +63,20 @@ export class Desk extends EventTarget {
 
     takeSchedule(schedule) {
         this.dated = new Map(schedule.tasks.map((task) => [task.code, task]));
+        const isSame = this.length?.units === schedule.length.units && this.length.version === schedule.version;
+        if (isSame && this.length.chance !== null) return;
         this.length = schedule.length;
+        this.askChance(schedule.length.units);
+    }
+
+    // Asks for the chance of a length, which takes longer than the other figures.
+    async readChance(units) {
+        await this.reading(async () => {
+            const found = await get(`${this.base}/length?length=${units}&chance=1`);
+            if (found.units !== this.length.units || found.version !== this.length.version) return;
+            this.length = found;
+            this.tell("length");
+        });
     }
 
     /** @returns {WorkRow[]} */
@@ -91,9 +95,11 @@ export class Desk extends EventTarget {
     }
 
     /** Chooses the longest length that ends on a day or before. */
-    async chooseDay(day) {
-        const found = await get(`${this.base}/length?by=${encodeURIComponent(day)}`);
-        await this.choose(found.units);
+    chooseDay(day) {
+        return this.reading(async () => {
+            const found = await get(`${this.base}/length?by=${encodeURIComponent(day)}`);
+            await this.choose(found.units);
+        });
     }
 
     async readLength(query) {
@@ -147,19 +153,12 @@ export class Desk extends EventTarget {
         this.add({ path: "/edits", body: { edits: [edit] }, text });
     }
 
-    undo() {
-        this.add({ path: "/undo", body: {}, text: "undo" });
+    /** Does what has no more to it than its name. @param {"undo" | "redo" | "save" | "revert"} name */
+    do(name) {
+        this.add({ path: `/${name}`, body: {}, text: name });
     }
 
-    redo() {
-        this.add({ path: "/redo", body: {}, text: "redo" });
-    }
-
-    save() {
-        this.add({ path: "/save", body: {}, text: "save" });
-    }
-
-    /** Lets a step follow those that wait. @param {Step} step */
+    /** Lets a step follow those that wait. @param {DeskStep} step */
     add(step) {
         this.steps.push(step);
         this.keep();
@@ -179,7 +178,7 @@ export class Desk extends EventTarget {
         this.isBusy = false;
     }
 
-    /** @param {Step} step */
+    /** @param {DeskStep} step */
     async send(step) {
         try {
             const versioned = { ...step.body, version: this.project.version, ...(this.chosen === null ? {} : { length: this.chosen }) };
@@ -213,7 +212,8 @@ export class Desk extends EventTarget {
         if (answer.files !== undefined) this.said = `Saved ${answer.files.join(" and ")}.`;
         if (answer.changes === undefined) return;
         this.said = saidOf(answer.changes);
-        if (answer.curve === null) {
+        const isOfProject = answer.changes.some(({ task }) => task === ""); // the data date or the price of time
+        if (answer.curve === null || isOfProject) {
             await this.load();
             return;
         }
@@ -233,7 +233,7 @@ export class Desk extends EventTarget {
         const { version, changes = [], outside } = error.error;
         if (error.code === "changed-outside") this.stop("outside", outside?.fault || error.message, outside?.changes, outside?.diff);
         else if (error.code === "no-access") this.stop("no-access", "pert-desk was started again. Open the address that it printed in this browser, then try again.");
-        else if (error.code === "conflict") this.stop("conflict", error.message, changes);
+        else if (error.code === "conflict") this.stop("conflict", "Another window changed this project. This page shows it as it is now.", changes);
         else this.say(error.message);
         if (error.code === "conflict" && version !== this.project?.version) this.reading(() => this.load());
     }

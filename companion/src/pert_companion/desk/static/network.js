@@ -1,7 +1,5 @@
 // Draws tasks and links as a network: each task to the right of all that it comes after. Only what is in view is in the page.
-"use strict";
-
-import { dayText, drawing, element } from "./dom.js";
+import { dayText, drawing, onFrame } from "./dom.js";
 
 const BOX = { width: 168, height: 46 };
 const STEP = { x: 216, y: 62 };
@@ -71,23 +69,22 @@ export class Network {
         this.scale = 1;
         /** @type {string | null} */
         this.at = null;
-        this.isAsked = false;
         this.links = drawing("g");
         this.boxes = drawing("g");
         this.svg = drawing("svg", { role: "img", "aria-label": "Network of the tasks" }, this.links, this.boxes);
         host.append(this.svg);
-        host.addEventListener("scroll", () => this.ask());
+        host.addEventListener("scroll", onFrame(() => this.draw()));
         host.addEventListener("keydown", (event) => this.press(event));
         host.addEventListener("click", (event) => this.point(event));
         host.addEventListener("dblclick", () => this.at !== null && this.open(this.at));
-        new ResizeObserver(() => this.ask()).observe(host);
+        new ResizeObserver(onFrame(() => this.draw())).observe(host);
         addEventListener("beforeprint", () => this.draw(true));
         addEventListener("afterprint", () => this.draw());
     }
 
     /**
      * Shows tasks: `links` has, for each, the keys of those before.
-     * @param {{key: string, name: string, start: string, finish: string, note: string, isCritical: boolean, isDone: boolean, before: string[]}[]} tasks
+     * @param {NetworkTask[]} tasks
      */
     show(tasks) {
         const links = new Map(tasks.map(({ key }) => [key, { before: [], after: [] }]));
@@ -124,13 +121,7 @@ export class Network {
         this.draw();
     }
 
-    ask() {
-        if (!this.isAsked) requestAnimationFrame(() => this.draw());
-        this.isAsked = true;
-    }
-
     draw(all = false) {
-        this.isAsked = false;
         const { scrollLeft, scrollTop, clientWidth, clientHeight } = this.host;
         const [left, right] = [scrollLeft / this.scale - MARGIN, (scrollLeft + clientWidth) / this.scale + MARGIN];
         const [top, bottom] = [scrollTop / this.scale - MARGIN, (scrollTop + clientHeight) / this.scale + MARGIN];

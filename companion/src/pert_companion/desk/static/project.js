@@ -1,6 +1,4 @@
 // The page of a project: its panels, the keys that hold everywhere, and the line that says what was done.
-"use strict";
-
 import { HistoryPanel, Hand, StatesPanel, Vouchers, changeTable, diffOf } from "./hand.js";
 import { Figures, Lengths } from "./length.js";
 import { Desk } from "./model.js";
@@ -113,6 +111,7 @@ function drawSteps() {
     if (project === null) return;
     $("undo").disabled = !project.can_undo;
     $("redo").disabled = !project.can_redo;
+    $("main").setAttribute("aria-busy", String(steps.length > 0));
     const isSaved = project.version === project.saved_version && steps.length === 0;
     $("save").disabled = isSaved;
     const waiting = steps.length > 0 && desk.trouble !== null ? `${plural(steps.length, "edit")} not sent` : "not saved yet";
@@ -138,7 +137,7 @@ function drawTrouble() {
     const waiting = steps.length > 0 ? ` ${steps.length === 1 ? "This waits" : "These wait"} and ${steps.length === 1 ? "is" : "are"} not lost: ${steps.map(({ text }) => text).join("; ")}.` : "";
     const choices = steps.length === 0 && trouble.kind === "conflict" ? [["Go on", () => desk.resume()]] : CHOICES[trouble.kind];
     const buttons = choices.map(([text, act]) => element("button", { type: "button", onclick: act }, text));
-    const parts = [element("p", {}, trouble.text + waiting)];
+    const parts = [element("p", {}, trouble.text.replace(/[.]?$/, ".") + waiting)];
     if (trouble.changes.length > 0) parts.push(element("details", { open: trouble.changes.length < 4 }, element("summary", {}, "What others changed"), changeTable("Changed by others", trouble.changes)));
     if (trouble.diff) parts.push(element("details", {}, element("summary", {}, "Difference line by line"), diffOf(trouble.diff)));
     $("trouble").replaceChildren(...parts, element("p", { class: "buttons" }, ...buttons));
@@ -146,7 +145,7 @@ function drawTrouble() {
 
 // ---- Keys and buttons
 
-for (const [id, act] of [["undo", () => desk.undo()], ["redo", () => desk.redo()], ["save", () => desk.save()]]) $(id).addEventListener("click", act);
+for (const name of /** @type {const} */ (["undo", "redo", "save"])) $(name).addEventListener("click", () => desk.do(name));
 $("data-date").addEventListener("change", () => {
     const day = $("data-date").value;
     if (day) desk.editProject({ kind: "data-date", day }, `data date ${day}`);
@@ -159,10 +158,10 @@ addEventListener("keydown", (event) => {
     if (!(event.ctrlKey || event.metaKey) || event.altKey) return;
     const key = event.key.toLowerCase();
     const isText = event.target instanceof HTMLInputElement && event.target.type !== "range" && event.target.type !== "checkbox";
-    if (key === "s") desk.save();
+    if (key === "s") desk.do("save");
     else if (isText) return;
-    else if (key === "z" && !event.shiftKey) desk.undo();
-    else if ((key === "z" && event.shiftKey) || key === "y") desk.redo();
+    else if (key === "z" && !event.shiftKey) desk.do("undo");
+    else if ((key === "z" && event.shiftKey) || key === "y") desk.do("redo");
     else return;
     event.preventDefault();
 });

@@ -1,18 +1,6 @@
 // The rows of the tables: groups and tasks with their dates, as filtered and folded; and the columns that tables share.
-"use strict";
-
 import { dayText, element, title } from "./dom.js";
 import { drawAxis, drawBars, Axis } from "./bars.js";
-
-/**
- * @typedef {object} Row
- * @property {string} key
- * @property {string} name
- * @property {number} level
- * @property {WorkRow | null} task null for a group
- * @property {Dated | undefined} dated
- * @property {boolean} isFolded
- */
 
 /**
  * Returns the rows that are shown: those that a filter takes, with their groups, without what is folded.
@@ -21,9 +9,9 @@ import { drawAxis, drawBars, Axis } from "./bars.js";
  * @param {Set<string>} folded
  */
 export function rowsOf(desk, takes, folded) {
-    /** @type {Row[]} */
+    /** @type {GridRow[]} */
     const found = [];
-    /** @type {Row[]} */
+    /** @type {GridRow[]} */
     let above = []; // groups of the row at hand, of which none is shown yet
     let hidden = Infinity; // the level of the folded group above
     desk.project.rows.forEach((row, at) => {
@@ -45,7 +33,7 @@ export function rowsOf(desk, takes, folded) {
     return found;
 }
 
-/** Returns the class of a row, as the report's schedule has it. @param {Row} row */
+/** Returns the class of a row, as the report's schedule has it. @param {GridRow} row */
 export function rowClass({ task, dated }) {
     if (task === null) return "group";
     const isCritical = dated?.is_critical && task.state !== "finished";
@@ -57,10 +45,10 @@ export function nameColumn(fold) {
     return {
         key: "name",
         head: "Task",
-        width: matchMedia("(max-width: 560px)").matches ? 132 : 250,
+        width: matchMedia("(max-width: 560px)").matches ? 132 : 230,
         grow: 1,
         kind: "name",
-        draw: (/** @type {Row} */ row, cell) => {
+        draw: (/** @type {GridRow} */ row, cell) => {
             cell.classList.add(`level${Math.min(row.level, 8)}`);
             if (row.task === null) cell.append(foldButton(row, fold));
             cell.append(title(row.name));
@@ -68,7 +56,7 @@ export function nameColumn(fold) {
             cell.title = [row.name, ...notes].join("\n");
             if (row.task?.state === "finished" || row.task?.state === "begun") cell.append(element("span", { class: "state" }, ` ${row.task.state}`));
         },
-        input: (/** @type {Row} */ row) => (row.task?.editable.includes("name") ? row.task.name : null),
+        input: (/** @type {GridRow} */ row) => (row.task?.editable.includes("name") ? row.task.name : null),
     };
 }
 
@@ -78,11 +66,19 @@ function foldButton(row, fold) {
     return element("button", { type: "button", class: "fold", tabindex: -1, "aria-label": name, onclick: () => fold(row.key) }, text);
 }
 
-/** The columns of a schedule: dates and float. */
+// Draws the days of a task at the chosen length, and by how many it is shortened.
+function drawDays({ dated }, cell) {
+    if (dated === undefined) return;
+    cell.append(dated.duration);
+    if (Number(dated.shortened) > 0) cell.append(element("small", { class: "shorter" }, ` \u2212${dated.shortened}`));
+}
+
+/** The columns of a schedule: days at the chosen length, dates and float. */
 export function dateColumns() {
     return [
-        { key: "start", head: "Start", width: 108, text: ({ dated }) => (dated ? dayText(dated.start) : "") },
-        { key: "finish", head: "Finish", width: 108, text: ({ dated }) => (dated ? dayText(dated.finish) : "") },
+        { key: "duration", head: "Days", hint: "Days of work at the chosen length, and by how many that is shortened", width: 64, kind: "number", draw: drawDays },
+        { key: "start", head: "Start", width: 102, text: ({ dated }) => (dated ? dayText(dated.start) : "") },
+        { key: "finish", head: "Finish", width: 102, text: ({ dated }) => (dated ? dayText(dated.finish) : "") },
         { key: "float", head: "Float", hint: "Total float: days that the task can wait", width: 58, kind: "number float", text: ({ dated, task }) => (dated && task.state !== "finished" ? dated.float : "") },
     ];
 }
@@ -97,7 +93,7 @@ export class Bars {
     }
 
     column(width, grow = 0) {
-        return { key: "bars", head: "", width, grow, kind: "bars", draw: (/** @type {Row} */ row, cell) => drawBars(cell, this.axis, this.barsOf(row), this.lines) };
+        return { key: "bars", head: "", width, grow, kind: "bars", draw: (/** @type {GridRow} */ row, cell) => drawBars(cell, this.axis, this.barsOf(row), this.lines) };
     }
 
     /** Takes the days of the schedule, and draws the axis into the heading. @param {import("./grid.js").Grid} grid */
@@ -112,7 +108,7 @@ export class Bars {
         drawAxis(head, this.axis, project.data_date);
     }
 
-    /** @param {Row} row */
+    /** @param {GridRow} row */
     barsOf({ task, dated }) {
         if (task === null || dated === undefined) return [];
         const { start, finish } = dated;

@@ -1,18 +1,11 @@
 // The table of tasks, which is edited in place; the Gantt chart, which is the same rows with long bars; and the table of progress.
-"use strict";
-
 import { $, dayText, plural } from "./dom.js";
 import { Grid } from "./grid.js";
 import { Bars, dateColumns, nameColumn, rowClass, rowsOf } from "./rows.js";
 
-/**
- * A column that is edited: key, heading, its meaning, width and class.
- * @typedef {[Field, string, string, number, string]} EditedColumn
- */
-
 /** @type {EditedColumn[]} */
 const FIELDS = [
-    ["links", "After", "The tasks that come before, as DIG or DIGSS+2d", 132, "text"],
+    ["links", "After", "The tasks that come before, as DIG or DIGSS+2d", 118, "text"],
     ["normal", "Normal", "Normal duration in days", 70, "number"],
     ["shortest", "Shortest", "Shortest duration in days", 74, "number"],
     ["price", "A day less", "What the first day less costs", 84, "number"],
@@ -31,9 +24,8 @@ const PROGRESS = ["percent", "actual_start", "actual_finish", "remaining"];
 const SETS = { plan: PLAN, progress: PROGRESS, estimates: ESTIMATES, all: FIELDS.map((field) => field[0]) };
 const DATES = ["actual_start", "actual_finish"];
 const MONEY = ["price", "cost"];
-/** Pixels of a day in the Gantt chart, and of all days at most. */
-const ZOOMS = { fit: 0, weeks: 6, days: 22 };
-const WIDEST = 12000;
+const ZOOMS = { fit: 0, weeks: 6, days: 22 }; // pixels of a day
+const WIDEST = 12000; // pixels of all days
 
 /** Returns what the editor of a field begins with. @param {WorkRow} task @param {Field} key */
 function valueOf(task, key) {
@@ -72,10 +64,6 @@ class Rows {
         });
     }
 
-    nameColumn() {
-        return nameColumn((key) => this.fold(key));
-    }
-
     fold(key) {
         if (!this.folded.delete(key)) this.folded.add(key);
         this.draw();
@@ -88,7 +76,7 @@ class Rows {
         this.grid.show(rowsOf(this.desk, this.takes, this.folded));
     }
 
-    /** @param {EditedColumn} field @returns {import("./grid.js").Column} */
+    /** @param {EditedColumn} field @returns {GridColumn} */
     fieldColumn([key, head, hint, width, kind]) {
         return {
             key,
@@ -128,7 +116,7 @@ export class Tasks extends Rows {
         const keys = SETS[$("columns").value];
         const fields = FIELDS.filter(([key]) => keys.includes(key)).map((field) => this.fieldColumn(field));
         const number = { key: "row", head: "Row", width: 48, kind: "number", text: ({ task }) => (task?.row === null || task === null ? "" : String(task.row)) };
-        this.grid.setColumns([this.nameColumn(), number, ...fields, ...dateColumns(), this.bars.column(200, 2)]);
+        this.grid.setColumns([nameColumn((key) => this.fold(key)), number, ...fields, ...dateColumns(), this.bars.column(200, 2)]);
         this.draw();
     }
 
@@ -171,10 +159,9 @@ export class Gantt extends Rows {
     }
 
     setColumns() {
-        const days = { key: "duration", head: "Days", hint: "Days of work at the chosen length", width: 58, kind: "number", text: ({ dated }) => dated?.duration ?? "" };
         const each = ZOOMS[$("zoom").value];
         const bars = each === 0 ? this.bars.column(320, 3) : this.bars.column(Math.min(WIDEST, Math.round(each * this.bars.axis.days)));
-        const columns = [this.nameColumn(), days, ...dateColumns(), bars];
+        const columns = [nameColumn((key) => this.fold(key)), ...dateColumns(), bars];
         this.grid.setColumns(columns.map((column) => ({ ...column, input: undefined })));
         this.draw();
     }
@@ -185,7 +172,7 @@ export class Progress extends Rows {
     constructor(desk, host) {
         super(desk, host, "Progress of the tasks");
         const fields = FIELDS.filter(([key]) => PROGRESS.includes(key)).map((field) => this.fieldColumn(field));
-        this.grid.setColumns([this.nameColumn(), ...fields, ...dateColumns()]);
+        this.grid.setColumns([nameColumn((key) => this.fold(key)), ...fields, ...dateColumns()]);
         $("progress-only").addEventListener("change", () => {
             this.takes = $("progress-only").checked ? (task) => task.state !== "finished" : () => true;
             this.draw();
