@@ -343,7 +343,7 @@ def test_equal_stretches_are_named(tmp_path: Path) -> None:
     plan = plan_without_status()
     free = plan.replace(b"7,5,900,200", b"7,5,900,0").replace(b"END\n", b"TERMS,110,20,0,0\nEND\n")
     found = gathered_of(deck_at(tmp_path, free))
-    texts = [stretch.text for stretch in chooser.stretches(found, DAYS)]
+    texts = [stretch.text for stretch in chooser.stretches(found.state.rest, DAYS)]
     assert texts == [
         "33 to 35 days cost the same work: take 33.",
         "30 to 32 days cost the same in all: take 32, which shortens less.",

@@ -5,7 +5,7 @@ lengths the script shows tasks as the curve counts them, and says so.
 """
 
 from pert_companion.analysis.schedule import Schedule
-from pert_companion.analysis.scheduling import schedule_of
+from pert_companion.analysis.scheduling import schedule_at
 from pert_companion.page.gathering import Gathered
 
 MOST_LENGTHS = 40
@@ -24,9 +24,7 @@ def exact_dates(gathered: Gathered) -> list[tuple[int, list[TaskAt]]] | None:
     work = gathered.state.rest
     if work.side.logic is None:
         return None
-    return [
-        (length, _tasks_at(schedule_of(work, work.point(length)))) for length in _lengths(gathered)
-    ]
+    return [(length, _tasks_at(schedule_at(work, length))) for length in _lengths(gathered)]
 
 
 def _lengths(gathered: Gathered) -> list[int]:

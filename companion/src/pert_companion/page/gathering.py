@@ -24,7 +24,7 @@ from pert_companion.analysis.options import Option, chosen_option, optimal_lengt
 from pert_companion.analysis.own_baseline import own_baseline, planned_end
 from pert_companion.analysis.plausibility import Doubt, doubts
 from pert_companion.analysis.schedule import Schedule
-from pert_companion.analysis.scheduling import TaskDates, in_one_piece, normal_dates, schedule_of
+from pert_companion.analysis.scheduling import TaskDates, in_one_piece, normal_dates, schedule_at
 from pert_companion.analysis.sureness import Sureness, sureness
 from pert_companion.model.days import counted
 from pert_companion.model.errors import InputError, ProgramError
@@ -177,7 +177,7 @@ def gather(source: Source, progress: Progress) -> Gathered:
         certificate=certificate,
         answer=answer,
         length=length,
-        schedule=schedule_of(rest, rest.point(length)),
+        schedule=schedule_at(rest, length),
         today=normal_dates(rest),
         planned=planned_tasks(state, baseline),
         contract=contract,
@@ -197,7 +197,7 @@ def _broken_dates(rest: Work) -> tuple[str, ...]:
     """Returns a line for each latest date of a task that the work breaks with nothing shortened."""
     if not any(task.constraint for task in rest.side.tasks):
         return ()
-    today = schedule_of(rest, rest.point(rest.longest))
+    today = schedule_at(rest, rest.longest)
     return tuple(broken_lines(rest.side, today.tasks))
 
 
