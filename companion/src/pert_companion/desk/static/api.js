@@ -42,29 +42,18 @@ export function upload(path, file, options = {}) {
 
 async function ask(path, wishes) {
     let answer;
-    let text;
+    let found;
     try {
         answer = await fetch(path, { ...wishes, credentials: "same-origin", cache: "no-store" });
-        text = await answer.text();
+        found = await answer.json();
     } catch {
         throw new Gone("pert-desk does not answer.");
     }
-    if (answer.ok) return text === "" ? {} : JSON.parse(text);
-    throw new Refused(answer.status, errorOf(answer, text));
+    if (answer.ok) return found;
+    throw new Refused(answer.status, found.error);
 }
 
-function errorOf(answer, text) {
-    try {
-        return JSON.parse(text).error ?? { code: "failed", message: text };
-    } catch {
-        return { code: "failed", message: `pert-desk answered ${answer.status}.` };
-    }
-}
-
-/**
- * Only the latest of several requests counts: one runs, and the latest that was asked for meanwhile runs after it.
- * @param {(wish: any) => Promise<void>} run
- */
+// Returns a function of which one call runs, and after it the latest of those that were made meanwhile.
 export function latest(run) {
     let isRunning = false;
     let waiting = null;

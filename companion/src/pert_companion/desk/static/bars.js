@@ -1,7 +1,7 @@
 // Draws bars of tasks over a time axis, with the classes and the measures of the report page's schedule.
 import { DAY, dayText, drawing } from "./dom.js";
 
-const STEPS = [7, 14, 28]; // days between ticks, before months
+const WEEKS = [1, 2, 4]; // between ticks
 const MONTHS = [1, 2, 3, 6, 12, 24, 60, 120];
 const APART = 64; // pixels between ticks
 
@@ -20,36 +20,23 @@ export class Axis {
         return (100 * ((Date.parse(day) - this.first) / DAY + after)) / this.days;
     }
 
-    /** Returns the days of ticks that have room in a width, each with a label. */
+    /** Returns the days of ticks that have room in a width, each with a label: Mondays, or first days of months. */
     ticks(width) {
         const most = Math.max(1, Math.floor(width / APART));
-        const step = STEPS.find((days) => this.days / days <= most);
-        if (step !== undefined) return this.mondays(step);
+        const weeks = WEEKS.find((count) => this.days / (7 * count) <= most);
         const months = MONTHS.find((count) => this.days / (30.4 * count) <= most) ?? 240;
-        return this.months(months);
-    }
-
-    mondays(step) {
         const found = [];
-        const weekday = (new Date(this.first).getUTCDay() + 6) % 7;
-        for (let offset = (7 - weekday) % 7; offset < this.days; offset += step) {
-            const day = new Date(this.first + offset * DAY).toISOString();
-            found.push({ day, label: dayText(day).split(" ").slice(0, 2).join(" ") });
+        for (let offset = 0; offset < this.days; offset += 1) {
+            const day = new Date(this.first + offset * DAY);
+            const monday = Math.floor(day.getTime() / DAY) + 3; // a multiple of 7 on Mondays
+            const month = 12 * day.getUTCFullYear() + day.getUTCMonth();
+            const isTick = weeks === undefined ? day.getUTCDate() === 1 && month % months === 0 : monday % (7 * weeks) === 0;
+            if (!isTick) continue;
+            const [number, name, year] = dayText(day.toISOString()).split(" ");
+            const label = weeks === undefined ? (month % 12 === 0 ? year : name) : `${number} ${name}`;
+            found.push({ day: day.toISOString(), label });
         }
         return found;
-    }
-
-    months(step) {
-        const found = [];
-        const begin = new Date(this.first);
-        for (let month = begin.getUTCMonth() + (begin.getUTCDate() > 1 ? 1 : 0); ; month += 1) {
-            if (month % step !== 0 && step < 12) continue;
-            const at = new Date(Date.UTC(begin.getUTCFullYear(), month, 1));
-            if (at.getTime() >= this.first + this.days * DAY) return found;
-            if (step >= 12 && (at.getUTCMonth() !== 0 || at.getUTCFullYear() % (step / 12) !== 0)) continue;
-            const words = dayText(at.toISOString()).split(" ");
-            found.push({ day: at.toISOString(), label: at.getUTCMonth() === 0 ? words[2] : words[1] });
-        }
     }
 }
 

@@ -80,10 +80,7 @@ export function plural(count, word) {
 
 /**
  * Returns a table with a caption. A cell is a text or an element; columns of `numbers` are set to the right.
- * @param {string} caption
- * @param {string[]} heads
  * @param {(string | Node)[][]} rows
- * @param {number[]} [numbers]
  */
 export function table(caption, heads, rows, numbers = []) {
     const kind = (at) => (numbers.includes(at) ? "number" : at === 0 ? "" : "text");

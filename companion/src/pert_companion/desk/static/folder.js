@@ -65,10 +65,9 @@ async function fillRow(project) {
     place(project);
 }
 
-async function fillRows(projects) {
-    const waiting = projects.filter(({ row }) => row === null);
+async function fillRows(waiting) {
     const worker = async () => {
-        for (let next = waiting.shift(); next !== undefined; next = waiting.shift()) await fillRow(next);
+        while (waiting.length > 0) await fillRow(waiting.shift());
     };
     await Promise.all(Array.from({ length: AT_ONCE }, worker));
 }
@@ -100,7 +99,7 @@ async function showFolder() {
     folder.projects.forEach(place);
     drawFiles(folder.files);
     for (const { id, title: name, file } of folder.projects) $("newer").append(element("option", { value: id }, name || file));
-    await fillRows(folder.projects);
+    await fillRows(folder.projects.filter(({ row }) => row === null));
     if (folder.projects.length > 1) drawFilters(folder.projects);
     const { sums } = folder.sums === null && folder.projects.length > 1 ? await get("/api/folder") : folder;
     drawSums(sums ?? []);
@@ -117,18 +116,15 @@ function drawFiles(files) {
     $("waiting").replaceChildren(...items);
 }
 
-function optionsOf() {
-    const all = /** @type {[string, string][]} */ ([...new FormData($("options"))]);
-    return Object.fromEntries(all.filter(([, value]) => value !== ""));
-}
-
 // Sends a file, or names one of the folder, and follows its import.
 async function begin(file, more = {}) {
     latest = { file, more };
     $("outcome").hidden = false;
     setText($("outcome-name"), file === null ? "Import" : `Import of ${file.name}`);
     $("outcome-name").focus();
-    await shown(async () => follow(await upload("/api/uploads", file, { ...optionsOf(), ...more }), file?.name ?? ""));
+    const given = [.../** @type {any} */ (new FormData($("options")))].filter(([, value]) => value !== "");
+    const options = { ...Object.fromEntries(given), ...more };
+    await shown(async () => follow(await upload("/api/uploads", file, options), file?.name ?? ""));
 }
 
 async function shown(run) {

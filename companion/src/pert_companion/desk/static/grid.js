@@ -2,8 +2,7 @@
 // or F2 edits, Esc leaves a cell as it was, Tab goes on to the next cell that can be edited.
 //
 //     const grid = new Grid(host, { name: "Tasks", columns, edit: (row, column, text) => .., open: (row) => .. });
-//     grid.show(rows);     // all rows, in order
-//     grid.redraw();       // after what they show changed
+//     grid.show(rows);     // all rows, in order; again after what they show changed
 //
 // The focus stays at the grid itself, whose `aria-activedescendant` names the cell, so no row takes it along when it is scrolled out of view.
 import { element, onFrame } from "./dom.js";

@@ -154,6 +154,13 @@ export class StatesPanel {
     }
 }
 
+/** @param {HistoryStep} step */
+function stepLine(step) {
+    const parts = [element("time", {}, step.time), ` ${step.text}${step.is_undone ? " (undone)" : ""}`];
+    if (step.command) parts.push(element("code", {}, step.command));
+    return element("li", { class: step.is_undone ? "undone" : null }, ...parts);
+}
+
 /** The panel of changes and history. */
 export class HistoryPanel {
     /** @param {import("./model.js").Desk} desk */
@@ -173,17 +180,8 @@ export class HistoryPanel {
             $("revert").disabled = list.length === 0 && diff === "";
             /** @type {History} */
             const { steps } = await get(`${this.desk.base}/history`);
-            $("history").replaceChildren(this.historyOf(steps));
+            $("history").replaceChildren(element("ol", { class: "history", reversed: true }, ...steps.reverse().map(stepLine)));
         });
-    }
-
-    historyOf(steps) {
-        const lines = [...steps].reverse().map((step) => {
-            const parts = [element("time", {}, step.time), ` ${step.text}${step.is_undone ? " (undone)" : ""}`];
-            if (step.command) parts.push(element("code", {}, step.command));
-            return element("li", { class: step.is_undone ? "undone" : null }, ...parts);
-        });
-        return element("ol", { class: "history", reversed: true }, ...lines);
     }
 }
 

@@ -1,7 +1,6 @@
 // A project as this tab shows it. What is changed goes to the server one by one, each with the version that the answer before had. What cannot be sent
 // waits, also when the tab is loaded again: nothing is lost because the server ended or another tab was faster.
-//
-// Events: `project` (all is new), `rows`, `length`, `schedule`, `steps` (something waits, or was done), `trouble`.
+// Its events are `project` (all is new), `rows`, `length`, `schedule`, `steps` (something waits, or was done) and `trouble`.
 import { Gone, Refused, get, latest, post } from "./api.js";
 
 const RETRY = 2000; // milliseconds until a server that did not answer is asked again
@@ -289,13 +288,10 @@ export class Desk extends EventTarget {
             const { version, outside } = await get(`${this.base}/version`);
             if (this.isBusy || this.trouble !== null) return;
             if (outside !== null) this.stop("outside", outside.fault || "Somebody else changed the file.", outside.changes, outside.diff);
-            else if (version > this.project.version) await this.follow();
+            if (outside !== null || version <= this.project.version) return;
+            await this.load();
+            this.say("Another tab changed this project. This page shows it as it is now.");
         });
-    }
-
-    async follow() {
-        await this.load();
-        this.say("Another tab changed this project. This page shows it as it is now.");
     }
 }
 

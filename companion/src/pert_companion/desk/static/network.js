@@ -7,10 +7,7 @@ const EDGE = 24; // pixels around the drawing
 const MARGIN = 400; // pixels around the view that are drawn too
 const SWEEPS = 4;
 
-/**
- * Returns tasks by layers: a task is in the layer after the last of those that it comes after. Tasks in a circle of links are in the first layer.
- * @param {Map<string, {before: string[], after: string[]}>} links
- */
+// Returns tasks by layers: a task is in the layer after the last of those that it comes after.
 export function layersOf(links) {
     const layer = new Map();
     const waiting = new Map([...links].map(([key, { before }]) => [key, before.length]));
@@ -82,10 +79,7 @@ export class Network {
         addEventListener("afterprint", () => this.draw());
     }
 
-    /**
-     * Shows tasks: `links` has, for each, the keys of those before.
-     * @param {NetworkTask[]} tasks
-     */
+    /** Shows tasks. @param {NetworkTask[]} tasks */
     show(tasks) {
         const links = new Map(tasks.map(({ key }) => [key, { before: [], after: [] }]));
         for (const { key, before } of tasks) {

@@ -152,7 +152,6 @@ $("data-date").addEventListener("change", () => {
 });
 $("zoom-in").addEventListener("click", () => network?.zoom(network.scale * 1.25));
 $("zoom-out").addEventListener("click", () => network?.zoom(network.scale / 1.25));
-for (const host of document.querySelectorAll("main details")) host.addEventListener("toggle", () => drawPanel());
 
 addEventListener("keydown", (event) => {
     if (!(event.ctrlKey || event.metaKey) || event.altKey) return;

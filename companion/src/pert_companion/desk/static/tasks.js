@@ -18,10 +18,12 @@ const FIELDS = [
     ["actual_finish", "Finished", "The last day of work", 112, "text"],
     ["remaining", "Remaining", "Days that are left to do", 84, "number"],
 ];
-const PLAN = ["links", "normal", "shortest", "price", "cost"];
-const ESTIMATES = ["optimistic", "likely", "pessimistic"];
-const PROGRESS = ["percent", "actual_start", "actual_finish", "remaining"];
-const SETS = { plan: PLAN, progress: PROGRESS, estimates: ESTIMATES, all: FIELDS.map((field) => field[0]) };
+const SETS = {
+    plan: ["links", "normal", "shortest", "price", "cost"],
+    estimates: ["optimistic", "likely", "pessimistic"],
+    progress: ["percent", "actual_start", "actual_finish", "remaining"],
+    all: FIELDS.map((field) => field[0]),
+};
 const DATES = ["actual_start", "actual_finish"];
 const MONEY = ["price", "cost"];
 const ZOOMS = { fit: 0, weeks: 6, days: 22 }; // pixels of a day
@@ -171,7 +173,7 @@ export class Gantt extends Rows {
 export class Progress extends Rows {
     constructor(desk, host) {
         super(desk, host, "Progress of the tasks");
-        const fields = FIELDS.filter(([key]) => PROGRESS.includes(key)).map((field) => this.fieldColumn(field));
+        const fields = FIELDS.filter(([key]) => SETS.progress.includes(key)).map((field) => this.fieldColumn(field));
         this.grid.setColumns([nameColumn((key) => this.fold(key)), ...fields, ...dateColumns()]);
         $("progress-only").addEventListener("change", () => {
             this.takes = $("progress-only").checked ? (task) => task.state !== "finished" : () => true;
