@@ -16,7 +16,7 @@ from running import EXAMPLES
 
 WIDTH, HEIGHT = 1120, 640
 FILES = [EXAMPLES / "house.csv", *(EXAMPLES / "pump").glob("april.*"), EXAMPLES / "garden.xer"]
-SLIDES = "document.getElementById('work').textContent"
+WORK = "document.getElementById('work').textContent"
 
 
 def draw(folder: Path) -> None:
@@ -25,17 +25,18 @@ def draw(folder: Path) -> None:
         plans = copied(Path(scratch) / "projects", FILES)
         with DeskProcess(plans) as desk, Browser() as browser:
             page = folder_page(browser, desk, WIDTH, HEIGHT)
-            picture(page, folder / "folder.png")
+            picture(page, folder / "desk-folder.png")
             import_plan(page, folder)
             draw_project(page, folder)
 
 
 def import_plan(page: Page, folder: Path) -> None:
     """Imports the plan of the tutorial, and opens it."""
+    fill(page, "[name='name']", "Refit of a flat")
     choose(page, "#file", EXAMPLES / "sheet.csv")
     page.wait("document.getElementById('make') !== null")
     page.run("document.getElementById('outcome').scrollIntoView()")
-    picture(page, folder / "import.png")
+    picture(page, folder / "desk-import.png")
     fill(page, "#found p.buttons input", "refit")
     click(page, "#make")
     page.wait("document.querySelector('#found a.button') !== null")
@@ -45,7 +46,7 @@ def import_plan(page: Page, folder: Path) -> None:
 def draw_project(page: Page, folder: Path) -> None:
     """Draws the panels of a project at 40 days, after an edit."""
     fill(page, "#days", "40")
-    page.wait(f"{SLIDES} === '52,010'")
+    page.wait(f"{WORK} === '52,010'")
     page.run("document.getElementById('tasks').focus()")
     press(page, "Home", CONTROL)
     press(page, "ArrowDown", times=3)
@@ -54,10 +55,10 @@ def draw_project(page: Page, folder: Path) -> None:
     write(page, "10")
     press(page, "Enter")
     has_settled(page)
-    for name in ("tasks", "gantt", "network", "length", "status", "changes", "hand"):
+    for name in ("tasks", "gantt", "network", "length"):
         tab(page, name)
         page.run("scrollTo(0, 0)")
-        picture(page, folder / f"{name}.png")
+        picture(page, folder / f"desk-{name}.png")
 
 
 def picture(page: Page, path: Path) -> None:
