@@ -7,6 +7,7 @@ import signal
 import subprocess
 import sys
 import time
+from hashlib import sha256
 from pathlib import Path
 
 import pytest
@@ -138,6 +139,8 @@ def test_a_title_with_a_next_line_character(
 def test_the_page_that_checks_pages(tmp_path: Path, capsys: pytest.CaptureFixture[str]) -> None:
     assert run("--verify-page", tmp_path / "verify.html") == 0
     assert (tmp_path / "verify.html").read_text("utf-8") == verify_page().decode()
+    readme = (EXAMPLES.parent / "README.md").read_text("utf-8")
+    assert sha256(verify_page()).hexdigest() in readme
     assert capsys.readouterr().err.endswith("the page that checks a report or a certificate\n")
 
 
