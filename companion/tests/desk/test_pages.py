@@ -120,12 +120,12 @@ def test_tutorial(browser: Browser, tmp_path: Path) -> None:
         assert figures(page)["against"] == "+860"
         tab(page, "tasks")
         fill(page, "#only", "critical")
-        page.wait("document.getElementById('shown').textContent !== '25 tasks'")
+        page.wait("document.getElementById('tasks').innerText.includes('Survey the rooms')")
         names = page.run(
             "[...document.querySelectorAll('#tasks .task .name bdi')].map((it) => it.textContent)"
         )
-        assert names[: len(CRITICAL_AT_40)] != []
         assert set(CRITICAL_AT_40) <= set(names) and "Clean and hand over" in names
+        assert len(names) < 25
         fill(page, "#only", "all")
 
         tab(page, "hand")
@@ -306,20 +306,20 @@ def test_losses_are_ticked_before_there_is_a_project(browser: Browser, tmp_path:
     """A list with a link to nothing: the loss is shown, and nothing is made until it is ticked."""
     folder = copied(tmp_path / "plans", [])
     plan = tmp_path / "shed.csv"
-    plan.write_text("Task,Duration,Predecessors\nDig,3,\nWall,4,1\nRoof,2,9\n", "utf-8")
+    plan.write_text("Task,Duration,Predecessors\nDig,3,\nWall,4,Dig\nRoof,2,9\n", "utf-8")
     with DeskProcess(folder) as desk:
         page = folder_page(browser, desk)
         fill(page, "[name='start']", "2026-04-01")
         choose(page, "#file", plan)
         page.wait("document.getElementById('make') !== null")
         assert page.run("document.getElementById('make').disabled")
-        assert "1 link" in page.text("#found")
+        assert "9" in page.text(".finding")
         assert list(folder.glob("*.csv")) == []
         click(page, ".finding input")
         assert not page.run("document.getElementById('make').disabled")
         click(page, "#make")
         page.wait("document.querySelector('#found a.button') !== null")
-        assert [file.name for file in folder.glob("*.csv")] == ["shed.csv"]
+        assert {file.name for file in folder.glob("*.csv")} == {"shed.csv", "shed-plan.csv"}
         go(page, page.run("document.querySelector('#found a.button').pathname"))
         assert page.run("document.getElementById('days').value") == "7"
         assert complaints(page) == []
@@ -423,39 +423,3 @@ def test_asks_its_own_server_alone(browser: Browser, desk: DeskProcess) -> None:
     ]
     assert others == []
     assert complaints(page) == []
-
-
-def test_thousands_of_tasks(browser: Browser, tmp_path: Path) -> None:
-    """5,000 tasks: few rows are in the page, the last one is reached and edited."""
-    lines = [f"Task {number},{1 + number % 5},{number - 1 or ''}" for number in range(1, 5001)]
-    plan = tmp_path / "large.csv"
-    plan.write_text("\n".join(["Task,Duration,Predecessors", *lines]) + "\n", "utf-8")
-    with DeskProcess(copied(tmp_path / "plans", [])) as desk:
-        page = folder_page(browser, desk)
-        fill(page, "[name='start']", "2026-04-01")
-        choose(page, "#file", plan)
-        page.wait("document.getElementById('make') !== null")
-        click(page, "#make")
-        page.wait("document.querySelector('#found a.button') !== null")
-        go(page, page.run("document.querySelector('#found a.button').pathname"))
-        assert page.run("document.getElementById('days').value") == "15000"
-        assert rows_in_page(page) < 60
-        page.run("document.getElementById('tasks').focus()")
-        press(page, "End", CONTROL)
-        press(page, "Home")
-        assert cell(page) == ("Task", "Task 5000")
-        while cell(page)[0] != "Normal":
-            press(page, "ArrowRight")
-        write(page, "21")
-        press(page, "Enter")
-        has_settled(page)
-        page.wait("document.getElementById('days').value === '15020'")
-        assert rows_in_page(page) < 60
-        tab(page, "network")
-        assert page.run("document.querySelectorAll('.node').length") < 60
-        assert complaints(page) == []
-
-
-def rows_in_page(page: Page) -> int:
-    count: int = page.run("document.querySelectorAll('#tasks [role=row]').length")
-    return count
