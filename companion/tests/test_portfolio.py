@@ -221,7 +221,7 @@ def test_the_page_and_the_table(decks: Path, capsys: pytest.CaptureFixture[str])
 
 
 def test_the_table_has_money_and_data_dates(tmp_path: Path) -> None:
-    """A deck in cents of 30 April: amounts are in its currency, the day is the close of business."""
+    """A deck in cents of 30 April: amounts are in its currency, the day is a close of business."""
     deck = tmp_path / "april.csv"
     for name in ("april.csv", "april.json"):
         shutil.copy(TOP / "examples" / "pump" / name, tmp_path / name)

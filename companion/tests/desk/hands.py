@@ -94,8 +94,12 @@ def choose(page: Page, selector: str, file: Path) -> None:
 
 def focused(page: Page) -> str:
     """Returns the id of the element that has the focus, or its name and class without one."""
-    script = "document.activeElement.id || document.activeElement.tagName + '.' + document.activeElement.className"
-    found: str = page.run(script)
+    found: str = page.run(
+        """(() => {
+        const at = document.activeElement;
+        return at.id || `${at.tagName}.${at.className}`;
+    })()"""
+    )
     return found
 
 
@@ -103,10 +107,12 @@ def cell(page: Page) -> tuple[str, str]:
     """Returns the heading and the text of the cell that the keyboard is at, in the open table."""
     found: list[str] = page.run(
         """(() => {
-        const grid = [...document.querySelectorAll("[role='grid']")].find((each) => each.offsetParent !== null);
+        const grids = [...document.querySelectorAll("[role='grid']")];
+        const grid = grids.find((each) => each.offsetParent !== null);
         const cell = document.getElementById(grid.getAttribute("aria-activedescendant"));
         const column = Number(cell.getAttribute("aria-colindex"));
-        return [grid.querySelector(`[role='columnheader'][aria-colindex='${column}']`).textContent, cell.textContent];
+        const head = grid.querySelector(`[role='columnheader'][aria-colindex='${column}']`);
+        return [head.textContent, cell.textContent];
     })()"""
     )
     return found[0], found[1]

@@ -1,4 +1,4 @@
-"""The desk in a browser: the tutorial, the keyboard, two tabs, a desk that ends, sizes of windows."""
+"""The desk in a browser: tutorial, keyboard, two tabs, a desk that ends, sizes of windows."""
 
 import signal
 import zipfile
@@ -88,46 +88,11 @@ def test_tutorial(browser: Browser, tmp_path: Path) -> None:
     with DeskProcess(folder) as desk:
         page = folder_page(browser, desk)
         assert page.text("#none") == "There is no project yet. Open a planner’s file above."
-        choose(page, "#file", SHEET)
-        page.wait("document.getElementById('make') !== null")
-        found = page.text("#found")
-        assert "25 tasks, 34 links, 21 shorter durations" in found
-        assert "the first day is 2024-03-04, the earliest start in the list" in found
-        assert "3 of 25 tasks have your planner's dates; 22 differ" in found
-        fill(page, "#found p.buttons input", "refit")
-        click(page, "#make")
-        page.wait("document.querySelector('#found a.button') !== null")
+        import_refit(page)
         assert {"refit.csv", "refit.json"} <= {file.name for file in folder.iterdir()}
         go(page, page.run("document.querySelector('#found a.button').pathname"))
-
-        assert figures(page) == {
-            "end": "3 May 2024",
-            "work": "51,150",
-            "next": "+90",
-            "against": "+0",
-        }
-        tab(page, "length")
-        points = page.run(
-            "[...document.querySelectorAll('#points tbody tr')].map((row) => row.innerText)"
-        )
-        assert [text.split("\t")[0] for text in points[:3]] == ["45 days", "44 days", "42 days"]
-        assert points[-1].split("\t")[2] == "54,830"
-
-        fill(page, "#days", "40")
-        page.wait("document.getElementById('work').textContent === '52,010'")
-        assert figures(page)["end"] == "26 Apr 2024"
-        assert figures(page)["next"] == "+320"
-        assert figures(page)["against"] == "+860"
-        tab(page, "tasks")
-        fill(page, "#only", "critical")
-        page.wait("document.getElementById('tasks').innerText.includes('Survey the rooms')")
-        names = page.run(
-            "[...document.querySelectorAll('#tasks .task .name bdi')].map((it) => it.textContent)"
-        )
-        assert set(CRITICAL_AT_40) <= set(names) and "Clean and hand over" in names
-        assert len(names) < 25
-        fill(page, "#only", "all")
-
+        read_the_curve(page)
+        choose_forty_days(page)
         tab(page, "hand")
         click(page, "[data-format='xlsx']")
         page.wait("document.querySelector('#exported a') !== null")
@@ -143,6 +108,53 @@ def test_tutorial(browser: Browser, tmp_path: Path) -> None:
         press(page, "z", CONTROL, times=2)
         page.wait("document.getElementById('work').textContent === '52,010'")
         assert complaints(page) == []
+
+
+def import_refit(page: Page) -> None:
+    """Opens the list of the tutorial, reads what the desk says of it, and makes the project."""
+    choose(page, "#file", SHEET)
+    page.wait("document.getElementById('make') !== null")
+    found = page.text("#found")
+    assert "25 tasks, 34 links, 21 shorter durations" in found
+    assert "the first day is 2024-03-04, the earliest start in the list" in found
+    assert "3 of 25 tasks have your planner's dates; 22 differ" in found
+    fill(page, "#found p.buttons input", "refit")
+    click(page, "#make")
+    page.wait("document.querySelector('#found a.button') !== null")
+
+
+def read_the_curve(page: Page) -> None:
+    """Compares the figures of the refit, and its curve, with those of the tutorial."""
+    assert figures(page) == {
+        "end": "3 May 2024",
+        "work": "51,150",
+        "next": "+90",
+        "against": "+0",
+    }
+    tab(page, "length")
+    points = page.run(
+        "[...document.querySelectorAll('#points tbody tr')].map((row) => row.innerText)"
+    )
+    assert [text.split("\t")[0] for text in points[:3]] == ["45 days", "44 days", "42 days"]
+    assert points[-1].split("\t")[2] == "54,830"
+
+
+def choose_forty_days(page: Page) -> None:
+    """Chooses 40 days, and looks at the tasks that are critical then."""
+    fill(page, "#days", "40")
+    page.wait("document.getElementById('work').textContent === '52,010'")
+    assert figures(page)["end"] == "26 Apr 2024"
+    assert figures(page)["next"] == "+320"
+    assert figures(page)["against"] == "+860"
+    tab(page, "tasks")
+    fill(page, "#only", "critical")
+    page.wait("document.getElementById('tasks').innerText.includes('Survey the rooms')")
+    names = page.run(
+        "[...document.querySelectorAll('#tasks .task .name bdi')].map((it) => it.textContent)"
+    )
+    assert set(CRITICAL_AT_40) <= set(names) and "Clean and hand over" in names
+    assert len(names) < 25
+    fill(page, "#only", "all")
 
 
 def desk_file(page: Page, path: str, target: Path) -> Path:
@@ -289,10 +301,9 @@ def test_edit_outlives_the_desk(browser: Browser, tmp_path: Path) -> None:
         other.call("Page.navigate", url=again.address)
         other.wait("location.search === '' && location.pathname === '/'")
         for _ in range(3):
-            page.wait(
-                "document.querySelector('#trouble button') !== null || document.getElementById('trouble').hidden"
-            )
-            if page.run("document.getElementById('trouble').hidden"):
+            hidden = "document.getElementById('trouble').hidden"
+            page.wait(f"document.querySelector('#trouble button') !== null || {hidden}")
+            if page.run(hidden):
                 break
             page.run("document.querySelector('#trouble button')?.click()")
             page.wait("document.getElementById('trouble').hidden || true")

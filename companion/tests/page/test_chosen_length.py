@@ -1,4 +1,4 @@
-"""What follows the chosen length: the bridge, the dates by several calendars, slack by latest dates."""
+"""What follows the chosen length: the bridge, dates by several calendars, slack by latest dates."""
 
 from collections.abc import Iterator
 from dataclasses import replace
