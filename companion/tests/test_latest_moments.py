@@ -1,4 +1,4 @@
-"""A date by which work has to end bounds late dates alone: what comes too late has negative float."""
+"""A date by which work has to end bounds late dates alone: what is too late has negative float."""
 
 from datetime import datetime
 

@@ -386,6 +386,7 @@ def test_a_file_that_is_no_plan_is_one_line(
     kind, told = desk.events(desk.drop("uploads", given / name)["upload"])[-1]
     assert kind == "failed"
     assert told["error"]["code"] == "refused" and "\n" not in told["error"]["message"]
+    assert told["error"]["message"].startswith(f"{name}: ")
     assert desk.get("folder")["name"]
 
 

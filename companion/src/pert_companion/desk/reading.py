@@ -57,13 +57,18 @@ def main() -> None:
         work = {"import": import_file, "book": book_list}[request["work"]]
         _say({"outcome": work(request, _tell)})
     except (CompanionError, OSError) as error:
-        _say({"failed": str(error)})
+        _say({"failed": _without_folder(str(error), Path(request["file"]))})
     except (ValueError, TypeError):
         _say({"failed": "this request makes no sense"})
     except MemoryError:
         _say({"failed": "this file needs more memory than the desk gives it"})
     except RecursionError:
         _say({"failed": "this file is nested too deeply"})
+
+
+def _without_folder(text: str, file: Path) -> str:
+    """Returns a fault that names the file as people know it, not where the desk keeps it."""
+    return text.replace(str(file), file.name)
 
 
 def _limit() -> None:

@@ -34,7 +34,7 @@ class Checks:
 
 
 def checks(gathered: Gathered) -> Checks:
-    """Returns the missed deadlines of a state, the fixed dates that it breaks, and what was left out.
+    """Returns the missed deadlines of a state, fixed dates that it breaks, and what was left out.
 
     What is hard to believe is named here too, and has a section of its own.
     """

@@ -18,7 +18,7 @@ MOST_ROWS = 60
 """Tasks above which those that are not urgent are shown only if all are."""
 SOON_DAYS = 30
 AXIS = (130, 200, 210)
-"""The least pixels of the bars on a telephone, in windows of less than 720 pixels, and in others."""
+"""The least pixels of the bars on a telephone, in windows below 720 pixels, and in others."""
 
 
 @dataclass(frozen=True)
