@@ -34,9 +34,9 @@ def made_room(tmp_path: Path) -> Path:
 
 
 def begun(room: Path, *words: str) -> subprocess.Popen[str]:
-    """Starts tests/run."""
+    """Starts tests/run, which Ctrl-C ends also where these tests ignore it (in the background)."""
     return subprocess.Popen(
-        ["tests/run", *words],
+        ["env", "--default-signal=INT", "tests/run", *words],
         cwd=room,
         env={**os.environ, "TMPDIR": str(room / "tmp")},
         stdout=subprocess.PIPE,
