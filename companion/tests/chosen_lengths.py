@@ -125,7 +125,7 @@ def _moved(
 
     `links` are those from late tasks.
     """
-    end = max(early[uid] + left[uid] for uid in left)
+    end = max((early[uid] + left[uid] for uid in left), default=0)
     held = {uid: end - left[uid] if uid in late else early[uid] for uid in left}
     for _ in range(len(held) + 2):
         for link in links:

@@ -219,7 +219,7 @@ def test_weekdays_and_holidays_are_read_strictly(tmp_path: Path) -> None:
         True,
         True,
     ]
-    for word in ("", "mon-", "monday", "mon,,tue"):
+    for word in ("", "mon-", "moonday", "mon,,tue"):
         with pytest.raises(UsageError, match="is no weekday such as mon"):
             calendar_of(word, None)
     path = tmp_path / "days.txt"

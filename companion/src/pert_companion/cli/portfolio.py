@@ -204,7 +204,7 @@ def _cache_folder(chosen: Path | None) -> Path | None:
 def _outputs(options: argparse.Namespace, jobs: Sequence[Job]) -> Outputs:
     """Returns what writes the page, which must be no deck."""
     decks = [path for _, path in chain.from_iterable(job.decks() for job in jobs)]
-    outputs = outputs_of(options, decks, [options.hosts])
+    outputs = outputs_of(options, [*options.deck, *decks], [options.hosts])
     if options.output is not None:
         outputs.check(options.output, PAGE)
     if options.csv:
