@@ -48,7 +48,7 @@ def test_decks_at_the_limits_are_drawn(browser: Browser, tmp_path: Path) -> None
 
 @needs_chromium
 @given(st.data())
-@settings(max_examples=example_count(12), deadline=None)
+@settings(max_examples=example_count(12), deadline=None, derandomize=True)
 def test_every_accepted_deck_has_a_page(
     browser: Browser, tmp_path_factory: pytest.TempPathFactory, data: st.DataObject
 ) -> None:
