@@ -9,7 +9,9 @@ MEASURE = (HERE / "layout.js").read_text("utf-8")
 STRUCTURE = (HERE / "structure.js").read_text("utf-8")
 OPENED = """
 for (const it of document.querySelectorAll("details")) it.open = true;
-for (const it of document.querySelectorAll("section, #differences")) it.style.contentVisibility = "visible";
+for (const it of document.querySelectorAll("section, #differences")) {
+    it.style.contentVisibility = "visible";
+}
 """
 PAPER = 695
 """The pixels of an A4 sheet between its margins of 13 mm."""

@@ -172,7 +172,8 @@ REDRAWN = """
     const texts = (root) => drawn.flatMap((it) => [...root.querySelectorAll(it)].map(
         (cell) => `${it} ${cell.parentElement.id}: ${cell.textContent.trim()}`));
     const critical = (root) => [...root.querySelectorAll("tr.critical")].map(({ id }) => id);
-    const [before, after] = [written, document].map((root) => [...texts(root), critical(root).join(" ")]);
+    const drawing = (root) => [...texts(root), critical(root).join(" ")];
+    const [before, after] = [written, document].map(drawing);
     return before.flatMap((text, at) => (text === after[at] ? [] : [`${text} / ${after[at]}`]));
 })()
 """

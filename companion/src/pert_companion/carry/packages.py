@@ -28,7 +28,8 @@ def with_effort(deck: Deck, rules: Iterable[PackageRule], money_scale: int) -> D
 
 
 def _missing(deck: Deck, rules: Iterable[PackageRule]) -> Iterator[PackageRule]:
-    known = {item.code for item in deck.items} | {account.code for account in deck.accounts}
+    known = {item.code for item in deck.items}
+    known.update(account.code for account in deck.accounts)
     for rule in rules:
         is_own = rule.technique in (Technique.EFFORT, Technique.APPORTIONED)
         if not is_own or rule.budget is None or rule.item in known:

@@ -153,7 +153,9 @@ class _Maker:
     def _side(self, network: Network) -> SideFile:
         """Returns the side file of the deck that the network makes."""
         tasks = tuple(self._side_task(task, network) for task in self.side.tasks)
-        known = {code for task in tasks for code in _codes_of(task)}
+        known: set[str] = set()
+        for task in tasks:
+            known.update(_codes_of(task))
         waits = tuple(card.code for card in network.tasks() if card.code not in known)
         return replace(self.side, tasks=tasks, waits=waits, cards=None)
 

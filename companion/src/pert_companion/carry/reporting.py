@@ -41,7 +41,8 @@ def with_progress(
     maker = _Maker(deck, side, has_side_file)
     named = {row.task: row for row in reported}
     tasks = [maker.take(task, named.get(task.code) or named.get(task.uid)) for task in side.tasks]
-    known = {task.code for task in side.tasks} | {task.uid for task in side.tasks}
+    known = {task.code for task in side.tasks}
+    known.update(task.uid for task in side.tasks)
     for row in named.values():
         if row.task not in known:
             why = f"the deck has no task {row.task[:40]!r}; left out"

@@ -5,7 +5,6 @@ import os
 import sys
 import tempfile
 from collections.abc import Sequence
-from itertools import chain
 from pathlib import Path
 
 from pert_companion.cli.choosing import add_bin_option, programs_of
@@ -31,7 +30,8 @@ EXAMPLES = """\
   pert-portfolio wing.csv hull.csv -o page.html         a row for each project
   pert-portfolio now/*.csv --previous before -o page.html
                                                         with what moved since before/wing.csv ..
-  pert-portfolio now/*.csv --baseline plan -o page.html against the ends and budgets of plan/wing.csv ..
+  pert-portfolio now/*.csv --baseline plan -o page.html
+                                                        against plan/wing.csv ..
   pert-portfolio now/*.csv --csv -o page.html           page.csv too, for a spreadsheet
   pert-portfolio now/*.csv --json                       the rows for other programs
   pert-portfolio now/*.csv --hosts hosts.txt -o page.html
@@ -70,6 +70,14 @@ def parser() -> CommandParser:
         type=Path,
         help="a folder with the plans that they are held to, under the same names",
     )
+    _add_keeping_options(command)
+    _add_host_options(command)
+    add_bin_option(command)
+    return command
+
+
+def _add_keeping_options(command: CommandParser) -> None:
+    """Adds the options for rows that are old, and for rows that are kept."""
     command.add_argument(
         "--stale",
         metavar="DAYS",
@@ -84,9 +92,6 @@ def parser() -> CommandParser:
         help="where rows are kept (the user's cache)",
     )
     command.add_argument("--no-cache", action="store_true", help="keep no rows, and use none")
-    _add_host_options(command)
-    add_bin_option(command)
-    return command
 
 
 def _add_host_options(command: CommandParser) -> None:
@@ -203,8 +208,10 @@ def _cache_folder(chosen: Path | None) -> Path | None:
 
 def _outputs(options: argparse.Namespace, jobs: Sequence[Job]) -> Outputs:
     """Returns what writes the page, which must be no deck."""
-    decks = [path for _, path in chain.from_iterable(job.decks() for job in jobs)]
-    outputs = outputs_of(options, [*options.deck, *decks], [options.hosts])
+    decks = list(options.deck)
+    for job in jobs:
+        decks.extend(path for _, path in job.decks())
+    outputs = outputs_of(options, decks, [options.hosts])
     if options.output is not None:
         outputs.check(options.output, PAGE)
     if options.csv:

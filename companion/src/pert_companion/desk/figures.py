@@ -178,7 +178,8 @@ def _links(books: Books, task: SideTask, _field: str, value: str) -> Books:
     """
     tasks = {each.code: each for each in books.side.tasks}
     links = real_links(books.deck, books.side)[task.code]
-    known = {link.text("d"): link for link in links} | {link.text("u"): link for link in links}
+    known = {link.text("d"): link for link in links}
+    known.update((link.text("u"), link) for link in links)
     wanted: dict[str, None] = {}
     for word in filter(None, (part.strip() for part in value.split(","))):
         if word not in known and word not in tasks:

@@ -87,9 +87,10 @@ class FolderRows:
         """Returns the sums of the portfolio's page; None until all rows are known."""
         if any(path not in self._known for path in paths):
             return None
+        rows = [self._known[path][1] for path in paths]
         return [
             {"name": each.name, "overrun": each.overrun, "note": each.note, "is_bad": each.is_bad}
-            for each in sums_of([self._known[path][1] for path in paths])
+            for each in sums_of(rows)
         ]
 
     @staticmethod
