@@ -4,18 +4,18 @@ use Rattle.std.specs.Prelude.{IfSome, String}
 use Rattle.std.specs.declared.alloc.Global.{Global}
 use Rattle.pc_faults.specs.declared.fault.Fault.{Fault}
 use Rattle.pc_check.specs.declared.checker.Verdict.TheVariants.{Yes, No}
-use Rattle.pc_shell.specs.declared.status.Status.{Status}
-use Rattle.pc_shell.specs.inside.Status.{code_of}
+use Rattle.pc_project.specs.declared.shell.status.Status.{Status}
+use Rattle.pc_project.specs.inside.shell.Status.{code_of}
 use Rattle.pc_audit.specs.Certificate.{HasVerdict, Certifies, ProvesCurve}
 use Rattle.pc_audit.specs.CheckOutcome.{OfBoth, IsChecked, IsCheckCut, deck_unread, cert_unread, in_verdict, in_refusal, in_check_usage}
 use Rattle.pc_audit.specs.inside.CheckOutcome.{CheckOutcome, certified, not_certified, deck_refused, check_usage, no_memory, read_fault, write_fault}
-use Rattle.pc_shell.specs.OneWord.{IsOneWord}
-use Rattle.pc_shell.specs.Sides.{Side, HadNoFault, OfBytes}
-use Rattle.pc_shell.specs.Verdict.{AcceptedBy, RefusedBy, IsFault}
+use Rattle.pc_project.specs.shell.OneWord.{IsOneWord}
+use Rattle.pc_project.specs.shell.Sides.{Side, HadNoFault, OfBytes}
+use Rattle.pc_project.specs.shell.Verdict.{AcceptedBy, RefusedBy, IsFault}
 use Rattle.pc_audit.proofs.CheckLaws.{curve_of, one_verdict}
-use Rattle.pc_shell.proofs.ReadingLaws.{refusal_is_fault}
-use Rattle.pc_shell.proofs.SideLaws.{of_any, of_one}
-use Rattle.pc_shell.proofs.VerdictLaws.{not_both}
+use Rattle.pc_project.proofs.lemmas.shell.ReadingLaws.{refusal_is_fault}
+use Rattle.pc_project.proofs.lemmas.shell.SideLaws.{of_any, of_one}
+use Rattle.pc_project.proofs.lemmas.shell.VerdictLaws.{not_both}
 
 -- ---- what holds of the bytes of one or two sources
 

@@ -14,24 +14,24 @@ use Rattle.pc_check.proofs.TextLaws.{not_both as one_text_verdict, one_number}
 use Rattle.pc_check.proofs.OnceLaws.{one_failure}
 use Rattle.pc_edges.proofs.PullLaws.{TakesPulls-none}
 use Rattle.pc_project.specs.Project.{Project}
-use Rattle.pc_shell.specs.declared.status.Status.{Status}
-use Rattle.pc_shell.specs.Priced.{priced_in, priced_of}
-use Rattle.pc_shell.specs.OneWord.{IsOneWord}
-use Rattle.pc_shell.specs.inside.OneWord.{EndsWithout}
-use Rattle.pc_shell.specs.inside.OneWord as ends
+use Rattle.pc_project.specs.declared.shell.status.Status.{Status}
+use Rattle.pc_project.specs.shell.Priced.{priced_in, priced_of}
+use Rattle.pc_project.specs.shell.OneWord.{IsOneWord}
+use Rattle.pc_project.specs.inside.shell.OneWord.{EndsWithout}
+use Rattle.pc_project.specs.inside.shell.OneWord as ends
 use Rattle.pc_audit.specs.Certificate.{check_usage_text, verdict_text, HasVerdict, Certifies, FailsAsCertificate, ProvesCurve}
 use Rattle.pc_audit.specs.Certificate.{KeepsToOwnLinesFor, IsSettledFor, IsSettledIn, IsUnsettledFor, IsUnsettledIn}
 use Rattle.pc_audit.specs.inside.Certificate.{IsFound, status_for, Told, told, cut, Answered, found, unread, no_room}
 use Rattle.pc_audit.specs.CheckOutcome.{IsChecked, deck_unread, cert_unread, in_verdict, in_refusal, in_check_usage}
 use Rattle.pc_audit.specs.inside.CheckOutcome.{CheckOutcome, certified, not_certified, deck_refused, check_usage, no_memory, read_fault, write_fault}
-use Rattle.pc_shell.specs.inside.Reading.{HasProject}
-use Rattle.pc_shell.specs.Sides.{Side, IsUntouched, Took}
-use Rattle.pc_shell.specs.Verdict.{IsProjectOf, AcceptedBy}
+use Rattle.pc_project.specs.inside.shell.Reading.{HasProject}
+use Rattle.pc_project.specs.shell.Sides.{Side, IsUntouched, Took}
+use Rattle.pc_project.specs.shell.Verdict.{IsProjectOf, AcceptedBy}
 use Rattle.pc_check.specs.Headline.{PrintsWholeCurve}
 use Rattle.pc_crash.specs.Priced.{PricedNetwork}
 use Rattle.pc_check.proofs.HeadlineLaws.{prints_whole_curve}
-use Rattle.pc_shell.proofs.PricedLaws.{is_named, is_priced, priced_as}
-use Rattle.pc_shell.proofs.VerdictLaws.{one_project}
+use Rattle.pc_project.proofs.lemmas.shell.PricedLaws.{is_named, is_priced, priced_as}
+use Rattle.pc_project.proofs.lemmas.shell.VerdictLaws.{one_project}
 use Rattle.pc_audit.proofs.OnceLaws.{whole_once}
 
 -- ---- verdicts

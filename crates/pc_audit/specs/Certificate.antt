@@ -12,9 +12,9 @@ use Rattle.pc_check.specs.Stops.{IsSettled, IsUnsettled}
 use Rattle.pc_check.specs.OwnLines.{KeepsToOwnLines}
 use Rattle.pc_deck.specs.Deck.{Deck}
 use Rattle.pc_project.specs.Project.{Project}
-use Rattle.pc_shell.specs.Priced.{priced_in, priced_of}
-use Rattle.pc_shell.specs.Sides.{Side}
-use Rattle.pc_shell.specs.Verdict.{IsAccepted, IsProjectOf}
+use Rattle.pc_project.specs.shell.Priced.{priced_in, priced_of}
+use Rattle.pc_project.specs.shell.Sides.{Side}
+use Rattle.pc_project.specs.shell.Verdict.{IsAccepted, IsProjectOf}
 
 -- ---- lines
 

@@ -4,9 +4,9 @@ use Rattle.std.specs.declared.alloc.Global.{Global}
 use Rattle.pc_check.specs.declared.checker.Verdict.{Verdict}
 use Rattle.pc_deck.specs.Limits.{longest_deck}
 use Rattle.pc_audit.specs.Certificate.{check_usage_text, verdict_text, HasVerdict, IsSettledFor, IsUnsettledFor}
-use Rattle.pc_shell.specs.Sides.{Side, HadFault, IsReadToEnd, IsUntouched, OfBytes, Took, TookAtMost, TookFront}
-use Rattle.pc_shell.specs.OneWord.{IsOneWord, IsRefusalCut}
-use Rattle.pc_shell.specs.Verdict.{AcceptedBy}
+use Rattle.pc_project.specs.shell.Sides.{Side, HadFault, IsReadToEnd, IsUntouched, OfBytes, Took, TookAtMost, TookFront}
+use Rattle.pc_project.specs.shell.OneWord.{IsOneWord, IsRefusalCut}
+use Rattle.pc_project.specs.shell.Verdict.{AcceptedBy}
 
 -- the bytes that the two sources had left have P, where they tell them
 abbrev pub OfBoth : {D C : Type 0} → Side D → Side C → (List ℕ → List ℕ → Type 0) → Type 0

@@ -19,16 +19,16 @@ ghost use Rattle.pc_audit.specs.Certificate.{
 ghost use Rattle.pc_audit.specs.inside.Certificate.{Answered};
 ghost use Rattle.pc_audit.specs.CheckOutcome.{IsChecked, IsCheckCut, IsUnread, OfBoth};
 ghost use Rattle.pc_audit.specs.inside.CheckOutcome.{CheckOutcome};
-ghost use Rattle.pc_shell.specs.OneWord.{IsDeckRefused, IsOneWord};
-ghost use Rattle.pc_shell.specs.Priced.{priced_in};
-ghost use Rattle.pc_shell.specs.Sides.{pulled_side, side, HadNoFault, IsReadToEnd, OfBytes, Took};
-ghost use Rattle.pc_shell.specs.Verdict.{AcceptedBy, IsProjectOf, RefusedBy};
+ghost use Rattle.pc_project.specs.shell.OneWord.{IsDeckRefused, IsOneWord};
+ghost use Rattle.pc_project.specs.shell.Priced.{priced_in};
+ghost use Rattle.pc_project.specs.shell.Sides.{pulled_side, side, HadNoFault, IsReadToEnd, OfBytes, Took};
+ghost use Rattle.pc_project.specs.shell.Verdict.{AcceptedBy, IsProjectOf, RefusedBy};
 
 use crate::telling::tell;
 use pc_check::{AuditError, audit_source};
 use pc_edges::{Sink, Source};
 use pc_project::Project;
-use pc_shell::{Status, project_named};
+use pc_project::shell::{Status, project_named};
 use std::alloc::Global;
 
 /// The usage line.

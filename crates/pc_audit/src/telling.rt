@@ -2,12 +2,12 @@
 ghost use Rattle.std.specs.Prelude.{◌≡◌, ◌+◌, ◌≤◌, ◌++◌, length};
 ghost use Rattle.pc_audit.specs.Certificate.{certified_text, failing_text, verdict_text};
 ghost use Rattle.pc_audit.specs.inside.Certificate.{Told, status_for};
-ghost use Rattle.pc_shell.specs.Sides.{side};
+ghost use Rattle.pc_project.specs.shell.Sides.{side};
 
 use arrayvec::ArrayVec;
 use pc_check::Verdict;
 use pc_edges::{Failed, Sink};
-use pc_shell::{Status, send};
+use pc_project::shell::{Status, send};
 use pc_text::digits;
 
 /// The capacity of the line, in bytes.

@@ -1,1 +1,2 @@
 pub mod deck_text
+pub mod shell

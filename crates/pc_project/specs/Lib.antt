@@ -11,7 +11,10 @@ pub mod Refusal
 pub mod Makes
 pub mod Planned
 pub mod deck_text
+pub mod shell
 pub mod inside
 pub use Rattle.pc_model.specs.Network
 pub use Rattle.pc_model.specs.Schedule
+pub use Rattle.pc_edges.specs.Faults
+pub use Rattle.pc_edges.specs.Writes
 pub use Rattle.pc_deck.specs.Deck

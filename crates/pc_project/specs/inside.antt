@@ -5,3 +5,4 @@ pub mod Refusal
 pub mod Numbered
 pub mod Runs
 pub mod Parts
+pub mod shell

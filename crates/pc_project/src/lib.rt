@@ -1,6 +1,7 @@
 //! The project that a deck describes: its cards with every code looked up once.
 //!
 //! From here on events, activities and items are numbers, in card order from 0, and nothing is looked up again.
+//! [`shell`] leads from a source to the project, and has what the top calls share.
 #![tactic(auto)]
 
 mod activity;
@@ -17,6 +18,7 @@ mod pieces;
 mod placed;
 mod project;
 mod refers;
+pub mod shell;
 mod statuses;
 mod togos;
 mod tree;

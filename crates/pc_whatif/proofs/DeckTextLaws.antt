@@ -3,7 +3,7 @@ use Rattle.std.proofs.Common.{◌≡◌, ℕ, List, subst}
 use Rattle.pc_project.specs.Project.{Project}
 use Rattle.pc_project.proofs.SoundLaws.{sound_parts}
 use Rattle.pc_whatif.specs.edits.Editing.{begun}
-use Rattle.pc_shell.proofs.VerdictLaws.{one_project}
+use Rattle.pc_project.proofs.lemmas.shell.VerdictLaws.{one_project}
 use Rattle.pc_whatif.specs.Heard.{AnswersOn}
 use Rattle.pc_whatif.specs.Planning.{AnswersLines}
 use Rattle.pc_whatif.specs.Standing.{AnswersInOrder}

@@ -6,14 +6,14 @@ use Rattle.std.specs.Io.KnownBytes.{Consumes}
 use Rattle.pc_deck.specs.Limits.{longest_deck}
 use Rattle.pc_faults.specs.declared.fault.Fault.{Fault}
 use Rattle.pc_edges.specs.declared.lines.reader.TheConstants.{INPUT_LIMIT}
-use Rattle.pc_shell.specs.declared.status.Status.{Status}
-use Rattle.pc_shell.specs.inside.Status.{code_of}
-use Rattle.pc_shell.specs.OneWord.{IsOneWord}
-use Rattle.pc_shell.specs.Sides.{Side, HadNoFault, IsReadToEnd, IsUntouched, OfBytes}
-use Rattle.pc_shell.specs.Verdict.{AcceptedBy, RefusedBy, IsFault}
-use Rattle.pc_shell.proofs.ReadingLaws.{refusal_is_fault, refusal_reads}
-use Rattle.pc_shell.proofs.SideLaws.{of_any, of_one}
-use Rattle.pc_shell.proofs.VerdictLaws.{not_both}
+use Rattle.pc_project.specs.declared.shell.status.Status.{Status}
+use Rattle.pc_project.specs.inside.shell.Status.{code_of}
+use Rattle.pc_project.specs.shell.OneWord.{IsOneWord}
+use Rattle.pc_project.specs.shell.Sides.{Side, HadNoFault, IsReadToEnd, IsUntouched, OfBytes}
+use Rattle.pc_project.specs.shell.Verdict.{AcceptedBy, RefusedBy, IsFault}
+use Rattle.pc_project.proofs.lemmas.shell.ReadingLaws.{refusal_is_fault, refusal_reads}
+use Rattle.pc_project.proofs.lemmas.shell.SideLaws.{of_any, of_one}
+use Rattle.pc_project.proofs.lemmas.shell.VerdictLaws.{not_both}
 use Rattle.pc_whatif.specs.Heard.{Meaning, IsHeardOut, IsHeardTooLong}
 use Rattle.pc_whatif.specs.SessionOutcome.{IsSessionUnread, IsSessionCut, deck_unread, edits_unread, in_answers, in_refusal, in_usage}
 use Rattle.pc_whatif.specs.inside.SessionOutcome.{SessionOutcome, heard_out, too_long, deck_refused, usage, no_memory, read_fault, write_fault}

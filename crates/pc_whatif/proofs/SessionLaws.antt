@@ -8,14 +8,14 @@ use Rattle.pc_edges.specs.declared.lines.talking.TalkError.TheVariants as talk
 use Rattle.pc_edges.specs.inside.lines.Talk.{Answered, Ends}
 use Rattle.pc_edges.specs.lines.Taken.{IsTakenWithin}
 use Rattle.pc_edges.proofs.lemmas.lines.TalkLaws.{taken_none}
-use Rattle.pc_shell.specs.declared.status.Status.{Status}
-use Rattle.pc_shell.specs.OneWord.{IsOneWord}
-use Rattle.pc_shell.specs.inside.OneWord.{EndsWithout}
-use Rattle.pc_shell.specs.inside.OneWord as ends
-use Rattle.pc_shell.specs.inside.Reading.{HasProject}
-use Rattle.pc_shell.specs.Sides.{Side, side, pulled_side, IsUntouched}
-use Rattle.pc_shell.specs.Verdict.{AcceptedBy, IsProjectOf}
-use Rattle.pc_shell.proofs.SideLaws.{of_one}
+use Rattle.pc_project.specs.declared.shell.status.Status.{Status}
+use Rattle.pc_project.specs.shell.OneWord.{IsOneWord}
+use Rattle.pc_project.specs.inside.shell.OneWord.{EndsWithout}
+use Rattle.pc_project.specs.inside.shell.OneWord as ends
+use Rattle.pc_project.specs.inside.shell.Reading.{HasProject}
+use Rattle.pc_project.specs.shell.Sides.{Side, side, pulled_side, IsUntouched}
+use Rattle.pc_project.specs.shell.Verdict.{AcceptedBy, IsProjectOf}
+use Rattle.pc_project.proofs.lemmas.shell.SideLaws.{of_one}
 use Rattle.pc_whatif.specs.Heard.{Meaning, AnswersOn, HasAnswered, IsHeard, session_usage_text}
 use Rattle.pc_whatif.specs.inside.Hearing.{Hearing, all, passed, unread, cut, no_room, status_of}
 use Rattle.pc_whatif.specs.SessionOutcome.{deck_unread, edits_unread, in_answers, in_refusal, in_usage}

@@ -5,8 +5,8 @@ use Rattle.pc_edges.specs.declared.lines.reader.TheConstants.{INPUT_LIMIT}
 use Rattle.pc_edges.specs.lines.Lines.{lines_of, whole_lines}
 use Rattle.pc_edges.specs.lines.Taken.{AreFirst, IsTakenForLast}
 use Rattle.pc_project.specs.Project.{Project}
-use Rattle.pc_shell.specs.Sides.{Side, HadFault, IsReadToEnd, OfBytes, Took, TookFront}
-use Rattle.pc_shell.specs.Verdict.{AcceptedBy, IsProjectOf}
+use Rattle.pc_project.specs.shell.Sides.{Side, HadFault, IsReadToEnd, OfBytes, Took, TookFront}
+use Rattle.pc_project.specs.shell.Verdict.{AcceptedBy, IsProjectOf}
 
 -- the line that says which words are asked for
 abbrev pub session_usage_text : List ℕ

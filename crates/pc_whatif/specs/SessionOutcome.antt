@@ -2,8 +2,8 @@
 use Rattle.std.specs.Prelude.{List, String}
 use Rattle.std.specs.declared.alloc.Global.{Global}
 use Rattle.pc_deck.specs.Limits.{longest_deck}
-use Rattle.pc_shell.specs.Sides.{Side, HadFault, IsUntouched, TookAtMost, TookFront}
-use Rattle.pc_shell.specs.OneWord.{IsOneWord, IsRefusalCut}
+use Rattle.pc_project.specs.shell.Sides.{Side, HadFault, IsUntouched, TookAtMost, TookFront}
+use Rattle.pc_project.specs.shell.OneWord.{IsOneWord, IsRefusalCut}
 use Rattle.pc_whatif.specs.Heard.{session_usage_text, Meaning, IsHeardUnread, IsHeardCut}
 
 -- what could not be read: the deck, of which no more was taken than a deck may have, and of the edits nothing; or the edits, whose whole

@@ -31,7 +31,7 @@ use pc_edges::lines::Answers;
 use pc_edges::page::{PAGE_ROOM, Page, put_number};
 use pc_edges::{Failed, Sink};
 use pc_project::Project;
-use pc_shell::send;
+use pc_project::shell::send;
 use std::alloc::{AllocError, Global};
 use std::marker::{Brand, Model};
 use std::sync::ledger::{Blank, Ledger};

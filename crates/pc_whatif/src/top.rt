@@ -5,9 +5,9 @@ ghost use Rattle.pc_edges.specs.Pulls.{IsReadWithin};
 ghost use Rattle.pc_edges.specs.declared.loading.TheConstants.{STREAM_ROOM};
 ghost use Rattle.pc_edges.specs.lines.Taken.{IsTakenWithin};
 ghost use Rattle.pc_edges.specs.declared.lines.reader.TheConstants.{INPUT_LIMIT};
-ghost use Rattle.pc_shell.specs.OneWord.{IsDeckRefused, IsOneWord};
-ghost use Rattle.pc_shell.specs.Sides.{side, pulled_side, HadNoFault, IsReadToEnd, OfBytes, Took};
-ghost use Rattle.pc_shell.specs.Verdict.{AcceptedBy, RefusedBy};
+ghost use Rattle.pc_project.specs.shell.OneWord.{IsDeckRefused, IsOneWord};
+ghost use Rattle.pc_project.specs.shell.Sides.{side, pulled_side, HadNoFault, IsReadToEnd, OfBytes, Took};
+ghost use Rattle.pc_project.specs.shell.Verdict.{AcceptedBy, RefusedBy};
 ghost use Rattle.pc_whatif.specs.Heard.{session_usage_text, AnswersOn, IsHeardOut, IsHeardTooLong};
 ghost use Rattle.pc_whatif.specs.inside.Hearing.{Hearing, status_of};
 ghost use Rattle.pc_whatif.specs.SessionOutcome.{IsSessionCut, IsSessionUnread};
@@ -19,7 +19,7 @@ use crate::session::Session;
 use pc_edges::lines::{LineReader, TalkError, talk};
 use pc_edges::{Sink, Source};
 use pc_project::Project;
-use pc_shell::{Status, project_named};
+use pc_project::shell::{Status, project_named};
 use std::alloc::Global;
 
 /// The usage line.

@@ -5,7 +5,7 @@
 #![tactic(auto)]
 
 use pc_edges::{ReadSource, WriteSink, draw_key};
-use pc_shell::{Status, words_of};
+use pc_project::shell::{Status, words_of};
 use pert_cli::run;
 use std::process::ExitCode;
 

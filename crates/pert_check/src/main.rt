@@ -7,7 +7,7 @@
 
 use pc_audit::check_run;
 use pc_edges::{ReadSource, WriteSink};
-use pc_shell::{Status, deck_file, words_of};
+use pc_project::shell::{Status, deck_file, words_of};
 use std::process::ExitCode;
 
 fn main(rt: HostRuntime) -> ExitCode {

@@ -2,9 +2,9 @@
 use Rattle.std.proofs.Common.{◌≡◌, ℕ, List, arith}
 use Rattle.std.specs.Prelude.{String}
 use Rattle.std.specs.declared.alloc.Global.{Global}
-use Rattle.pc_shell.specs.declared.status.Status.{Status}
-use Rattle.pc_shell.specs.inside.Status.{code_of}
-use Rattle.pc_shell.specs.Sides.{Side, Took}
+use Rattle.pc_project.specs.declared.shell.status.Status.{Status}
+use Rattle.pc_project.specs.inside.shell.Status.{code_of}
+use Rattle.pc_project.specs.shell.Sides.{Side, Took}
 use Rattle.pert_cli.specs.declared.forms.Form.{Form}
 use Rattle.pert_cli.specs.Outcome.{IsAnswer, IsDone}
 use Rattle.pert_cli.specs.inside.Outcome.{Outcome, done, refused, usage, no_memory, read_fault, write_fault}

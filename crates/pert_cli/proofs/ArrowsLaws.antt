@@ -4,9 +4,9 @@ use Rattle.std.specs.Prelude.{IfSome, String}
 use Rattle.std.specs.declared.alloc.Global.{Global}
 use Rattle.pc_project.specs.deck_text.Written.{IsDeckText}
 use Rattle.pc_project.specs.Project.{Project}
-use Rattle.pc_shell.specs.declared.status.Status.{Status}
-use Rattle.pc_shell.specs.inside.Status.{code_of}
-use Rattle.pc_shell.specs.Sides.{Side, OfBytes, Took}
+use Rattle.pc_project.specs.declared.shell.status.Status.{Status}
+use Rattle.pc_project.specs.inside.shell.Status.{code_of}
+use Rattle.pc_project.specs.shell.Sides.{Side, OfBytes, Took}
 use Rattle.pert_cli.specs.declared.forms.Form.TheVariants.{Arrows}
 use Rattle.pert_cli.specs.Arrows.{TookArrows}
 use Rattle.pert_cli.specs.inside.Outcome.{Outcome}

@@ -11,17 +11,17 @@ use Rattle.pc_cert.specs.Reader.{IsWhole}
 use Rattle.pc_cert.specs.Text.{text_of}
 use Rattle.pc_cert.specs.declared.line.CertLine.{CertLine}
 use Rattle.pc_crash.specs.Priced.{PricedNetwork}
-use Rattle.pc_shell.proofs.PricedLaws.{is_named, is_priced, priced_as}
+use Rattle.pc_project.proofs.lemmas.shell.PricedLaws.{is_named, is_priced, priced_as}
 use Rattle.pert_cli.specs.declared.forms.Form.TheVariants.{Certify}
-use Rattle.pc_shell.specs.declared.status.Status.{Status}
-use Rattle.pc_shell.specs.inside.Status.{code_of}
-use Rattle.pc_shell.specs.Priced.{priced_in, priced_of}
+use Rattle.pc_project.specs.declared.shell.status.Status.{Status}
+use Rattle.pc_project.specs.inside.shell.Status.{code_of}
+use Rattle.pc_project.specs.shell.Priced.{priced_in, priced_of}
 use Rattle.pert_cli.proofs.AnsweredLaws.{answered}
 use Rattle.pert_cli.proofs.FormDeckLaws.{read_project}
 use Rattle.pert_cli.specs.Words.{AskFor}
 use Rattle.pert_cli.specs.Headline.{TookWholeCurve}
-use Rattle.pc_shell.specs.Sides.{Side, OfBytes, Took}
-use Rattle.pc_shell.specs.Verdict.{IsProjectOf}
+use Rattle.pc_project.specs.shell.Sides.{Side, OfBytes, Took}
+use Rattle.pc_project.specs.shell.Verdict.{IsProjectOf}
 use Rattle.pert_cli.specs.inside.Outcome.{Outcome}
 
 -- the lines of a complete certificate are those of its text

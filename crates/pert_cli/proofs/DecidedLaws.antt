@@ -5,13 +5,13 @@ use Rattle.std.specs.declared.alloc.Global.{Global}
 use Rattle.pc_deck.specs.Limits.{longest_deck}
 use Rattle.pc_faults.specs.declared.fault.Fault.{Fault}
 use Rattle.pc_project.specs.Project.{Project}
-use Rattle.pc_shell.specs.declared.status.Status.{Status}
-use Rattle.pc_shell.specs.inside.Status.{code_of}
+use Rattle.pc_project.specs.declared.shell.status.Status.{Status}
+use Rattle.pc_project.specs.inside.shell.Status.{code_of}
 use Rattle.pert_cli.specs.declared.forms.Form.{Form}
 use Rattle.pert_cli.specs.FormDeck.{AskToRead, IsOwnDeck, ReadsSource, sort_of}
 use Rattle.pert_cli.specs.inside.FormDeck.{IsLeftBy}
 use Rattle.pert_cli.specs.Words.{AskFor, AskForOne}
-use Rattle.pc_shell.specs.Sides.{Side, HadNoFault, IsReadToEnd, IsUntouched, OfBytes}
+use Rattle.pc_project.specs.shell.Sides.{Side, HadNoFault, IsReadToEnd, IsUntouched, OfBytes}
 use Rattle.pert_cli.specs.Forms.{IsDenial}
 use Rattle.pert_cli.specs.Handing.{IsReply}
 use Rattle.pert_cli.specs.Verdicts.{AcceptedAs, IsFaultAs, IsMadeAs, RefusedAs}
@@ -20,8 +20,8 @@ use Rattle.pert_cli.specs.inside.Outcome.{Outcome, done, refused, usage, no_memo
 use Rattle.pert_cli.proofs.FormDeckLaws.{left_turned_down, left_with_project, owned_project, owned_refusal, read_project, read_refusal, reads_not_owned}
 use Rattle.pert_cli.proofs.OneFormLaws.{of_form}
 use Rattle.pert_cli.proofs.VerdictLaws.{accepted_not_refused, accepts_as, long_as, one_project_as}
-use Rattle.pc_shell.proofs.ReadingLaws.{refusal_has, refusal_reads}
-use Rattle.pc_shell.proofs.SideLaws.{from_both, of_any, of_one}
+use Rattle.pc_project.proofs.lemmas.shell.ReadingLaws.{refusal_has, refusal_reads}
+use Rattle.pc_project.proofs.lemmas.shell.SideLaws.{from_both, of_any, of_one}
 
 -- ---- what a form's deck is
 

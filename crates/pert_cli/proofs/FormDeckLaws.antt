@@ -9,11 +9,11 @@ use Rattle.pert_cli.specs.FormDeck.{HasProjectFor, HasRefusalFor, IsOwnDeck, Rea
 use Rattle.pert_cli.specs.inside.FormDeck.{HasNoProjectFor, IsLeftBy}
 use Rattle.pert_cli.specs.Outcome.{IsTurnedDown, by_deck, by_form}
 use Rattle.pert_cli.specs.Verdicts.{IsFaultAs, IsMadeAs}
-use Rattle.pc_shell.specs.declared.reading.NoProject.{NoProject}
-use Rattle.pc_shell.specs.declared.reading.NoProject.TheVariants.{Refused, ReadFault, OutOfMemory}
-use Rattle.pc_shell.specs.Reading.{HasProjectBy, HasRefusalBy}
-use Rattle.pc_shell.specs.inside.Reading.{HasNoProjectBy, IsNoProjectBy}
-use Rattle.pc_shell.specs.Sides.{Side, IsUntouched}
+use Rattle.pc_project.specs.declared.shell.reading.NoProject.{NoProject}
+use Rattle.pc_project.specs.declared.shell.reading.NoProject.TheVariants.{Refused, ReadFault, OutOfMemory}
+use Rattle.pc_project.specs.shell.Reading.{HasProjectBy, HasRefusalBy}
+use Rattle.pc_project.specs.inside.shell.Reading.{HasNoProjectBy, IsNoProjectBy}
+use Rattle.pc_project.specs.shell.Sides.{Side, IsUntouched}
 
 -- ---- one deck
 

@@ -2,9 +2,9 @@
 use Rattle.std.proofs.Common.{◌≡◌, ℕ, List, Result, Ok, Err, subst}
 use Rattle.pc_faults.specs.declared.fault.Fault.{Fault}
 use Rattle.pc_project.specs.Project.{Project}
-use Rattle.pc_shell.specs.declared.status.Status.{Status}
-use Rattle.pc_shell.specs.inside.Refusing.{Refusal}
-use Rattle.pc_shell.specs.Sides.{Side, IsUntouched}
+use Rattle.pc_project.specs.declared.shell.status.Status.{Status}
+use Rattle.pc_project.specs.inside.shell.Refusing.{Refusal}
+use Rattle.pc_project.specs.shell.Sides.{Side, IsUntouched}
 use Rattle.pert_cli.specs.Forms.{IsDenial}
 use Rattle.pert_cli.specs.Handing.{IsReply}
 use Rattle.pert_cli.specs.declared.deliver.NoAnswer.{NoAnswer}

@@ -5,11 +5,11 @@ use Rattle.std.specs.declared.alloc.Global.{Global}
 use Rattle.pc_deck.specs.Text.{deck_text}
 use Rattle.pc_project.specs.deck_text.Written.{IsDeckText, migrated, written}
 use Rattle.pc_project.specs.Project.{Project}
-use Rattle.pc_shell.specs.declared.status.Status.{Status}
-use Rattle.pc_shell.specs.inside.Status.{code_of}
-use Rattle.pc_shell.specs.Sides.{Side, OfBytes, Took}
-use Rattle.pc_shell.specs.Verdict.{IsProjectOf}
-use Rattle.pc_shell.proofs.VerdictLaws.{one_project}
+use Rattle.pc_project.specs.declared.shell.status.Status.{Status}
+use Rattle.pc_project.specs.inside.shell.Status.{code_of}
+use Rattle.pc_project.specs.shell.Sides.{Side, OfBytes, Took}
+use Rattle.pc_project.specs.shell.Verdict.{IsProjectOf}
+use Rattle.pc_project.proofs.lemmas.shell.VerdictLaws.{one_project}
 use Rattle.pert_cli.specs.declared.forms.Form.TheVariants.{Migrate}
 use Rattle.pert_cli.specs.Migrate.{TookDeckOf, TookSameProject}
 use Rattle.pert_cli.specs.inside.Outcome.{Outcome}

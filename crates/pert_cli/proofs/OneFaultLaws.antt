@@ -8,8 +8,8 @@ use Rattle.pc_deck.specs.Within.{IsWithin}
 use Rattle.pc_deck.proofs.DeckLaws.{not_both_as, one_deck_as}
 use Rattle.pc_faults.specs.declared.fault.Fault.{Fault}
 use Rattle.pc_project.specs.Refusal.{HasSoundPlan, IsRefusedWith}
-use Rattle.pc_shell.specs.Verdict as plans
-use Rattle.pc_shell.specs.Verdict.{IsFault}
+use Rattle.pc_project.specs.shell.Verdict as plans
+use Rattle.pc_project.specs.shell.Verdict.{IsFault}
 use Rattle.pc_tasks.specs.Drawn.{arrows_deck}
 use Rattle.pc_tasks.specs.Refusal.{HasSoundTasks, IsTasksRefusedWith}
 use Rattle.pert_cli.specs.Tasks as tasks

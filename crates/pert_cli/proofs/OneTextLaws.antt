@@ -8,7 +8,7 @@ use Rattle.pc_curve.proofs.lemmas.bench.OneTextLaws.{one_bench_text}
 use Rattle.pc_curve.proofs.OneTextLaws.{one_curve_text}
 use Rattle.pc_project.specs.Project.{Project}
 use Rattle.pc_project.proofs.SoundLaws.{HasSoundParts}
-use Rattle.pc_shell.specs.Priced.{priced_in}
+use Rattle.pc_project.specs.shell.Priced.{priced_in}
 use Rattle.pc_reports.proofs.OneTextLaws.{one_summary_text, one_times_text, one_value_text}
 use Rattle.pert_cli.specs.declared.forms.Form.{Form}
 use Rattle.pert_cli.specs.declared.forms.Form.TheVariants.{Check, Normal, Times, Summary, Value, Curve, Bench, Migrate, Arrows, Load}

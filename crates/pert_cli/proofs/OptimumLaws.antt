@@ -9,7 +9,7 @@ use Rattle.pc_curve.specs.inside.Points.{IsThere, IsToCome}
 use Rattle.pc_total.specs.declared.optimum.Best.{Best}
 use Rattle.pc_total.specs.Bests.{IsBest}
 use Rattle.pc_project.specs.Project.{Project}
-use Rattle.pc_shell.specs.Priced.{priced_in}
+use Rattle.pc_project.specs.shell.Priced.{priced_in}
 use Rattle.pert_cli.specs.Normal.{Printed}
 use Rattle.pert_cli.specs.Optimum.{IsOptimumWith}
 use Rattle.pc_curve.specs.Range.{IsRange}

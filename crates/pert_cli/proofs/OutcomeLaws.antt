@@ -4,12 +4,12 @@ use Rattle.std.specs.Prelude.{String}
 use Rattle.std.specs.declared.alloc.Global.{Global}
 use Rattle.pc_faults.specs.declared.fault.Fault.{Fault}
 use Rattle.pc_project.specs.Project.{Project}
-use Rattle.pc_shell.specs.declared.status.Status.{Status}
-use Rattle.pc_shell.specs.declared.status.Status.TheVariants.{Done, Refused, OutOfMemory, WriteFault}
+use Rattle.pc_project.specs.declared.shell.status.Status.{Status}
+use Rattle.pc_project.specs.declared.shell.status.Status.TheVariants.{Done, Refused, OutOfMemory, WriteFault}
 use Rattle.pert_cli.specs.declared.forms.Form.{Form}
 use Rattle.pert_cli.specs.Words.{AskFor}
-use Rattle.pc_shell.specs.Sides.{Side, IsUntouched}
-use Rattle.pc_shell.specs.inside.Refusing.{Refusal}
+use Rattle.pc_project.specs.shell.Sides.{Side, IsUntouched}
+use Rattle.pc_project.specs.inside.shell.Refusing.{Refusal}
 use Rattle.pert_cli.specs.Handing.{IsReply}
 use Rattle.pert_cli.specs.inside.Handing.{Answers, Replies, answers, denies}
 use Rattle.pert_cli.specs.FormDeck.{HasProjectFor, HasRefusalFor}

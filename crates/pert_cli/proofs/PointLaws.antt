@@ -7,7 +7,7 @@ use Rattle.pc_rollup.specs.figures.Outlook.{amounts_at, IsWholeOutlook, Outlook 
 use Rattle.pc_reports.specs.OutlookText.{IsOutlook, outlook_text}
 use Rattle.pc_reports.specs.inside.OutlookText.{TellsTop}
 use Rattle.pert_cli.specs.declared.forms.Form.TheVariants.{Point, Outlook}
-use Rattle.pc_shell.specs.Priced.{priced_in}
+use Rattle.pc_project.specs.shell.Priced.{priced_in}
 use Rattle.pert_cli.specs.Handing.{IsReply}
 use Rattle.pert_cli.specs.Normal.{Printed, printed_text}
 use Rattle.pc_curve.specs.Range.{IsLengthInRange}

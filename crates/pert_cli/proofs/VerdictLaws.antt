@@ -11,8 +11,8 @@ use Rattle.pc_faults.specs.Faults.{too_long as fault_too_long}
 use Rattle.pc_faults.specs.declared.fault.Fault.{Fault}
 use Rattle.pc_project.specs.Project.{Project}
 use Rattle.pc_project.proofs.SoundLaws.{HasSoundParts, sound_parts}
-use Rattle.pc_shell.specs.Verdict as plans
-use Rattle.pc_shell.proofs.VerdictLaws as plans_are
+use Rattle.pc_project.specs.shell.Verdict as plans
+use Rattle.pc_project.proofs.lemmas.shell.VerdictLaws as plans_are
 use Rattle.pc_tasks.specs.Drawn.{arrows_deck}
 use Rattle.pc_tasks.specs.Refusal.{IsTasksRefusedWith}
 use Rattle.pc_tasks.specs.Text.{IsDrawnProject}

@@ -4,7 +4,7 @@ use Rattle.pc_deck.specs.Deck.{Deck}
 use Rattle.pc_project.specs.deck_text.Written.{migrated}
 use Rattle.pc_project.specs.Figures.{IsProjectOfDeck}
 use Rattle.pc_project.specs.Project.{Project}
-use Rattle.pc_shell.specs.Sides.{Side}
+use Rattle.pc_project.specs.shell.Sides.{Side}
 use Rattle.pc_tasks.specs.Drawn.{arrows_deck}
 use Rattle.pc_tasks.specs.Text.{KeepsTasks}
 use Rattle.pert_cli.specs.Migrate.{TookDeckOf}

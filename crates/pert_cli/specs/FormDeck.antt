@@ -8,8 +8,8 @@ use Rattle.pc_faults.specs.declared.fault.Fault.{Fault}
 use Rattle.pc_project.specs.Project.{Project}
 use Rattle.pert_cli.specs.declared.forms.Form.{Form}
 use Rattle.pert_cli.specs.declared.forms.Form.TheVariants.{Arrows, Bench}
-use Rattle.pc_shell.specs.Sides.{Side, IsUntouched}
-use Rattle.pc_shell.specs.Reading.{HasProjectBy, HasRefusalBy}
+use Rattle.pc_project.specs.shell.Sides.{Side, IsUntouched}
+use Rattle.pc_project.specs.shell.Reading.{HasProjectBy, HasRefusalBy}
 use Rattle.pert_cli.specs.Verdicts.{IsFaultAs, IsMadeAs}
 use Rattle.pert_cli.specs.Words.{AskFor}
 

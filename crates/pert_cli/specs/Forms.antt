@@ -16,7 +16,7 @@ use Rattle.pc_project.specs.Project.{Project}
 use Rattle.pc_project.specs.deck_text.Written.{IsDeckText}
 use Rattle.pert_cli.specs.declared.forms.Form.{Form}
 use Rattle.pert_cli.specs.declared.forms.Form.TheVariants.{Check, Normal, Times, Summary, Value, Curve, Certify, Point, Outlook, Bench, Migrate, Optimum, Arrows, Load}
-use Rattle.pc_shell.specs.Priced.{priced_in}
+use Rattle.pc_project.specs.shell.Priced.{priced_in}
 use Rattle.pert_cli.specs.Load.{HasTooManyPeriods}
 use Rattle.pert_cli.specs.Normal.{IsNormalText}
 use Rattle.pert_cli.specs.Optimum.{IsOptimumText}

@@ -4,9 +4,9 @@ use Rattle.pc_cert.specs.declared.line.CertLine.{CertLine}
 use Rattle.pc_cert.specs.Reader.{IsWhole}
 use Rattle.pc_check.specs.Headline.{PrintsWholeCurve}
 use Rattle.pc_deck.specs.Deck.{Deck}
-use Rattle.pc_shell.specs.Priced.{priced_of}
-use Rattle.pc_shell.specs.Sides.{Side, Took}
-use Rattle.pc_shell.specs.Verdict.{IsAccepted}
+use Rattle.pc_project.specs.shell.Priced.{priced_of}
+use Rattle.pc_project.specs.shell.Sides.{Side, Took}
+use Rattle.pc_project.specs.shell.Verdict.{IsAccepted}
 
 -- the bytes are those of an accepted deck, and the output took a text that prints the whole time-cost curve of its network: for every
 -- length from the all-crash to the all-normal length a schedule of that length, what it costs, that none costs less, and why. The text is

@@ -3,8 +3,8 @@ use Rattle.std.specs.Prelude.{◌≡◌, ℕ, List}
 use Rattle.pc_project.specs.deck_text.Same.{SayTheSame}
 use Rattle.pc_project.specs.deck_text.Written.{IsDeckText, migrated}
 use Rattle.pc_project.specs.Project.{Project}
-use Rattle.pc_shell.specs.Sides.{Side, Took}
-use Rattle.pc_shell.specs.Verdict.{IsProjectOf}
+use Rattle.pc_project.specs.shell.Sides.{Side, Took}
+use Rattle.pc_project.specs.shell.Verdict.{IsProjectOf}
 
 -- the output took a text that is an accepted deck, of version 2: its project is this one, but for the deck that it keeps, and the two
 -- decks say the same; and whatever `migrate` writes of the text is the text again

@@ -6,7 +6,7 @@ use Rattle.pc_faults.specs.FaultText.{fault_text}
 use Rattle.pc_project.specs.Project.{Project}
 use Rattle.pert_cli.specs.declared.forms.Form.{Form}
 use Rattle.pert_cli.specs.Words.{AskFor, AskForNone, usage_text}
-use Rattle.pc_shell.specs.Sides.{Side, IsUntouched, Took, TookFront}
+use Rattle.pc_project.specs.shell.Sides.{Side, IsUntouched, Took, TookFront}
 use Rattle.pert_cli.specs.Verdicts.{IsMadeAs, RefusedAs}
 use Rattle.pert_cli.specs.FormDeck.{HasProjectFor, HasRefusalFor, sort_of}
 use Rattle.pert_cli.specs.Forms.{IsDenial}

@@ -4,7 +4,7 @@ use Rattle.pc_rollup.specs.figures.Outlook.{Outlook, amounts_at, IsWholeOutlook}
 use Rattle.pc_project.specs.Project.{Project}
 use Rattle.pc_reports.specs.OutlookText.{IsOutlook, outlook_text}
 use Rattle.pc_wbs.specs.Climb.{IsTop}
-use Rattle.pc_shell.specs.Priced.{priced_in}
+use Rattle.pc_project.specs.shell.Priced.{priced_in}
 use Rattle.pert_cli.specs.Normal.{Printed, printed_text}
 use Rattle.pert_cli.specs.Point.{IsCheapestFor}
 

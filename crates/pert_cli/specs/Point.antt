@@ -7,7 +7,7 @@ use Rattle.pc_model.specs.Cost.{cost_of}
 use Rattle.pc_crash.specs.Priced.{PricedNetwork, knees_in}
 use Rattle.pc_curve.specs.Range.{IsRange, IsLengthInRange}
 use Rattle.pc_project.specs.Project.{Project}
-use Rattle.pc_shell.specs.Priced.{priced_in}
+use Rattle.pc_project.specs.shell.Priced.{priced_in}
 use Rattle.pert_cli.specs.Normal.{Printed, printed_text}
 
 -- ---- the range

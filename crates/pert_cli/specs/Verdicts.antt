@@ -6,7 +6,7 @@ use Rattle.pc_cards.specs.declared.sort.Sort.TheVariants.{Plan, Tasks}
 use Rattle.pc_deck.specs.Deck.{Deck}
 use Rattle.pc_faults.specs.declared.fault.Fault.{Fault}
 use Rattle.pc_project.specs.Project.{Project}
-use Rattle.pc_shell.specs.Verdict.{AcceptedBy, IsFault, IsProjectOf}
+use Rattle.pc_project.specs.shell.Verdict.{AcceptedBy, IsFault, IsProjectOf}
 use Rattle.pert_cli.specs.Tasks.{IsAcceptedTasks, IsDrawnOf, IsTasksFault}
 
 -- the deck is accepted, and this is its project

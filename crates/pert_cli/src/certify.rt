@@ -2,7 +2,7 @@
 ghost use Rattle.std.specs.Prelude.{◌≡◌, IfOk};
 ghost use Rattle.pc_certify.specs.Certificate.{IsCertificate};
 ghost use Rattle.pc_certify.specs.inside.Certificate.{IsReadyFor};
-ghost use Rattle.pc_shell.specs.Priced.{priced_in};
+ghost use Rattle.pc_project.specs.shell.Priced.{priced_in};
 
 use crate::solving::{priced_net, solver_region};
 use pc_certify::Certificate;

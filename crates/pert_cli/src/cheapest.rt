@@ -3,7 +3,7 @@ ghost use Rattle.std.specs.Prelude.{◌≡◌, ◌≤◌, IfOk, IfErr, IfSome, I
 ghost use Rattle.pc_curve.specs.Range.{IsLengthInRange};
 ghost use Rattle.pc_curve.specs.inside.Points.{HasPlaces, IsToCome};
 ghost use Rattle.pc_faults.specs.inside.FaultText.{IsTold};
-ghost use Rattle.pc_shell.specs.Priced.{priced_in};
+ghost use Rattle.pc_project.specs.shell.Priced.{priced_in};
 ghost use Rattle.pert_cli.specs.Point.{IsCheapest, IsCheapestFor, IsOutside};
 ghost use Rattle.pert_cli.specs.inside.Handing.{IsNoReport};
 

@@ -2,7 +2,7 @@
 ghost use Rattle.std.specs.Prelude.{◌≡◌, ℕ, List, IfOk, false};
 ghost use Rattle.pc_crash.specs.inside.Steps.{IsBlankOf};
 ghost use Rattle.pc_edges.specs.inside.page.Puts.{Puts};
-ghost use Rattle.pc_shell.specs.Priced.{priced_in};
+ghost use Rattle.pc_project.specs.shell.Priced.{priced_in};
 ghost use Rattle.pert_cli.specs.inside.Solving.{CanSolve, IsLinesOf};
 
 use crate::solving::{priced_net, solver_region};

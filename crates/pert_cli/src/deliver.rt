@@ -1,5 +1,5 @@
 //! The one way from a form to its answer: a report is built with all its memory, and then delivered.
-ghost use Rattle.pc_shell.specs.Sides.{side};
+ghost use Rattle.pc_project.specs.shell.Sides.{side};
 ghost use Rattle.pert_cli.specs.inside.Handing.{Delivers};
 
 use pc_edges::page::{PAGE_ROOM, Page};

@@ -7,7 +7,7 @@ ghost use Rattle.pert_cli.specs.FormDeck.{ReadsSource, sort_of};
 ghost use Rattle.pert_cli.specs.Forms.{IsAskedBy, IsDenial, IsNumbered};
 ghost use Rattle.pert_cli.specs.Handing.{IsReply};
 ghost use Rattle.pert_cli.specs.inside.Handing.{Delivers, Replies};
-ghost use Rattle.pc_shell.specs.Sides.{side};
+ghost use Rattle.pc_project.specs.shell.Sides.{side};
 ghost use Rattle.pert_cli.specs.declared.forms.Form.TheVariants.{Bench};
 ghost use Rattle.pert_cli.specs.Words.{AskFor, AskForNone, usage_text};
 
@@ -26,8 +26,8 @@ use pc_curve::bench::MOST_ACTIVITIES;
 use pc_edges::Sink;
 use pc_load::MAX_DAYS;
 use pc_project::Project;
+use pc_project::shell::{Status, refuse};
 use pc_reports::{SummaryReport, TimesReport, ValueReport};
-use pc_shell::{Status, refuse};
 use pc_text::read_number;
 use std::alloc::Global;
 

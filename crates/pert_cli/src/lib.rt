@@ -1,4 +1,4 @@
-//! The top call of `pert`: words and bytes in, bytes and a status out.
+//! The top call of `pert`: words and bytes in, bytes and a status out; and `check_run`, the top call of `pert_check`.
 #![tactic(auto)]
 
 mod certify;
@@ -19,4 +19,5 @@ mod top;
 
 pub use crate::fault_laws::one_fault;
 pub use crate::top::run;
+pub use pc_audit::check_run;
 pub use pc_curve::bench::bench_deck;

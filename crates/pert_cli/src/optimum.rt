@@ -1,7 +1,7 @@
 //! `optimum`: the length for which the project costs least in all, and a schedule for it.
 ghost use Rattle.std.specs.Prelude.{◌≡◌, IfOk};
 ghost use Rattle.pc_model.specs.TimeCost.{AreTimeTerms};
-ghost use Rattle.pc_shell.specs.Priced.{priced_in};
+ghost use Rattle.pc_project.specs.shell.Priced.{priced_in};
 ghost use Rattle.pert_cli.specs.Optimum.{IsOptimumWith, optimum_text};
 
 use crate::cheapest::cheapest_at;

@@ -2,7 +2,7 @@
 ghost use Rattle.std.specs.Prelude.{◌≡◌, ◌++◌, IfErr, IfOk};
 ghost use Rattle.pc_reports.specs.OutlookText.{IsOutlook, outlook_text};
 ghost use Rattle.pc_reports.specs.inside.OutlookText.{IsOutlookFor, TellsTop};
-ghost use Rattle.pc_shell.specs.Priced.{priced_in};
+ghost use Rattle.pc_project.specs.shell.Priced.{priced_in};
 ghost use Rattle.pert_cli.specs.Normal.{printed_text};
 ghost use Rattle.pert_cli.specs.Point.{IsCheapest, IsCheapestFor, IsOutside};
 ghost use Rattle.pert_cli.specs.inside.Handing.{IsNoReport};

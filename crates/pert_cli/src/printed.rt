@@ -3,7 +3,7 @@ ghost use Rattle.std.specs.Prelude.{◌≡◌};
 ghost use Rattle.pc_curve.specs.inside.Points.{HasPlaces};
 ghost use Rattle.pc_reports.specs.Schedule.{plan_text};
 ghost use Rattle.pc_reports.specs.inside.Schedule.{plan_of, text_of, IsWhole};
-ghost use Rattle.pc_shell.specs.Priced.{priced_in};
+ghost use Rattle.pc_project.specs.shell.Priced.{priced_in};
 ghost use Rattle.pert_cli.specs.Normal.{printed_text};
 
 use pc_edges::Sink;

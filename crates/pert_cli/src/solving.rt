@@ -3,7 +3,7 @@ ghost use Rattle.std.specs.Prelude.{◌≡◌, ◌+◌, ◌*◌, ◌≤◌, leng
 ghost use Rattle.pc_cells.specs.inside.Spans.{free_of};
 ghost use Rattle.pc_crash.specs.inside.Steps.{IsBlankOf};
 ghost use Rattle.pc_project.specs.Project.{Project as TheProject};
-ghost use Rattle.pc_shell.specs.Priced.{priced_in};
+ghost use Rattle.pc_project.specs.shell.Priced.{priced_in};
 ghost use Rattle.pert_cli.specs.inside.Solving.{IsAtStart};
 
 use pc_cells::Region;

@@ -13,7 +13,7 @@ ghost use Rattle.pert_cli.specs.Headline.{TookWholeCurve};
 ghost use Rattle.pert_cli.specs.Arrows.{TookArrows};
 ghost use Rattle.pert_cli.specs.Migrate.{TookSameProject};
 ghost use Rattle.pert_cli.specs.Words.{AskFor, AskForOne, AskForNone, usage_text};
-ghost use Rattle.pc_shell.specs.Sides.{side, HadFault, HadNoFault, IsReadToEnd, OfBytes, Took, TookAtMost};
+ghost use Rattle.pc_project.specs.shell.Sides.{side, HadFault, HadNoFault, IsReadToEnd, OfBytes, Took, TookAtMost};
 ghost use Rattle.pert_cli.specs.Verdicts.{AcceptedAs, IsMadeAs, RefusedAs};
 ghost use Rattle.pert_cli.specs.Outcome.{IsAcceptedFor, IsCut, IsDone, IsRefused, IsRefusedFor};
 ghost use Rattle.pert_cli.specs.inside.Outcome.{Outcome};
@@ -21,7 +21,7 @@ ghost use Rattle.pert_cli.specs.inside.Outcome.{Outcome};
 use crate::form_deck::project_for;
 use crate::forms::{Form, usage};
 use pc_edges::{Failed, Sink, Source};
-use pc_shell::{NoProject, Status, refuse, send};
+use pc_project::shell::{NoProject, Status, refuse, send};
 use std::alloc::Global;
 
 /// Runs `pert`: reads a deck from `source`, writes the answer that the words ask for on `out`, or on `err` why

@@ -6,7 +6,7 @@
 #![tactic(auto)]
 
 use pc_edges::{ReadSource, WriteSink};
-use pc_shell::{Status, deck_file, words_of};
+use pc_project::shell::{Status, deck_file, words_of};
 use pc_whatif::session_run;
 use std::process::ExitCode;
 

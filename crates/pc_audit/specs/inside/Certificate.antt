@@ -7,10 +7,10 @@ use Rattle.pc_check.specs.declared.checker.Verdict.{Verdict}
 use Rattle.pc_check.specs.declared.checker.Verdict.TheVariants.{Yes, No}
 use Rattle.pc_check.specs.Texts.{Finds}
 use Rattle.pc_project.specs.Project.{Project}
-use Rattle.pc_shell.specs.declared.status.Status.{Status}
-use Rattle.pc_shell.specs.declared.status.Status.TheVariants.{Done, OutOfMemory, ReadFault, WriteFault, NotCertified}
-use Rattle.pc_shell.specs.Priced.{priced_in}
-use Rattle.pc_shell.specs.Sides.{Side, HadFault, IsReadToEnd, IsUntouched, OfBytes, Took, TookFront}
+use Rattle.pc_project.specs.declared.shell.status.Status.{Status}
+use Rattle.pc_project.specs.declared.shell.status.Status.TheVariants.{Done, OutOfMemory, ReadFault, WriteFault, NotCertified}
+use Rattle.pc_project.specs.shell.Priced.{priced_in}
+use Rattle.pc_project.specs.shell.Sides.{Side, HadFault, IsReadToEnd, IsUntouched, OfBytes, Took, TookFront}
 use Rattle.pc_audit.specs.Certificate.{verdict_text, IsSettledIn, IsUnsettledIn}
 
 -- ---- what a check leaves

@@ -3,11 +3,11 @@
 use Rattle.std.specs.Prelude.{ℕ, List, String}
 use Rattle.std.specs.declared.alloc.Global.{Global}
 use Rattle.pc_check.specs.declared.checker.Verdict.TheVariants.{Yes, No}
-use Rattle.pc_shell.specs.declared.status.Status.{Status}
-use Rattle.pc_shell.specs.declared.status.Status.TheVariants.{Done, Refused, Usage, OutOfMemory, ReadFault, WriteFault, NotCertified}
+use Rattle.pc_project.specs.declared.shell.status.Status.{Status}
+use Rattle.pc_project.specs.declared.shell.status.Status.TheVariants.{Done, Refused, Usage, OutOfMemory, ReadFault, WriteFault, NotCertified}
 use Rattle.pc_audit.specs.Certificate.{check_usage_text}
-use Rattle.pc_shell.specs.Sides.{Side, IsReadToEnd, IsUntouched, Took}
-use Rattle.pc_shell.specs.OneWord.{IsDeckRefused, IsOneWord}
+use Rattle.pc_project.specs.shell.Sides.{Side, IsReadToEnd, IsUntouched, Took}
+use Rattle.pc_project.specs.shell.OneWord.{IsDeckRefused, IsOneWord}
 use Rattle.pc_audit.specs.CheckOutcome.{IsChecked, IsCheckCut, IsUnread}
 
 -- what a check that ended with the status means and leaves behind

@@ -6,7 +6,7 @@ use Rattle.circular_buffer.specs.Buffer.{keep_last, last_item}
 use Rattle.pc_crash.specs.Priced.{PricedNetwork}
 use Rattle.pc_project.specs.Project.{Project}
 use Rattle.pc_project.specs.declared.activity.Estimates.{Estimates}
-use Rattle.pc_shell.specs.Priced.{priced_in}
+use Rattle.pc_project.specs.shell.Priced.{priced_in}
 use Rattle.pc_whatif.specs.declared.edits.ask.Edit.{Edit}
 use Rattle.pc_whatif.specs.declared.edits.TheConstants.{MAX_KEPT}
 use Rattle.pc_whatif.specs.declared.edits.ActTerm.{ActTerm}

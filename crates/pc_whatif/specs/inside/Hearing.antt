@@ -4,9 +4,9 @@ use Rattle.pc_edges.specs.declared.lines.reader.TheConstants.{INPUT_LIMIT}
 use Rattle.pc_edges.specs.lines.Lines.{lines_of, whole_lines}
 use Rattle.pc_edges.specs.declared.lines.talking.TalkError.{TalkError}
 use Rattle.pc_edges.specs.declared.lines.talking.TalkError.TheVariants as talk
-use Rattle.pc_shell.specs.declared.status.Status.{Status}
-use Rattle.pc_shell.specs.declared.status.Status.TheVariants.{Done, OutOfMemory, ReadFault, WriteFault, TooLong}
-use Rattle.pc_shell.specs.Sides.{Side, HadFault, IsReadToEnd, IsUntouched}
+use Rattle.pc_project.specs.declared.shell.status.Status.{Status}
+use Rattle.pc_project.specs.declared.shell.status.Status.TheVariants.{Done, OutOfMemory, ReadFault, WriteFault, TooLong}
+use Rattle.pc_project.specs.shell.Sides.{Side, HadFault, IsReadToEnd, IsUntouched}
 use Rattle.pc_whatif.specs.Heard.{HadSteadyFaults, HasAnswered, HasAnsweredSome, first_lines}
 
 -- how it ends

@@ -2,10 +2,10 @@
 -- Here is what no clause of a top call and no law reaches.
 use Rattle.std.specs.Prelude.{List, String}
 use Rattle.std.specs.declared.alloc.Global.{Global}
-use Rattle.pc_shell.specs.declared.status.Status.{Status}
-use Rattle.pc_shell.specs.declared.status.Status.TheVariants.{Done, Refused, Usage, OutOfMemory, ReadFault, WriteFault, TooLong}
-use Rattle.pc_shell.specs.Sides.{Side, IsUntouched, Took}
-use Rattle.pc_shell.specs.OneWord.{IsDeckRefused, IsOneWord}
+use Rattle.pc_project.specs.declared.shell.status.Status.{Status}
+use Rattle.pc_project.specs.declared.shell.status.Status.TheVariants.{Done, Refused, Usage, OutOfMemory, ReadFault, WriteFault, TooLong}
+use Rattle.pc_project.specs.shell.Sides.{Side, IsUntouched, Took}
+use Rattle.pc_project.specs.shell.OneWord.{IsDeckRefused, IsOneWord}
 use Rattle.pc_whatif.specs.Heard.{session_usage_text, Meaning, IsHeardOut, IsHeardTooLong}
 use Rattle.pc_whatif.specs.SessionOutcome.{IsSessionUnread, IsSessionCut}
 

@@ -4,9 +4,9 @@ use Rattle.std.specs.Prelude.{ℕ, List}
 use Rattle.pc_deck.specs.Limits.{longest_deck}
 use Rattle.pc_faults.specs.inside.FaultText.{IsTold}
 use Rattle.pert_cli.specs.declared.forms.Form.{Form}
-use Rattle.pc_shell.specs.declared.reading.NoProject.{NoProject}
-use Rattle.pc_shell.specs.declared.reading.NoProject.TheVariants.{Refused, ReadFault, OutOfMemory}
-use Rattle.pc_shell.specs.Sides.{Side, HadFault, IsUntouched, TookAtMost}
+use Rattle.pc_project.specs.declared.shell.reading.NoProject.{NoProject}
+use Rattle.pc_project.specs.declared.shell.reading.NoProject.TheVariants.{Refused, ReadFault, OutOfMemory}
+use Rattle.pc_project.specs.shell.Sides.{Side, HadFault, IsUntouched, TookAtMost}
 use Rattle.pert_cli.specs.FormDeck.{ReadsSource, IsOwnDeck, HasRefusalFor}
 
 -- a form that has a deck of its own left the source as it was

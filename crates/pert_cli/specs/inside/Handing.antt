@@ -7,11 +7,11 @@ use Rattle.pc_project.specs.Project.{Project}
 use Rattle.pert_cli.specs.declared.deliver.NoAnswer.{NoAnswer}
 use Rattle.pert_cli.specs.declared.deliver.NoAnswer.TheVariants as why
 use Rattle.pert_cli.specs.declared.forms.Form.{Form}
-use Rattle.pc_shell.specs.declared.status.Status.{Status}
-use Rattle.pc_shell.specs.declared.status.Status.TheVariants.{Done, OutOfMemory, WriteFault}
+use Rattle.pc_project.specs.declared.shell.status.Status.{Status}
+use Rattle.pc_project.specs.declared.shell.status.Status.TheVariants.{Done, OutOfMemory, WriteFault}
 use Rattle.pert_cli.specs.Forms.{IsDenial}
-use Rattle.pc_shell.specs.inside.Refusing.{Refusal}
-use Rattle.pc_shell.specs.Sides.{Side, IsUntouched, Took, TookFront}
+use Rattle.pc_project.specs.inside.shell.Refusing.{Refusal}
+use Rattle.pc_project.specs.shell.Sides.{Side, IsUntouched, Took, TookFront}
 use Rattle.pert_cli.specs.Handing.{IsReply}
 
 -- why there is no report: the form refuses the project with a fault; want of memory comes at any time

@@ -3,11 +3,11 @@
 use Rattle.std.specs.Prelude.{List, String}
 use Rattle.std.specs.declared.alloc.Global.{Global}
 use Rattle.pc_deck.specs.Limits.{longest_deck}
-use Rattle.pc_shell.specs.declared.status.Status.{Status}
-use Rattle.pc_shell.specs.declared.status.Status.TheVariants.{Done, Refused, Usage, OutOfMemory, ReadFault, WriteFault}
+use Rattle.pc_project.specs.declared.shell.status.Status.{Status}
+use Rattle.pc_project.specs.declared.shell.status.Status.TheVariants.{Done, Refused, Usage, OutOfMemory, ReadFault, WriteFault}
 use Rattle.pert_cli.specs.declared.forms.Form.{Form}
 use Rattle.pert_cli.specs.Words.{AskFor, AskForNone, usage_text}
-use Rattle.pc_shell.specs.Sides.{Side, HadFault, IsUntouched, Took, TookAtMost}
+use Rattle.pc_project.specs.shell.Sides.{Side, HadFault, IsUntouched, Took, TookAtMost}
 use Rattle.pert_cli.specs.FormDeck.{AskToRead}
 use Rattle.pert_cli.specs.inside.FormDeck.{IsLeftBy}
 use Rattle.pert_cli.specs.Outcome.{IsDone, IsRefused, IsCut}

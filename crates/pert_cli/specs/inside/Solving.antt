@@ -9,7 +9,7 @@ use Rattle.pc_curve.specs.Range.{IsRange}
 use Rattle.pc_curve.specs.bench.Report.{IsBenchText}
 use Rattle.pc_flow.specs.Courses.{Course}
 use Rattle.pc_project.specs.Project.{Project}
-use Rattle.pc_shell.specs.Priced.{priced_in}
+use Rattle.pc_project.specs.shell.Priced.{priced_in}
 use Rattle.pert_cli.specs.declared.curve.CurveLines.{CurveLines}
 use Rattle.pert_cli.specs.declared.curve.CurveLines.TheVariants.{Breakpoints, Figures}
 

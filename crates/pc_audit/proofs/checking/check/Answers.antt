@@ -3,9 +3,9 @@ use Rattle.std.specs.Prelude.{IfSome}
 use Rattle.pc_check.specs.Texts.{Finds}
 use Rattle.pc_audit.specs.Certificate.{IsSettledIn, IsUnsettledIn}
 use Rattle.pc_audit.specs.inside.Certificate.{found, unread, no_room}
-use Rattle.pc_shell.specs.Priced.{priced_in}
-use Rattle.pc_shell.specs.Sides.{pulled_side}
-use Rattle.pc_shell.proofs.PricedLaws.{priced_is}
+use Rattle.pc_project.specs.shell.Priced.{priced_in}
+use Rattle.pc_project.specs.shell.Sides.{pulled_side}
+use Rattle.pc_project.proofs.lemmas.shell.PricedLaws.{priced_is}
 use Rattle.pc_check.specs.OwnLines.{KeepsToOwnLines}
 use Rattle.pc_check.proofs.OwnTurnLaws.{unpulled_keeps}
 use Rattle.pc_audit.proofs.checking.check.Goals as goal

@@ -2,7 +2,7 @@ use Rattle.std.proofs.Common.{◌+◌, refl}
 use Rattle.pc_edges.specs.Pulls.{TakesPulls}
 use Rattle.pc_check.specs.Auditing.{most_bytes}
 use Rattle.pc_project.specs.Project.{Project}
-use Rattle.pc_shell.specs.Priced.{priced_in}
+use Rattle.pc_project.specs.shell.Priced.{priced_in}
 use Rattle.pc_audit.proofs.CheckLaws.{after_check, after_no_project, of_each_project, unpulled, keeps_to_lines, unpulled_keeps_to_lines}
 use Rattle.pc_audit.proofs.checking.check_outcome.Goals as goal
 

@@ -1,6 +1,6 @@
 use Rattle.pc_audit.proofs.CheckLaws.{one_finding, one_verdict}
 use Rattle.pc_audit.proofs.CheckDecided.{found_certified, found_failing, headline, check_cut, not_refused_accepts, refused_deck_ends, right_ends, wrong_ends}
-use Rattle.pc_shell.proofs.VerdictLaws.{not_both}
+use Rattle.pc_project.proofs.lemmas.shell.VerdictLaws.{not_both}
 use Rattle.pc_audit.proofs.checking.check_run.Goals as goal
 
 pub returns-clause-certified : goal.returns-clause-certified

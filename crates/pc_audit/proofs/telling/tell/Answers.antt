@@ -1,6 +1,6 @@
 use Rattle.std.proofs.Common.{subst, ◌∙◌}
 use Rattle.pc_audit.specs.inside.Certificate.{told, cut}
-use Rattle.pc_shell.specs.Sides.{side, Took, TookFront}
+use Rattle.pc_project.specs.shell.Sides.{side, Took, TookFront}
 use Rattle.pc_audit.proofs.telling.tell.Goals as goal
 
 pub returns-in-Ok : goal.returns-in-Ok

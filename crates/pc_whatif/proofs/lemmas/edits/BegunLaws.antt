@@ -15,7 +15,7 @@ use Rattle.pc_project.specs.Misfit.{HasActFault, HasNoMisfit, act, listed}
 use Rattle.pc_project.specs.Planned.{IsPlanned}
 use Rattle.pc_project.specs.Project.{Project}
 use Rattle.pc_project.proofs.MakesLaws.{no_misfit}
-use Rattle.pc_shell.specs.Priced.{priced_in}
+use Rattle.pc_project.specs.shell.Priced.{priced_in}
 use Rattle.pc_whatif.specs.edits.Plans.{estimates_at, estimates_in}
 use Rattle.pc_whatif.specs.inside.edits.Plans.{AreEstimates}
 use Rattle.pc_whatif.specs.declared.edits.KeptEdit.{KeptEdit}

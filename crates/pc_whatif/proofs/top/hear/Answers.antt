@@ -1,8 +1,8 @@
 use Rattle.std.proofs.Common.{List, ℕ, refl, sym, subst}
 use Rattle.pc_whatif.specs.edits.Editing.{Editing}
 use Rattle.pc_project.specs.Project.{Project}
-use Rattle.pc_shell.specs.declared.status.Status.{Status}
-use Rattle.pc_shell.specs.Sides.{side, pulled_side}
+use Rattle.pc_project.specs.declared.shell.status.Status.{Status}
+use Rattle.pc_project.specs.shell.Sides.{side, pulled_side}
 use Rattle.pc_edges.specs.inside.lines.Talk.{Answered}
 use Rattle.pc_whatif.specs.Planning.{AnswersLines, AreAnswers}
 use Rattle.pc_whatif.specs.inside.Planning.{Says}

@@ -1,5 +1,5 @@
 use Rattle.pc_whatif.specs.Planning.{AnswersLines}
-use Rattle.pc_shell.proofs.VerdictLaws.{not_both}
+use Rattle.pc_project.proofs.lemmas.shell.VerdictLaws.{not_both}
 use Rattle.pc_whatif.proofs.DeckTextLaws.{one_text_on, in_order_on}
 use Rattle.pc_whatif.proofs.SessionDecided.{ended, went_on, not_read, refused_is_read, session_cut, not_refused_accepts, refused_deck_ends, accepted_deck_ends, long_edits_end}
 use Rattle.pc_whatif.proofs.top.session_run.Goals as goal

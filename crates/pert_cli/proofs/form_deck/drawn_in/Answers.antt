@@ -2,8 +2,8 @@ use Rattle.pc_cards.specs.declared.sort.Sort.TheVariants.{Tasks}
 use Rattle.pc_deck.specs.Refusal.{IsRefusalAs}
 use Rattle.pc_faults.proofs.FirstLaws.{refused_by}
 use Rattle.pc_project.proofs.RefusalLaws.{handed_on}
-use Rattle.pc_shell.specs.inside.Reading.{IsNoProjectBy, lacking}
-use Rattle.pc_shell.proofs.ReadingLaws.{lacks_by}
+use Rattle.pc_project.specs.inside.shell.Reading.{IsNoProjectBy, lacking}
+use Rattle.pc_project.proofs.lemmas.shell.ReadingLaws.{lacks_by}
 use Rattle.pc_tasks.specs.Refusal.{IsTasksRefusedWith}
 use Rattle.pert_cli.specs.Tasks.{IsTasksFault, card_refusal, tasks_refusal}
 use Rattle.pert_cli.proofs.VerdictLaws.{told_of-tasks}

@@ -5,9 +5,9 @@ use Rattle.pc_cards.specs.declared.sort.Sort.{Sort}
 use Rattle.pert_cli.specs.FormDeck.{own_deck, sort_of}
 use Rattle.pert_cli.specs.Verdicts.{IsFaultAs, IsMadeAs}
 use Rattle.pert_cli.specs.declared.forms.Form.{Form}
-use Rattle.pc_shell.specs.Reading.{HasProjectBy}
-use Rattle.pc_shell.specs.inside.Reading.{HasNoProjectBy, IsNoProjectBy}
-use Rattle.pc_shell.specs.Sides.{side}
+use Rattle.pc_project.specs.shell.Reading.{HasProjectBy}
+use Rattle.pc_project.specs.inside.shell.Reading.{HasNoProjectBy, IsNoProjectBy}
+use Rattle.pc_project.specs.shell.Sides.{side}
 use Rattle.pert_cli.proofs.FormDeckLaws.{own_gives, own_lacks, read_gives, read_lacks}
 use Rattle.pc_deck.specs.Limits.{longest_deck}
 use Rattle.pc_edges.specs.declared.loading.TheConstants.{STREAM_ROOM}

@@ -1,9 +1,9 @@
 use Rattle.std.proofs.Common.{List, ℕ, subst}
 use Rattle.std.specs.Prelude.{IfErr, IfOk}
 use Rattle.pc_project.proofs.RefusalLaws.{handed_on}
-use Rattle.pc_shell.specs.inside.Reading.{HasNoProjectBy, IsNoProjectBy}
-use Rattle.pc_shell.specs.Sides.{side}
-use Rattle.pc_shell.proofs.ReadingLaws.{unread_lacks, whole_has, whole_lacks}
+use Rattle.pc_project.specs.inside.shell.Reading.{HasNoProjectBy, IsNoProjectBy}
+use Rattle.pc_project.specs.shell.Sides.{side}
+use Rattle.pc_project.proofs.lemmas.shell.ReadingLaws.{unread_lacks, whole_has, whole_lacks}
 use Rattle.pert_cli.specs.Verdicts.{IsFaultAs, IsMadeAs}
 use Rattle.pert_cli.proofs.form_deck.read_as.Goals as goal
 

@@ -1,4 +1,4 @@
-use Rattle.pc_shell.proofs.PricedLaws.{priced_is}
+use Rattle.pc_project.proofs.lemmas.shell.PricedLaws.{priced_is}
 use Rattle.pert_cli.proofs.solving.priced_net.Goals as goal
 
 pub returns : goal.returns

@@ -1,8 +1,8 @@
 use Rattle.std.proofs.Common.{refl, sym, subst}
 use Rattle.pc_faults.specs.declared.fault.Fault.{Fault}
 use Rattle.pc_faults.specs.inside.FaultText.{IsTold}
-use Rattle.pc_shell.specs.inside.Refusing.{Refusal}
-use Rattle.pc_shell.specs.Sides.{side, Took, TookFront}
+use Rattle.pc_project.specs.inside.shell.Refusing.{Refusal}
+use Rattle.pc_project.specs.shell.Sides.{side, Took, TookFront}
 use Rattle.pert_cli.specs.Outcome.{in_usage}
 use Rattle.pert_cli.specs.inside.Outcome.{usage, no_memory, read_fault, write_fault}
 use Rattle.pert_cli.proofs.OutcomeLaws.{after_refusal, after_reply}

@@ -1,7 +1,7 @@
 use Rattle.std.proofs.Common.{◌≡◌, None, refl, sym, subst}
 use Rattle.pc_whatif.specs.declared.edits.Edits.TheInside.{Inside}
-use Rattle.pc_shell.specs.Priced.{priced_in}
-use Rattle.pc_shell.proofs.PricedLaws.{priced_is}
+use Rattle.pc_project.specs.shell.Priced.{priced_in}
+use Rattle.pc_project.proofs.lemmas.shell.PricedLaws.{priced_is}
 use Rattle.pc_whatif.specs.edits.Standing.{Stands, empty}
 use Rattle.pc_whatif.proofs.lemmas.edits.BegunLaws.{begun_whole, editing_is}
 use Rattle.pc_whatif.proofs.lemmas.edits.StandingLaws.{Stands-begun}

@@ -3,8 +3,8 @@ use Rattle.pc_certify.specs.Certificate.{IsCertificate}
 use Rattle.pc_load.specs.LoadText.{load_text}
 use Rattle.pc_project.specs.deck_text.Written.{IsDeckText}
 use Rattle.pc_reports.specs.OutlookText.{outlook_text}
-use Rattle.pc_shell.specs.Priced.{priced_in}
-use Rattle.pc_shell.specs.Sides.{side}
+use Rattle.pc_project.specs.shell.Priced.{priced_in}
+use Rattle.pc_project.specs.shell.Sides.{side}
 use Rattle.pert_cli.specs.Normal.{printed_text}
 use Rattle.pert_cli.specs.declared.curve.CurveLines.{CurveLines}
 use Rattle.pert_cli.specs.declared.forms.Form.TheVariants.{Curve, Certify, Point, Outlook, Bench, Migrate, Arrows, Load}

@@ -1,0 +1,24 @@
+use Rattle.std.proofs.Common.{List, ℕ, subst}
+use Rattle.std.specs.Prelude.{IfErr, IfOk}
+use Rattle.pc_project.proofs.RefusalLaws.{handed_on}
+use Rattle.pc_project.specs.inside.shell.Reading.{HasNoProject, IsNoProjectOf}
+use Rattle.pc_project.specs.shell.Sides.{side}
+use Rattle.pc_project.specs.shell.Verdict.{IsFault, IsProjectOf}
+use Rattle.pc_project.proofs.lemmas.shell.ReadingLaws.{unread_lacks, whole_has, whole_lacks}
+use Rattle.pc_project.proofs.shell.reading.read_project.Goals as goal
+
+pub returns-clause-project : goal.returns-clause-project
+returns-clause-project g c =
+    let is = subst (λ (bytes : List ℕ). IfOk c.project_in.result (IsProjectOf bytes)) c.deref.ensures.value c.project_in.ensures.project in
+    whole_has IsProjectOf (side g.S.Source.left g.S.Source.faults c.args.source.now c.load_deck.new.source) c.in_ok-bytes.bytes.items c.in_ok-bytes.ensures.deck c.project_in.result is
+
+pub returns-clause-none : goal.returns-clause-none
+returns-clause-none g c =
+    let why = subst (λ (bytes : List ℕ). IfErr c.project_in.result (IsNoProjectOf bytes)) c.deref.ensures.value c.project_in.ensures.none in
+    whole_lacks IsFault (side g.S.Source.left g.S.Source.faults c.args.source.now c.load_deck.new.source) c.in_ok-bytes.bytes.items c.in_ok-bytes.ensures.deck c.project_in.result why
+
+pub returns-in_err-bytes-clause-none : goal.returns-in_err-bytes-clause-none
+returns-in_err-bytes-clause-none g c =
+    let source = side g.S.Source.left g.S.Source.faults c.args.source.now c.load_deck.new.source in
+    let why = c.in_err-bytes.field-0.0 in
+    handed_on (HasNoProject source) c.from_residual.result why c.from_residual.ensures.1 (unread_lacks IsFault source why c.in_err-bytes.ensures.none)

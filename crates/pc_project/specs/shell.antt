@@ -1,0 +1,5 @@
+pub mod Sides
+pub mod Verdict
+pub mod Reading
+pub mod OneWord
+pub mod Priced
