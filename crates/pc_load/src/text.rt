@@ -40,8 +40,7 @@ pub fn write_load<O: Sink>(
         × Writes result (O.taken sink.old) (O.taken sink.new) (O.faults sink.old) (O.faults sink.new)
         (load_text project.now (record { days = days; order = order; items = items.now; resources = resources.now })) }
 {
-    // For the fact that no table has more periods than a report can have.
-    let _periods = items.periods();
+    items.facts();
     let printed = PrintedLoad {
         days,
         order: project.tree().preorder(),
