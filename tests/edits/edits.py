@@ -7,6 +7,7 @@ program answers (docs/gate.md):
     # row: CASE         a case of tests/acceptance/ whose answer the edit must break, or
     # row: test CRATE FILE::NAME    a test that must fail
     # prints: LINE      a line of the wrong answer; all such lines follow one another there
+    # prints as: CASE   in place of lines: the wrong answer has all lines of that case's right one
     # status: N         the status that it ends with, if not that of the case
     # no row: REASON    in place of a row: why no case can show it
 """
@@ -45,6 +46,7 @@ class Edit:
     row: str | None
     no_row: str | None
     prints: tuple[str, ...]
+    prints_as: str | None
     status: int | None
 
     @property
@@ -80,7 +82,7 @@ def read_edit(path: Path) -> Edit:
             old = None
         elif word == "# prints":
             prints.append(rest)
-        elif word in ("# row", "# no row", "# status"):
+        elif word in ("# row", "# no row", "# prints as", "# status"):
             said[word[2:]] = rest
         elif line.strip() and not line.startswith("#"):
             raise EditError(f"not read: {line.strip()}")
@@ -89,8 +91,8 @@ def read_edit(path: Path) -> Edit:
     if "status" in said and not said["status"].isdigit():
         raise EditError(f"no status: {said['status']}")
     status = int(said["status"]) if "status" in said else None
-    row, no_row = said.get("row"), said.get("no row")
-    return Edit(path, crate, tuple(changes), row, no_row, tuple(prints), status)
+    row, no_row, prints_as = said.get("row"), said.get("no row"), said.get("prints as")
+    return Edit(path, crate, tuple(changes), row, no_row, tuple(prints), prints_as, status)
 
 
 def changed_texts(edit: Edit, top: Path = TOP) -> dict[Path, str]:

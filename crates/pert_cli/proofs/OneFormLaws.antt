@@ -5,8 +5,8 @@ use Rattle.std.specs.Cmp.Lexicographic.{pointwise}
 use Rattle.std.specs.declared.alloc.Global.{Global}
 use Rattle.std.proofs.lemmas.Fmt.{decimal_injective}
 use Rattle.pert_cli.specs.declared.forms.Form.{Form}
-use Rattle.pert_cli.specs.declared.forms.Form.TheVariants.{Check, Normal, Times, Summary, Value, Curve, Certify, Point, Outlook, Bench, Migrate, Optimum, Arrows, Load}
-use Rattle.pert_cli.specs.Forms.{IsNumbered, form_words}
+use Rattle.pert_cli.specs.declared.forms.Form.TheVariants.{Check, Point, Outlook, Bench, Load}
+use Rattle.pert_cli.specs.Forms.{IsNumbered, form_words, forms}
 use Rattle.pert_cli.specs.Words.{AskFor}
 
 -- the number of a form, where it has one
@@ -21,23 +21,22 @@ abbrev or_0 : Option ℕ → ℕ
 or_0 None = 0
 or_0 (Some n) = n
 
--- the form with a name, and with a number where it has one
+-- the form with this number, if it has one
+abbrev with_number : ℕ → Form → Form
+with_number n (Point limit) = Point n
+with_number n (Outlook limit) = Outlook n
+with_number n (Bench m) = Bench n
+with_number n (Load days) = Load n
+with_number n form = form
+
+-- the first of some forms that begins with a word
+abbrev first_with : List ℕ → List Form → Form
+first_with word [] = Check
+first_with word (form ∷ others) = if pointwise nat_eq word (get_or (form_words form) 0 []) then form else first_with word others
+
+-- the form with a word, and with a number where it has one
 abbrev form_named : List ℕ → ℕ → Form
-form_named name n =
-    if pointwise nat_eq name (codes "check") then Check
-    else if pointwise nat_eq name (codes "normal") then Normal
-    else if pointwise nat_eq name (codes "times") then Times
-    else if pointwise nat_eq name (codes "summary") then Summary
-    else if pointwise nat_eq name (codes "value") then Value
-    else if pointwise nat_eq name (codes "curve") then Curve
-    else if pointwise nat_eq name (codes "certify") then Certify
-    else if pointwise nat_eq name (codes "point") then Point n
-    else if pointwise nat_eq name (codes "outlook") then Outlook n
-    else if pointwise nat_eq name (codes "bench") then Bench n
-    else if pointwise nat_eq name (codes "migrate") then Migrate
-    else if pointwise nat_eq name (codes "optimum") then Optimum
-    else if pointwise nat_eq name (codes "arrows") then Arrows
-    else Load n
+form_named word n = with_number n (first_with word forms)
 
 -- a form is the one with its first word
 is_named : (form : Form) → form_named (get_or (form_words form) 0 []) (or_0 (number_of form)) ≡ form

@@ -1,6 +1,6 @@
 -- The table of the forms: the words of each, its name in the usage line, which texts answer it for a project, and with which
 -- faults it refuses the project of an accepted deck.
-use Rattle.std.specs.Prelude.{◌≡◌, ℕ, ◌^◌, ◌<◌, ◌≤◌, ⊤, List, [], ◌∷◌, codes, decimal}
+use Rattle.std.specs.Prelude.{◌≡◌, ℕ, ◌^◌, ◌<◌, ◌≤◌, ⊤, List, [], ◌∷◌, get_or, codes, decimal}
 use Rattle.pc_faults.specs.declared.fault.Fault.{Fault}
 use Rattle.pc_reports.specs.Check.{check_text}
 use Rattle.pc_reports.specs.SummaryText.{IsSummaryText}
@@ -54,10 +54,17 @@ pub record IsAskedBy (form : Form) (words : List (List ℕ)) : Type 0 where
   pub are : words ≡ form_words form
   pub numbered : IsNumbered form
 
--- the names of the forms, in the order of the usage line
-abbrev pub form_names : List (List ℕ)
-form_names = codes "check" ∷ codes "normal" ∷ codes "times" ∷ codes "summary" ∷ codes "value" ∷ codes "curve" ∷ codes "certify" ∷ codes
-    "point L" ∷ codes "outlook L" ∷ codes "bench N" ∷ codes "migrate" ∷ codes "optimum" ∷ codes "arrows" ∷ codes "load P" ∷ []
+-- the forms, in the order of the usage line; one with a number stands for all its numbers
+abbrev pub forms : List Form
+forms = Check ∷ Normal ∷ Times ∷ Summary ∷ Value ∷ Curve ∷ Certify ∷ Point 0 ∷ Outlook 0 ∷ Bench 0 ∷ Migrate ∷ Optimum ∷ Arrows ∷ Load 0 ∷ []
+
+-- the name of a form in the usage line: its word, and a letter in the place of its number
+abbrev pub form_name : Form → List ℕ
+form_name (Point limit) = codes "point L"
+form_name (Outlook limit) = codes "outlook L"
+form_name (Bench n) = codes "bench N"
+form_name (Load days) = codes "load P"
+form_name form = get_or (form_words form) 0 []
 
 -- the text answers the form: `check` with the project's code and the counts of its cards, `normal` with the schedule at
 -- the all-normal length, `times` with the times of the events and the critical path, `summary` with what the accounts add up
@@ -85,17 +92,11 @@ IsTextOf (Load days) project text = IsLoadText project days text
 
 -- a deck has one text that answers the form; of least schedules, and of certificates, there may be several
 abbrev pub HasOneText : Form → Type 0
-HasOneText Check = ⊤
-HasOneText Normal = ⊤
-HasOneText Times = ⊤
-HasOneText Summary = ⊤
-HasOneText Value = ⊤
-HasOneText Curve = ⊤
-HasOneText (Bench n) = ⊤
-HasOneText Migrate = ⊤
-HasOneText Arrows = ⊤
-HasOneText (Load days) = ⊤
-HasOneText _ = ⊥
+HasOneText Certify = ⊥
+HasOneText (Point limit) = ⊥
+HasOneText (Outlook limit) = ⊥
+HasOneText Optimum = ⊥
+HasOneText _ = ⊤
 
 -- the form refuses the project with the fault: `point` and `outlook` where the length lies outside the range of the project,
 -- `load` where the project takes too many periods

@@ -3,7 +3,7 @@ use Rattle.std.specs.Prelude.{ℕ, List, [], ◌∷◌, ◌++◌, map, codes, St
 use Rattle.std.specs.String.{string_bytes}
 use Rattle.std.specs.declared.alloc.Global.{Global}
 use Rattle.pert_cli.specs.declared.forms.Form.{Form}
-use Rattle.pert_cli.specs.Forms.{form_names, IsAskedBy}
+use Rattle.pert_cli.specs.Forms.{forms, form_name, IsAskedBy}
 
 -- the words ask for the form
 abbrev pub AskFor : Form → List (String Global) → Type 0
@@ -25,4 +25,4 @@ barred (name ∷ other ∷ names) = name ++ (codes " | " ++ barred (other ∷ na
 
 -- the line that names the forms of the command line
 abbrev pub usage_text : List ℕ
-usage_text = codes "usage: pert " ++ (barred form_names ++ 10 ∷ [])
+usage_text = codes "usage: pert " ++ (barred (map form_name forms) ++ 10 ∷ [])

@@ -1,7 +1,7 @@
 //! The table of the forms: what the words can ask for, and what answers it.
 //!
-//! A form has a variant of `Form`, its name in `usage`, and a line in `of_one_word` or `of_two_words`, and in `report`,
-//! where its report is built and delivered.
+//! A form has a variant of `Form`, its name in `usage`, a line with its word in `of_one_word` or `of_two_words`, and
+//! one in `report`, where its report is built and delivered.
 ghost use Rattle.std.specs.Prelude.{◌≡◌, [], ◌∷◌, IfNone, IfSome};
 ghost use Rattle.pert_cli.specs.FormDeck.{ReadsSource, sort_of};
 ghost use Rattle.pert_cli.specs.Forms.{IsAskedBy, IsDenial, IsNumbered};
@@ -31,35 +31,6 @@ use pc_reports::{SummaryReport, TimesReport, ValueReport};
 use pc_text::read_number;
 use std::alloc::Global;
 
-// The words of the forms. Four are followed by a number.
-const CHECK: &[u8] = b"check";
-
-const NORMAL: &[u8] = b"normal";
-
-const TIMES: &[u8] = b"times";
-
-const SUMMARY: &[u8] = b"summary";
-
-const VALUE: &[u8] = b"value";
-
-const CURVE: &[u8] = b"curve";
-
-const CERTIFY: &[u8] = b"certify";
-
-const POINT: &[u8] = b"point";
-
-const OUTLOOK: &[u8] = b"outlook";
-
-const BENCH: &[u8] = b"bench";
-
-const MIGRATE: &[u8] = b"migrate";
-
-const OPTIMUM: &[u8] = b"optimum";
-
-const ARROWS: &[u8] = b"arrows";
-
-const LOAD: &[u8] = b"load";
-
 /// Returns the usage line, which names the forms.
 pub(crate) fn usage() -> &'static [u8]
     ensures { result.now ≡ usage_text }
@@ -68,36 +39,90 @@ pub(crate) fn usage() -> &'static [u8]
       | bench N | migrate | optimum | arrows | load P\n"
 }
 
-/// What the words can ask for.
+/// What the words can ask for, in the order of the usage line.
+///
+/// A variant is named after its word. `tools/command-files` takes the first line of its comment into completion, and
+/// the rest into the manual page.
 #[derive(Clone, Copy)]
 pub(crate) enum Form {
-    /// Whether the deck is accepted, and how many cards of each kind it has.
+    /// Whether the deck is accepted, and its counts.
+    ///
+    /// Says that the deck is accepted, and counts its events, activities, items, accounts, charges, amounts to go and
+    /// statuses. PIECE, TERMS, RES and LOAD cards are checked but not counted; `migrate` writes them out.
     Check,
-    /// The schedule at the all-normal length.
+    /// The schedule with every normal duration.
+    ///
+    /// Writes the length and the cost of the project with every activity at its normal duration, the earliest time of
+    /// each event, and the duration of each activity, in units of the deck. No schedule of this length costs less.
     Normal,
-    /// The times of the events, and the critical path.
+    /// Expected times, slack and the critical path.
+    ///
+    /// Writes for each event its expected time TE, its latest allowable time TL, its slack and its date; for each
+    /// activity its expected time, variance and slack; then the critical path, and the sum of its variances. Times are
+    /// in sixths of a day from the start date, variances in thirty-sixths of a square day.
     Times,
-    /// The totals of the accounts, by item and by level.
+    /// Budgets, spending and estimates by item.
+    ///
+    /// Writes for each item of the work breakdown structure its budget, what was spent up to the as-of date, what is
+    /// still to be spent, the latest estimate, and the overrun: that estimate less the budget. The last rows have the
+    /// same sums for each level.
     Summary,
-    /// The forecast, and what the work is worth.
+    /// Forecast and value of the work done.
+    ///
+    /// Writes for each event when it is expected, given the status at the as-of date, by how much it can still slip,
+    /// and its date. Writes for each item its budget, what was spent, the value of the work done, the overrun (here
+    /// what was spent less that value), and the least slack of its activities.
     Value,
-    /// The breakpoints of the time-cost curve.
+    /// The least cost of each length.
+    ///
+    /// Writes the breakpoints of the time-cost curve, from the all-normal length down to the all-crash length: a
+    /// length, the least cost of a schedule for it, and the extra cost of finishing one unit sooner, with a dash at the
+    /// last.
     Curve,
-    /// The certificate of the time-cost curve.
+    /// The curve with its proof, for pert_check.
+    ///
+    /// Writes a certificate of the time-cost curve: for each segment a cost and a slope, and for every length a
+    /// cheapest schedule with what proves it. `pert_check`(1) checks it against the deck.
     Certify,
-    /// A schedule of least cost for this length.
+    /// A cheapest schedule of a length.
+    ///
+    /// Writes a schedule of this length, in units, in the format of `normal`. No schedule of this length costs less.
     Point(u64),
-    /// A schedule of least cost for this length, and what each item costs by it.
+    /// What each item costs at a length.
+    ///
+    /// Writes the same schedule as `point`, and for each item its budget, what it costs with this schedule, and the
+    /// change: that cost less the budget.
     Outlook(u64),
-    /// Figures of the curve of the benchmark's deck with this many activities.
+    /// Figures of a generated deck of a size.
+    ///
+    /// Reads no deck. It generates one with this number of activities, 1 to 4000, the same on every machine, and writes
+    /// its all-normal and its all-crash length with their least costs, the number of breakpoints, and the sum of the
+    /// least costs of all lengths between them.
     Bench(u64),
     /// The deck in canonical form.
+    ///
+    /// Writes the deck in canonical form: version 2, with an ASOF card, grouped by kind, each kind in card order,
+    /// quoted only where necessary. The result describes the same project, and migrating it again changes nothing.
     Migrate,
-    /// The length for which the project costs least in all, and a schedule for it.
+    /// The length with the least total cost.
+    ///
+    /// Writes the length with the least total cost, the smallest if there are several; the least cost of a schedule for
+    /// it; the cost of the time by the TERMS card; the total; by how much the total is higher one unit shorter and one
+    /// unit longer, with a dash where there is no such length; and such a schedule. Without a TERMS card time costs
+    /// nothing, and the result is the shortest length with the least cost.
     Optimum,
-    /// The plan of arrows that is generated from a deck of tasks.
+    /// The network of a deck of tasks.
+    ///
+    /// Reads a deck of tasks, which has TASK cards, and AFTER cards that say which task begins only after which other
+    /// has ended. Writes a deck in the form of `migrate` with an activity for each task, between two events of its own,
+    /// and links between them that take no time and cost nothing. The deck has a schedule of a length exactly if the
+    /// tasks have one, and the least costs are equal.
     Arrows,
-    /// What is spent and used in each period of this many days.
+    /// Spending and resources by periods of days.
+    ///
+    /// Writes for each period of this many days, 1 to 3660, from the start date on, what each item spends and how much
+    /// of each resource is used. The normal cost and the loads of an activity are spread evenly over its expected time,
+    /// from its earliest time on. At most 400 periods are allowed.
     Load(u64),
 }
 
@@ -108,61 +133,47 @@ impl Form {
         ensures none { IfNone result (AskForNone words.now) }
     {
         match words {
-            [word] => Form::of_one_word(word.as_bytes()),
-            [word, number] => Form::of_two_words(word.as_bytes(), number.as_bytes()),
+            [word] => Form::of_one_word(word.as_str()),
+            [word, number] => Form::of_two_words(word.as_str(), number.as_bytes()),
             _ => None,
         }
     }
 
     /// Returns the form of a single word.
-    fn of_one_word(word: &[u8]) -> Option<Form>
+    fn of_one_word(word: &str) -> Option<Form>
         ensures form { IfSome result (λ form. IsAskedBy form (word.now ∷ [])) }
         ensures none { IfNone result ((form : Form) → IsAskedBy form (word.now ∷ []) → ⊥) }
     {
-        if word == CHECK {
-            Some(Form::Check)
-        } else if word == NORMAL {
-            Some(Form::Normal)
-        } else if word == TIMES {
-            Some(Form::Times)
-        } else if word == SUMMARY {
-            Some(Form::Summary)
-        } else if word == VALUE {
-            Some(Form::Value)
-        } else if word == CURVE {
-            Some(Form::Curve)
-        } else if word == CERTIFY {
-            Some(Form::Certify)
-        } else if word == MIGRATE {
-            Some(Form::Migrate)
-        } else if word == OPTIMUM {
-            Some(Form::Optimum)
-        } else if word == ARROWS {
-            Some(Form::Arrows)
-        } else {
-            None
+        match word {
+            "check" => Some(Form::Check),
+            "normal" => Some(Form::Normal),
+            "times" => Some(Form::Times),
+            "summary" => Some(Form::Summary),
+            "value" => Some(Form::Value),
+            "curve" => Some(Form::Curve),
+            "certify" => Some(Form::Certify),
+            "migrate" => Some(Form::Migrate),
+            "optimum" => Some(Form::Optimum),
+            "arrows" => Some(Form::Arrows),
+            _ => None,
         }
     }
 
     /// Returns the form of a word and a number.
-    fn of_two_words(word: &[u8], number: &[u8]) -> Option<Form>
+    fn of_two_words(word: &str, number: &[u8]) -> Option<Form>
         ensures form { IfSome result (λ form. IsAskedBy form (word.now ∷ number.now ∷ [])) }
         ensures none { IfNone result ((form : Form) → IsAskedBy form (word.now ∷ number.now ∷ []) → ⊥) }
     {
-        if word == POINT {
-            read_number(number).map(Form::Point)
-        } else if word == OUTLOOK {
-            read_number(number).map(Form::Outlook)
-        } else if word == BENCH {
-            read_number(number)
+        match word {
+            "point" => read_number(number).map(Form::Point),
+            "outlook" => read_number(number).map(Form::Outlook),
+            "bench" => read_number(number)
                 .filter(|n| (1..=MOST_ACTIVITIES).contains(n))
-                .map(Form::Bench)
-        } else if word == LOAD {
-            read_number(number)
+                .map(Form::Bench),
+            "load" => read_number(number)
                 .filter(|days| (1..=MAX_DAYS).contains(days))
-                .map(Form::Load)
-        } else {
-            None
+                .map(Form::Load),
+            _ => None,
         }
     }
 

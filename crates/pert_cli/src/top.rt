@@ -27,13 +27,8 @@ use std::alloc::Global;
 /// Runs `pert`: reads a deck from `source`, writes the answer that the words ask for on `out`, or on `err` why
 /// there is none, and returns the status with which the program ends.
 ///
-/// The words are one of the forms. `check` counts the cards of an accepted deck. `normal` gives the schedule at the
-/// all-normal length, `times` the times of the events and the critical path, `summary` what the accounts add up to,
-/// `value` the forecast and what the work is worth. `curve` gives the breakpoints of the time-cost curve, `certify`
-/// its certificate, `point L` a schedule of least cost for the length L, `outlook L` that and what each item costs
-/// by it, `optimum` the length with the least total cost and a schedule for it, `load P` what is spent and used in
-/// each period of P days. `migrate` writes the deck in canonical form, `arrows` the plan that is generated from a
-/// deck of tasks, in that form. `bench N` gives figures of the curve of a deck of its own, and reads none.
+/// The words are one of the forms that the usage line names. `IsTextOf` says of each form which texts answer it, and
+/// docs/reports.md how to read them. `bench N` has a deck of its own and reads none; the others read the source's.
 ///
 /// The order is: the words, the complete deck, its faults, whether the form refuses it, all memory that the answer
 /// needs, the answer and a flush. A deck is a plan, except for `arrows`, which reads a deck of tasks: what accepted

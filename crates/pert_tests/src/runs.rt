@@ -1,8 +1,8 @@
 //! Runs over sources and sinks in memory: what each status leaves behind.
 
 use crate::testing::{
-    AT_WORK, CERTIFICATE, Edges, MIGRATED, SMALL, Task, UNREADABLE, USAGE, WHOLE, expect_ok_none,
-    first_wrong_run, leaves, run_of,
+    AT_WORK, CERTIFICATE, Edges, MIGRATED, SMALL, Task, UNREADABLE, WHOLE, expect_ok_none,
+    first_wrong_run, leaves, left_by, run_of,
 };
 use std::alloc::{AllocError, Global};
 
@@ -139,34 +139,48 @@ fn answers_or_refuses_decks(rt: HostRuntime) {
     expect_ok_none(&rt, first_wrong_run(rt.alloc(), SMALL, RUNS));
 }
 
-// Words that ask for no form, or for a benchmark of which there is no deck: nothing is read.
-const WORDS: &[(&[&str], &str, u8, &str, &str)] = &[
-    (&[], WHOLE, 2, "", USAGE),
-    (&["NORMAL"], WHOLE, 2, "", USAGE),
-    (&["normal", "check"], WHOLE, 2, "", USAGE),
-    (&["times "], WHOLE, 2, "", USAGE),
-    (&[""], WHOLE, 2, "", USAGE),
-    (&["point"], WHOLE, 2, "", USAGE),
-    (&["point", "06"], WHOLE, 2, "", USAGE),
-    (&["point", "-1"], WHOLE, 2, "", USAGE),
-    (&["point", ""], WHOLE, 2, "", USAGE),
-    (&["point", "12345678901234"], WHOLE, 2, "", USAGE),
-    (&["point", "6", "7"], WHOLE, 2, "", USAGE),
-    (&["6", "point"], WHOLE, 2, "", USAGE),
-    (&["curve", "6"], WHOLE, 2, "", USAGE),
-    (&["curve", "x"], WHOLE, 2, "", USAGE),
-    (&["CURVE"], WHOLE, 2, "", USAGE),
-    (&["bench", "0"], "", 2, "", USAGE),
-    (&["bench", "4001"], "", 2, "", USAGE),
-    (&["bench", "04"], "", 2, "", USAGE),
-    (&["bench", "-1"], "", 2, "", USAGE),
-    (&["bench", ""], "", 2, "", USAGE),
-    (&["bench", "10000000000000"], "", 2, "", USAGE),
+// Words that ask for no form, or for a benchmark of which there is no deck.
+const WORDS: &[&[&str]] = &[
+    &["NORMAL"],
+    &["normal", "check"],
+    &["times "],
+    &[""],
+    &["point"],
+    &["point", "06"],
+    &["point", "-1"],
+    &["point", ""],
+    &["point", "12345678901234"],
+    &["point", "6", "7"],
+    &["6", "point"],
+    &["curve", "6"],
+    &["curve", "x"],
+    &["CURVE"],
+    &["bench", "0"],
+    &["bench", "4001"],
+    &["bench", "04"],
+    &["bench", "-1"],
+    &["bench", ""],
+    &["bench", "10000000000000"],
 ];
+
+/// Returns the first of `WORDS` that leave another thing than no words do, which leave the usage line alone, or `None`.
+/// Nothing can be read. The acceptance case `no-words` has the usage line, byte by byte.
+fn first_asking(alloc: Global) -> Result<Option<usize>, AllocError> {
+    let usage = left_by(alloc, &run_of(&[], WHOLE), UNREADABLE)?;
+    if !usage.is_usage(b"usage: pert check | ") {
+        return Ok(Some(WORDS.len()));
+    }
+    for (i, &words) in WORDS.iter().enumerate() {
+        if !left_by(alloc, &run_of(words, WHOLE), UNREADABLE)?.is_same(&usage) {
+            return Ok(Some(i));
+        }
+    }
+    Ok(None)
+}
 
 #[test]
 fn refuses_words(rt: HostRuntime) {
-    expect_ok_none(&rt, first_wrong_run(rt.alloc(), UNREADABLE, WORDS));
+    expect_ok_none(&rt, first_asking(rt.alloc()));
 }
 
 #[test]

@@ -83,11 +83,6 @@ ACT C 7 2 0\n\
 CLOSE\n\
 END\n";
 
-/// The usage line of `run`.
-pub(crate) const USAGE: &str =
-    "usage: pert check | normal | times | summary | value | curve | certify | point L | outlook L | \
-bench N | migrate | optimum | arrows | load P\n";
-
 /// The top calls.
 #[derive(Clone, Copy)]
 pub(crate) enum Call {
@@ -181,6 +176,12 @@ impl Left {
     /// Returns whether the other is the same.
     pub(crate) fn is_same(&self, other: &Left) -> bool {
         self.is(other.status, other.out.bytes(), other.err.bytes())
+    }
+
+    /// Returns whether status 2 and a line that begins so was left, on the error output alone.
+    pub(crate) fn is_usage(&self, begin: &[u8]) -> bool {
+        let err = self.err.bytes();
+        self.is(2, b"", err) & err.starts_with(begin) & err.ends_with(b"\n")
     }
 
     /// Returns the bytes on the output.
