@@ -7,12 +7,14 @@ from pathlib import Path
 
 from command_files import completion, manual, programs
 from command_files.commands import commands_of
+from command_files.forms import manual_page, read_forms
 from command_files.texts import TEXTS
 
 USAGE = """\
-Writes the manual pages of the companion's commands, and completion of these and the programs.
+Writes the manual pages of the companion's commands, the section FORMS of pert's, and completion of
+the commands and the programs.
 
-    tools/command-files             writes docs/man/pert-*.1 and tools/completion/
+    tools/command-files             writes docs/man/pert-*.1, docs/man/pert.1 and tools/completion/
     tools/command-files --check     names each file that is not as it would be written
 
 The status is 0, 1 if a file is not up to date, or 2 for wrong words.
@@ -23,6 +25,7 @@ LIBRARIES = ("openpyxl", "defusedxml", "icalendar", "jinja2", "numpy")
 def files(top: Path) -> dict[Path, str]:
     """Returns each file with its text: pages of commands, and completion for three shells."""
     commands = commands_of(top)
+    forms = read_forms(top)
     page = (top / "docs/man/pert.1").read_text(encoding="utf-8")
     day = re.search(r'^\.TH \S+ 1 "([0-9-]+)"', page)
     if day is None:
@@ -31,11 +34,12 @@ def files(top: Path) -> dict[Path, str]:
     found = {
         folder / "companion.bash": completion.bash(commands),
         folder / "_pert-companion": completion.zsh(commands),
-        folder / "pert.bash": programs.bash(),
-        folder / "_pert": programs.zsh(),
+        folder / "pert.bash": programs.bash(forms),
+        folder / "_pert": programs.zsh(forms),
+        top / "docs/man/pert.1": manual_page(page, forms),
     }
     for program in programs.PROGRAMS:
-        found[folder / f"{program}.fish"] = programs.fish(program)
+        found[folder / f"{program}.fish"] = programs.fish(program, forms)
     for command in commands:
         found[folder / f"{command.name}.fish"] = completion.fish(command)
         if command.name in TEXTS:

@@ -1,5 +1,7 @@
 """The manual page of a command: its parser's help, with the texts of `texts.py`."""
 
+import re
+
 from command_files.commands import Command, Word
 from command_files.texts import TEXTS
 
@@ -13,22 +15,22 @@ def page(command: Command, day: str) -> str:
     lines = [f'.TH {title} 1 "{day}" "pert @VERSION@" "User Commands"', ".SH NAME"]
     lines.append(f"{_escaped(command.name)} \\- {_escaped(text.purpose)}")
     lines += [".SH SYNOPSIS", ".nf", *_folded(command.usage), ".fi"]
-    lines += [".SH DESCRIPTION", *_filled(command.description)]
+    lines += [".SH DESCRIPTION", *filled(command.description)]
     for paragraph in text.paragraphs:
-        lines += [".PP", *_filled(paragraph)]
+        lines += [".PP", *filled(paragraph)]
     if command.arguments():
         lines.append(".SH ARGUMENTS")
     for word in command.arguments():
-        lines += [".TP", f".I {_escaped(word.value)}", *_filled(_sentence(word.help))]
+        lines += [".TP", f".I {_escaped(word.value)}", *filled(_sentence(word.help))]
     lines.append(".SH OPTIONS")
     for word in command.options():
-        lines += [".TP", _heading(word), *_filled(_sentence(word.help))]
+        lines += [".TP", _heading(word), *filled(_sentence(word.help))]
     lines += [".SH EXIT STATUS", ".TP", ".B 0", "All was done."]
-    lines += [".TP", ".B 1", *_filled(text.refused)]
+    lines += [".TP", ".B 1", *filled(text.refused)]
     lines += [".TP", ".B 2", "The words are wrong, or a program or a library is missing."]
     lines += [".PP", "Each message is one line on standard error."]
     lines += [".SH EXAMPLES", ".nf", *_examples(command.epilog), ".fi"]
-    lines += [".SH SEE ALSO", *_filled(", ".join((*text.see, "pert(1)", "pert-deck(5)")))]
+    lines += [".SH SEE ALSO", *filled(", ".join((*text.see, "pert(1)", "pert-deck(5)")))]
     return "\n".join(lines) + "\n"
 
 
@@ -48,14 +50,15 @@ def _escaped(text: str) -> str:
     return text.replace("\\", "\\e").replace("-", "\\-")
 
 
-def _filled(text: str) -> list[str]:
+def filled(text: str) -> list[str]:
     """Returns a text in lines of at most 80 bytes, none of which begins like a macro.
 
-    Each sentence begins on a line of its own.
+    Each sentence begins on a line of its own, and what is between backticks is bold.
     """
     lines: list[str] = []
     line = ""
-    for word in _escaped(" ".join(text.split())).split(" "):
+    bold = re.sub(r"`([^`]*)`", r"\\fB\1\\fR", _escaped(" ".join(text.split())))
+    for word in bold.split(" "):
         ends = line.endswith(".") and word[:1].isupper()
         if line and (ends or len(f"{line} {word}".encode()) > WIDTH) and word[:1] not in ".'":
             lines.append(line)
