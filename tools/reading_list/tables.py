@@ -32,10 +32,28 @@ class Section:
 
 
 def sections(repository: Repository) -> list[Section]:
-    """The rows of tools/reading-sections.txt, the longest places first."""
+    """The rows of tools/reading-sections.txt, the longest places first. A row with a star is one
+    for each file that it matches.
+    """
     rows = rows_of(repository.top / "tools" / "reading-sections.txt")
-    found = [Section(place, page, heading) for place, page, heading in rows]
+    found: list[Section] = []
+    for place, page, heading in rows:
+        if "*" in place:
+            found += starred(repository, Section(place, page, heading))
+        else:
+            found.append(Section(place, page, heading))
     return sorted(found, key=lambda section: -len(section.place))
+
+
+def starred(repository: Repository, row: Section) -> list[Section]:
+    """A row for each file that a row with a star matches, whose name is in the heading instead."""
+    before, _, after = row.place.partition("*")
+    found = []
+    for path in sorted(repository.crates.glob(row.place)):
+        place = str(path.relative_to(repository.crates))
+        name = place.removeprefix(before).removesuffix(after).lower()
+        found.append(Section(place, row.page, row.heading.replace("*", name)))
+    return found
 
 
 def section_of(repository: Repository, listed: list[Section], definition: Definition) -> str | None:

@@ -389,6 +389,16 @@ def test_pages_and_tables_that_are_stale_are_refused(
     assert any(said in line for line in refused(top, capsys))
 
 
+def test_a_star_in_a_row_is_a_name_and_its_section(
+    top: Path, capsys: pytest.CaptureFixture[str]
+) -> None:
+    change(top, "tools/reading-sections.txt", "pc_low/specs\tdeck.md\tWords", "*/specs\tdeck.md\t*")
+    said = "tools/reading-sections.txt: deck.md has no section"
+    assert f"{said} 'pc_low'" in refused(top, capsys)
+    (top / "docs/deck.md").write_text("# Deck\n\n## pc_low\n\n## pc_top\n", encoding="utf-8")
+    assert run(top, ["--check"]) == 0
+
+
 def test_more_than_a_person_reads_is_refused(
     top: Path, capsys: pytest.CaptureFixture[str], monkeypatch: pytest.MonkeyPatch
 ) -> None:
