@@ -7,30 +7,14 @@ use pc_curve::bench::{MOST_ACTIVITIES, bench_deck};
 use std::alloc::{AllocError, Global};
 
 // Words that ask for the curve of the deck with so many activities, with the status, the output and the error output
-// that they give. The deck is not read.
-const FIGURES: &[(&[&str], &str, u8, &str, &str)] = &[
-    (
-        &["bench", "1"],
-        "",
-        0,
-        "BENCH 1\nNORMAL 10 74\nCRASH 7 83\nBREAKS 2\nSUM 314\n",
-        "",
-    ),
-    (
-        &["bench", "4"],
-        "",
-        0,
-        "BENCH 4\nNORMAL 28 211\nCRASH 18 291\nBREAKS 4\nSUM 2683\n",
-        "",
-    ),
-    (
-        &["bench", "400"],
-        "",
-        0,
-        "BENCH 400\nNORMAL 3069 22170\nCRASH 1898 31246\nBREAKS 25\nSUM 29299862\n",
-        "",
-    ),
-];
+// that they give. The deck is not read. tests/acceptance has small ones.
+const FIGURES: &[(&[&str], &str, u8, &str, &str)] = &[(
+    &["bench", "400"],
+    "",
+    0,
+    "BENCH 400\nNORMAL 3069 22170\nCRASH 1898 31246\nBREAKS 25\nSUM 29299862\n",
+    "",
+)];
 
 #[test]
 fn the_benchmark_reads_nothing(rt: HostRuntime) {

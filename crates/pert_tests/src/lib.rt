@@ -19,8 +19,6 @@ mod runs;
 #[cfg(test)]
 mod sessions;
 #[cfg(test)]
-mod task_runs;
-#[cfg(test)]
 mod testing;
 #[cfg(test)]
 mod trials;

@@ -1,19 +1,10 @@
 //! Runs over sources and sinks in memory: what each status leaves behind.
 
 use crate::testing::{
-    AT_WORK, CERTIFICATE, Edges, MIGRATED, SMALL, Task, UNREADABLE, WHOLE, expect_ok_none,
-    first_wrong_run, leaves, left_by, run_of,
+    Edges, SMALL, TASKS, Task, UNREADABLE, WHOLE, expect_ok_none, first_wrong_run, leaves, left_by,
+    run_of,
 };
 use std::alloc::{AllocError, Global};
-
-// Activities of an item that no card has.
-const NO_ITEMS: &str = "PROJECT,E0,S,T,2024-01-01,1,,Example\n\
-EVENT,S,Start\n\
-EVENT,M,Middle\n\
-EVENT,T,End\n\
-ACT,A,S,M,1.1,3,4,5,4,2,10,3,Dig\n\
-ACT,B,M,T,1.2,4,5,12,5,3,20,5,Cover\n\
-END\n";
 
 // Two activities that go round beside the way from the start to the end.
 const ROUND: &str = "PROJECT,P,S,T,2024-01-01,1,,\n\
@@ -28,56 +19,6 @@ ACT,C,N,M,1,1,1,1,1,1,1,1,\n\
 ACT,D,N,T,1,1,1,1,1,1,1,1,\n\
 END\n";
 
-const COUNTS: &str =
-    "accepted E1\nevents 3\nactivities 3\nitems 3\naccounts 2\ncharges 0\ntogos 0\nstatuses 0\n";
-
-const SCHEDULE: &str =
-    "LENGTH 9\nCOST 45\nEVENT S 0\nEVENT M 4\nEVENT T 9\nACT A 4\nACT B 5\nACT C 7\n";
-
-const TIMES: &str = "TIMES E1\n\
-EVENT                      TE           TL        SLACK DATE\n\
-S                           0            0            0 2024-01-01\n\
-M                          24           24            0 2024-01-05\n\
-T                          60           60            0 2024-01-11\n\
-ACTIVITY             EXPECTED         VARIANCE        SLACK\n\
-A                          24                4            0\n\
-B                          36               64            0\n\
-C                          42                0           18\n\
-CRITICAL A\n\
-CRITICAL B\n\
-VARIANCE 68\n";
-
-const SUMMARY: &str = "SUMMARY E1 2024-01-08\n\
-ITEM             LV         BUDGET         ACTUAL          TO-GO         LATEST        OVERRUN TITLE\n\
-1                 1             45             10             50             60             15 Whole\n\
-1.1               2             25             10             30             40             15 Frame, north\n\
-1.2               2             20              0             20             20              0 Roof\n\
-LEVEL             1             45             10             50             60             15\n\
-LEVEL             2             45             10             50             60             15\n";
-
-const VALUE: &str = "VALUE E1 2024-01-08\n\
-EVENT                FORECAST       FSLACK DATE\n\
-S                           0            0 2024-01-01\n\
-M                          66          -42 2024-01-12\n\
-T                         102          -42 2024-01-18\n\
-ITEM             LV         BUDGET         ACTUAL          VALUE        OVERRUN       FSLACK TITLE\n\
-1                 1             45             10              6              4          -42 Whole\n\
-1.1               2             25             10              6              4          -42 Frame, north\n\
-1.2               2             20              0              0              0          -42 Roof\n";
-
-const BREAKS: &str = "9 45 3\n7 51 7\n5 65 -\n";
-
-// The length lies between two breakpoints.
-const POINT_6: &str =
-    "LENGTH 6\nCOST 58\nEVENT S 0\nEVENT M 2\nEVENT T 6\nACT A 2\nACT B 4\nACT C 6\n";
-
-const OUTLOOK_6: &str =
-    "LENGTH 6\nCOST 58\nEVENT S 0\nEVENT M 2\nEVENT T 6\nACT A 2\nACT B 4\nACT C 6\n\
-ITEM             LV         BUDGET        OUTLOOK         CHANGE TITLE\n\
-1                 1             45             58             13 Whole\n\
-1.1               2             25             33              8 Frame, north\n\
-1.2               2             20             25              5 Roof\n";
-
 const LOADED: &str = "LOAD E1 7\n\
 PERIOD                0 2024-01-01\n\
 PERIOD                1 2024-01-08\n\
@@ -89,42 +30,13 @@ ITEMS\n\
 1.2                   1             10\n\
 RESOURCES\n";
 
-// Without terms the time costs nothing.
-const OPTIMUM: &str = "OPTIMUM E1\nLENGTH 9\nDIRECT 45\nTIME 0\nTOTAL 45\nBELOW 3\nABOVE -\n\
-EVENT S 0\nEVENT M 4\nEVENT T 9\nACT A 4\nACT B 5\nACT C 7\n";
-
-const TOO_SHORT: &str = "F32 record 0: length 4 is outside 5 to 9\n";
-
-const TOO_LONG: &str = "F32 record 0: length 10 is outside 5 to 9\n";
-
 const NO_PROJECT: &str = "F3 record 1: first card is not PROJECT\n";
 
-// Words that ask for a form and a deck, with the status, the output and the error output that they give.
+// Words that ask for a form and a deck, with the status, the output and the error output that they give. The texts of
+// the forms are compared in tests/acceptance, and what failing edges leave of them in `edges`.
 const RUNS: &[(&[&str], &str, u8, &str, &str)] = &[
-    (&["check"], WHOLE, 0, COUNTS, ""),
-    (&["normal"], WHOLE, 0, SCHEDULE, ""),
-    (&["times"], WHOLE, 0, TIMES, ""),
-    (&["summary"], AT_WORK, 0, SUMMARY, ""),
-    (&["value"], AT_WORK, 0, VALUE, ""),
-    (&["curve"], WHOLE, 0, BREAKS, ""),
-    (&["certify"], WHOLE, 0, CERTIFICATE, ""),
-    (&["point", "6"], WHOLE, 0, POINT_6, ""),
-    (&["outlook", "6"], WHOLE, 0, OUTLOOK_6, ""),
-    (&["migrate"], WHOLE, 0, MIGRATED, ""),
-    (&["migrate"], MIGRATED, 0, MIGRATED, ""),
-    (&["optimum"], WHOLE, 0, OPTIMUM, ""),
     (&["load", "7"], WHOLE, 0, LOADED, ""),
-    (&["outlook", "4"], WHOLE, 1, "", TOO_SHORT),
-    (&["point", "4"], WHOLE, 1, "", TOO_SHORT),
-    (&["point", "10"], WHOLE, 1, "", TOO_LONG),
     (&["check"], "END\n", 1, "", NO_PROJECT),
-    (
-        &["point", "6"],
-        NO_ITEMS,
-        1,
-        "",
-        "F14 record 5: unknown item 1.1\n",
-    ),
     (
         &["times"],
         ROUND,
@@ -132,6 +44,8 @@ const RUNS: &[(&[&str], &str, u8, &str, &str)] = &[
         "",
         "F27 record 8: activities in a cycle: B C\n",
     ),
+    (&["arrows"], WHOLE, 1, "", "F4 record 5: unknown kind\n"),
+    (&["migrate"], TASKS, 1, "", "F4 record 4: unknown kind\n"),
 ];
 
 #[test]

@@ -8,12 +8,12 @@ use pert_cli::run;
 use std::alloc::{AllocError, Global};
 use std::process::Abort;
 
-/// A deck of three activities: these first cards, its items, events, activities and accounts, and these last cards.
+/// A deck of three activities with these last cards.
 macro_rules! deck_of_three {
-    ($first:literal, $last:literal) => {
+    ($last:literal) => {
         concat!(
-            $first,
-            "WBS,1,,Whole\n\
+            "PROJECT,E1,S,T,2024-01-01,1,,Example one\n\
+WBS,1,,Whole\n\
 WBS,1.1,1,\"Frame, north\"\n\
 WBS,1.2,1,Roof\n\
 EVENT,S,Start\n\
@@ -30,21 +30,11 @@ ACCT,X2,1.2,20,Roof account\n",
 }
 
 /// A deck of three activities.
-pub(crate) const WHOLE: &str = deck_of_three!(
-    "PROJECT,E1,S,T,2024-01-01,1,,Example one\n",
-    "END\n"
-);
+pub(crate) const WHOLE: &str = deck_of_three!("END\n");
 
 /// The same in the middle of its work.
 pub(crate) const AT_WORK: &str = deck_of_three!(
-    "PROJECT,E1,S,T,2024-01-01,1,,Example one\n",
     "ASOF,2024-01-08\nCHARGE,X1,2024-01-03,10\nTOGO,X1,2024-01-08,30\nEND\n"
-);
-
-/// The deck in its one form.
-pub(crate) const MIGRATED: &str = deck_of_three!(
-    "PROJECT,E1,S,T,2024-01-01,1,,Example one,2\nASOF,2024-01-01\n",
-    "END\n"
 );
 
 /// A deck of two tasks, the second after the first.
