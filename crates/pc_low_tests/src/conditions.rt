@@ -1,13 +1,13 @@
 //! The conditions of a certificate on an activity's gaps and flows, on three activities: the first has knees at 4, of a
 //! rise of 3, and at 2, of a rise of 5.
-ghost use Rattle.std.specs.Prelude.{◌≡◌, length, IfSome};
+ghost use Rattle.std.specs.Prelude.{◌≡◌, length};
 
 use crate::cases::expect_none;
 use crate::cert_reader::joined;
+use crate::small::small_net;
 use pc_check::{Verdict, audit_source};
 use pc_crash::{CrashNet, PieceRow, Term};
 use pc_edges::MemSource;
-use pc_model::Arc;
 use pc_net::Net;
 use pc_text::Code;
 use std::alloc::Global;
@@ -39,19 +39,6 @@ const PIECES: &[PieceRow] = &[PieceRow {
     slope: 8,
 }];
 
-// The first two activities follow one another, and the third runs beside them.
-fn net(alloc: Global) -> Option<Net>
-    ensures events { IfSome result (λ net. net.events ≡ 3) }
-    ensures activities { IfSome result (λ net. length net.arcs ≡ 3) }
-{
-    let arcs = [
-        Arc { from: 0, to: 1 },
-        Arc { from: 1, to: 2 },
-        Arc { from: 0, to: 2 },
-    ];
-    Net::build(alloc, 3, 0, 2, &arcs).ok()
-}
-
 fn priced<'n>(alloc: Global, net: &'n Net) -> Option<CrashNet<'n>>
     requires events { net.now.events ≡ 3 }
     requires activities { length net.now.arcs ≡ 3 }
@@ -71,7 +58,7 @@ fn audited(alloc: Global, net: &CrashNet<'_>, text: &[u8]) -> Option<(u64, u64)>
 
 // What is found of the text of these parts.
 fn found(alloc: Global, parts: &[&[u8]]) -> Option<(u64, u64)> {
-    let net = net(alloc)?;
+    let net = small_net(alloc)?;
     let priced = priced(alloc, &net)?;
     let text = joined(alloc, parts).ok()?;
     audited(alloc, &priced, &text)

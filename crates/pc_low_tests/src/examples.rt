@@ -3,6 +3,7 @@
 ghost use Rattle.std.specs.Prelude.{◌≡◌, [], length, IfSome};
 ghost use Rattle.pc_crash.specs.inside.Steps.{IsBlankOf};
 
+use crate::small::small_net;
 use pc_cells::Region;
 use pc_check::{Verdict, audit_source};
 use pc_crash::{CrashNet, PieceRow, SegmentView, Steps, Term};
@@ -76,20 +77,7 @@ const TERMS: [Term; 3] = [
     },
 ];
 
-/// A, B and C, of which B follows A and C runs alongside both.
-fn net_of_three(alloc: Global) -> Option<Net>
-    ensures events { IfSome result (λ net. net.events ≡ 3) }
-    ensures activities { IfSome result (λ net. length net.arcs ≡ 3) }
-{
-    let arcs = [
-        Arc { from: 0, to: 1 },
-        Arc { from: 1, to: 2 },
-        Arc { from: 0, to: 2 },
-    ];
-    Net::build(alloc, 3, 0, 2, &arcs).ok()
-}
-
-/// The network with its prices.
+/// The small network with its prices.
 fn priced_of_three<'n>(alloc: Global, net: &'n Net) -> Option<CrashNet<'n>>
     requires events { net.now.events ≡ 3 }
     requires activities { length net.now.arcs ≡ 3 }
@@ -126,7 +114,7 @@ fn take_segments<L: Ledger>(alloc: Global, net: &CrashNet<'_>, blank: Blank) -> 
 }
 
 fn take_segments_of_three(alloc: Global) -> Option<bool> {
-    let net = net_of_three(alloc)?;
+    let net = small_net(alloc)?;
     let priced = priced_of_three(alloc, &net)?;
     take_segments::<Brand>(alloc, &priced, Blank::new(1))
 }

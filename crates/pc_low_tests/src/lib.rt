@@ -35,6 +35,8 @@ mod records;
 #[cfg(test)]
 mod rollup;
 #[cfg(test)]
+mod small;
+#[cfg(test)]
 mod stair;
 #[cfg(test)]
 mod text;
