@@ -24,7 +24,7 @@ use Rattle.pc_edges.specs.inside.lines.Reading.{kept}
 use Rattle.pc_curve.specs.Range.{IsLengthInRange}
 use Rattle.pc_whatif.specs.inside.trials.SessionRegion.{SessionRegion}
 use Rattle.pc_whatif.specs.Planning.{IsLineAnswer, IsTrialText, outside, costs, AreAnswers, editing_after, net_tried}
-use Rattle.pc_whatif.specs.inside.Planning.{Planning, IsAnswered, IsRenewed, Says}
+use Rattle.pc_whatif.specs.inside.Planning.{Planning, IsAnswered, HasCurrentTimes, AnswersLine}
 use Rattle.pc_whatif.specs.Texts.{refused_text, cost_text}
 use Rattle.pc_whatif.proofs.LineLaws.{ask_of-kept}
 
@@ -35,24 +35,24 @@ abbrev planning_of : Project → Editing → SessionRegion → Planning
 planning_of project editing region = record { project = project; editing = editing; region = region }
 
 -- the session stays as it is
-pub stays : (old : Planning) (asked : Option Ask) (text : List ℕ) → IsRenewed old.project old.editing old.region → IsLineAnswer old.project old.editing asked text
+pub stays : (old : Planning) (asked : Option Ask) (text : List ℕ) → HasCurrentTimes old.project old.editing old.region → IsLineAnswer old.project old.editing asked text
     → old.editing ≡ editing_after old.editing asked → IsAnswered old asked text old
 stays old asked text standing is same = record { answer = is; project = refl; editing = same; standing = standing; lists = λ other. refl; cells = refl }
 
 -- the same, where the session is the one that it was
-pub stays_as : (old new : Planning) (asked : Option Ask) (text : List ℕ) → new ≡ old → IsRenewed new.project new.editing new.region → IsLineAnswer new.project new.editing asked text
+pub stays_as : (old new : Planning) (asked : Option Ask) (text : List ℕ) → new ≡ old → HasCurrentTimes new.project new.editing new.region → IsLineAnswer new.project new.editing asked text
     → new.editing ≡ editing_after new.editing asked
     → IsAnswered old asked text new
 stays_as old new asked text same standing is kept = subst (λ (p : Planning). IsAnswered p asked text new) same (stays new asked text standing is kept)
 
 -- a trial that is answered, and after which the session is the one that it was
 pub tried_out : (old : Planning) (project : Project) (editing editing_left : Editing) (region region_left : SessionRegion) (trial : Trial) (text : List ℕ)
-    → editing_left ≡ editing → region_left ≡ region → IsRenewed project editing region → planning_of project editing region ≡ old → IsTrialText editing trial text
+    → editing_left ≡ editing → region_left ≡ region → HasCurrentTimes project editing region → planning_of project editing region ≡ old → IsTrialText editing trial text
     → IsAnswered old (Some (ask.Try trial)) text (planning_of project editing_left region_left)
 tried_out old project editing editing_left region region_left trial text edits kept standing same answers =
     stays_as old (planning_of project editing_left region_left) (Some (ask.Try trial)) text
     (ap (λ (e : Editing). planning_of project e region_left) edits ∙ ap (planning_of project editing) kept ∙ same)
-    (subst (λ (e : Editing). IsRenewed project e region_left) (sym edits) (subst (IsRenewed project editing) (sym kept) standing))
+    (subst (λ (e : Editing). HasCurrentTimes project e region_left) (sym edits) (subst (HasCurrentTimes project editing) (sym kept) standing))
     (subst (λ (e : Editing). IsTrialText e trial text) (sym edits) answers) refl
 
 none_kept : (test : Bool) (reason : Reason) → (if test then Some NothingToUndo else None) ≡ Some reason → test ≡ true
@@ -92,7 +92,7 @@ module _ (editing : Editing) (trial : Trial) where
 -- ---- lines
 
 -- what a talk answered are the answers to its lines
-pub answers_of : (start end : Planning) (lines : List (List ℕ)) (text : List ℕ) → Answered Says start lines text end → AreAnswers start.project start.editing lines text
+pub answers_of : (start end : Planning) (lines : List (List ℕ)) (text : List ℕ) → Answered AnswersLine start lines text end → AreAnswers start.project start.editing lines text
 answers_of start end [] text p = p.0
 answers_of start end (line ∷ lines) text p =
     let next = p.2 in

@@ -1,4 +1,4 @@
--- Lines that are answered on a deck have one text of answers, by the edits that stand.
+-- Lines that are answered on a deck have one text of answers, given the edits that are in effect.
 use Rattle.std.proofs.Common.{◌≡◌, ℕ, List, subst}
 use Rattle.pc_project.specs.Project.{Project}
 use Rattle.pc_project.proofs.SoundLaws.{sound_parts}

@@ -1,4 +1,4 @@
--- The numbers of a project as it is edited, and the times that stand.
+-- The numbers of a project as it is edited, and its current times.
 use Rattle.std.proofs.Common.{◌≡◌, ℕ, ◌<◌, List, [], ◌∷◌, length, map, refl, sym, ap, ◌∙◌, subst}
 use Rattle.std.specs.Prelude.{slice_set}
 use Rattle.std.proofs.lemmas.List.{map-set}
@@ -8,10 +8,10 @@ use Rattle.pc_project.specs.Planned.{IsPlanned}
 use Rattle.pc_project.specs.Project.{Project, expected_of, variance_in}
 use Rattle.pc_whatif.specs.edits.Editing.{Editing, begun}
 use Rattle.pc_whatif.specs.inside.edits.Editing.{ChangesOnly}
-use Rattle.pc_whatif.specs.edits.Plans.{estimates_at, estimates_in, expected_times, variances}
-use Rattle.pc_whatif.specs.inside.trials.SessionRegion.{SessionRegion, IsFor, IsStandingOf, IsChangedTo, expected_by, variance_by}
+use Rattle.pc_whatif.specs.edits.Plans.{nth_estimates, estimates_in, expected_times, variances}
+use Rattle.pc_whatif.specs.inside.trials.SessionRegion.{SessionRegion, IsRegionFor, IsStandingOf, IsChangedTo, expected_by, variance_by}
 use Rattle.pc_whatif.specs.Planning.{project_as}
-use Rattle.pc_whatif.specs.inside.Planning.{IsChangedAt, IsEditionOf, IsRenewed}
+use Rattle.pc_whatif.specs.inside.Planning.{IsChangedAt, IsEditionOf, HasCurrentTimes}
 
 -- ---- before any line
 
@@ -30,7 +30,7 @@ pub begun_edition : (project : Project) → IsEditionOf project (begun project)
 begun_edition project = record { network = refl; pieces = refl; unit_days = refl }
 
 module _ (project : Project) (planned : IsPlanned project) (region : SessionRegion) where
-  pub begun_renewed : IsFor project.network region → IsStandingOf project region → IsRenewed project (begun project) region
+  pub begun_renewed : IsRegionFor project.network region → IsStandingOf project region → HasCurrentTimes project (begun project) region
   begun_renewed fits standing =
       let lists = planned.own.is.lists in
       let unit = ap (λ (p : Project). p.heading.unit_days) lists in
@@ -46,9 +46,9 @@ module _ (project : Project) (planned : IsPlanned project) (region : SessionRegi
 -- ---- after a change
 
 module _ (project : Project) (old new : Editing) (a : ℕ) (change : ChangesOnly old new a) where
-  pub changed_at : (region : SessionRegion) → IsEditionOf project old → IsRenewed project old region → IsChangedAt project new a region
+  pub changed_at : (region : SessionRegion) → IsEditionOf project old → HasCurrentTimes project old region → IsChangedAt project new a region
   changed_at region is renewed =
-      let e = estimates_at new.estimates a in
+      let e = nth_estimates new.estimates a in
       record {
         fits = renewed.fits;
         activity = subst (λ n. a < length n.arcs) is.network change.activity;
@@ -68,8 +68,8 @@ module _ (project : Project) (old new : Editing) (a : ℕ) (change : ChangesOnly
 
 -- ---- what is asked
 
--- the project as it is edited is the one whose times stand
-pub changed_to : (project : Project) (editing : Editing) (region : SessionRegion) → IsRenewed project editing region → IsChangedTo project region (project_as project editing)
+-- the project as it is edited is the one that the current times are of
+pub changed_to : (project : Project) (editing : Editing) (region : SessionRegion) → HasCurrentTimes project editing region → IsChangedTo project region (project_as project editing)
 changed_to project editing region renewed = record {
   heading = refl;
   network = refl;

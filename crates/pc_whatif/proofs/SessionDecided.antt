@@ -20,7 +20,7 @@ use Rattle.pc_whatif.specs.inside.SessionOutcome.{SessionOutcome, heard_out, too
 
 -- ---- how much was taken
 
--- where a source tells its bytes, no more than so many were taken
+-- if a source reports its bytes, at most this many were taken
 few_taken : (limit : ℕ) (left left_after : Option (List ℕ)) (bytes : List ℕ) (Q : Type 0) → Consumes left left_after bytes → length bytes ≤ limit
     → IfSome left (λ before. IfSome left_after (λ after. limit + length after < length before → Q))
 few_taken limit None left_after bytes Q taken few = tt

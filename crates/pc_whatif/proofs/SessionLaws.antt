@@ -17,7 +17,7 @@ use Rattle.pc_project.specs.shell.Sides.{Side, side, pulled_side, IsUntouched}
 use Rattle.pc_project.specs.shell.Verdict.{AcceptedBy, IsProjectOf}
 use Rattle.pc_project.proofs.lemmas.shell.SideLaws.{of_one}
 use Rattle.pc_whatif.specs.Heard.{Meaning, AnswersOn, HasAnswered, IsHeard, session_usage_text}
-use Rattle.pc_whatif.specs.inside.Hearing.{Hearing, all, passed, unread, cut, no_room, status_of}
+use Rattle.pc_whatif.specs.inside.Hearing.{Hearing, all, passed, unread, cut, no_room, talk_status}
 use Rattle.pc_whatif.specs.SessionOutcome.{deck_unread, edits_unread, in_answers, in_refusal, in_usage}
 use Rattle.pc_whatif.specs.inside.SessionOutcome.{SessionOutcome, heard_out, too_long, deck_refused, usage, no_memory, read_fault, write_fault}
 
@@ -27,7 +27,7 @@ module _ {T C O : Type 0} (says : T → List ℕ → List ℕ → T → Type 0) 
     (taken : O → Option (List ℕ)) (sink_faults : O → ℕ) (talker talker_after : T) (source source_after : C) (out out_after : O)
     (answers : List (List ℕ) → List ℕ → Type 0) (mean : (lines : List (List ℕ)) (text : List ℕ) → Answered says talker lines text talker_after → answers lines text) where
   pub heard : (result : Result (Unit {0}) TalkError) → Ends says left source_faults pulls taken sink_faults talker talker_after source source_after out out_after result
-      → Hearing answers (pulled_side left source_faults pulls source source_after) (side taken sink_faults out out_after) (status_of result)
+      → Hearing answers (pulled_side left source_faults pulls source source_after) (side taken sink_faults out out_after) (talk_status result)
   heard (Ok done) h = all (record { bytes = h.bytes; taken = h.read; text = h.text; answers_are = mean _ _ h.answered; took = h.wrote }) h.end h.no_fault h.short
   heard (Err talk.ReadFault) h = unread (record { bytes = h.bytes; taken = h.read; text = h.text; answers_are = mean _ _ h.answered; took = h.wrote }) h.fault h.short
   heard (Err talk.WriteFault) h = cut (record {

@@ -34,8 +34,8 @@ pub record HasAnswered {C O : Type 0} (answers : List (List ℕ) → List ℕ �
   pub answers_are : answers (lines bytes) text
   pub took : Took out text
 
--- a fault of the output came when it had taken a front of the answers to the first lines of the bytes that were taken: to whole ones,
--- unless the edits were read to their end. No pull of the edits failed, and none came behind the one in which the last of these lines ended
+-- the output failed after it had taken a prefix of the answers to the first lines of the bytes that were taken: of complete lines,
+-- unless the edits were read to their end. No pull of the edits failed, and none came after the one in which the last of these lines ended
 pub record HasAnsweredSome {C O : Type 0} (answers : List (List ℕ) → List ℕ → Type 0) (edits : Side C) (out : Side O) : Type 0 where
   pub bytes : List ℕ
   pub taken : Consumes (edits.bytes edits.old) (edits.bytes edits.new) bytes
@@ -49,7 +49,7 @@ pub record HasAnsweredSome {C O : Type 0} (answers : List (List ℕ) → List �
   pub answers_are : answers lines text
   pub took : TookFront out text
 
--- the text answers the lines on the deck, where its source tells its bytes
+-- the text answers the lines on the deck, if its source reports its bytes
 abbrev pub AnswersDeck : {D : Type 0} → Meaning → Side D → List (List ℕ) → List ℕ → Type 0
 AnswersDeck means deck lines text = OfBytes deck (λ bytes. AnswersOn means bytes lines text)
 
@@ -59,7 +59,7 @@ pub record IsHeard {D C O : Type 0} (means : Meaning) (deck : Side D) (edits : S
   pub accepted : OfBytes deck AcceptedBy
   pub answered : HasAnswered (AnswersDeck means deck) edits out lines
 
--- the whole lines among the first bytes, as many as edits may have
+-- the complete lines among the first bytes, as many as edits may have
 abbrev pub first_lines : List ℕ → List (List ℕ)
 first_lines bytes = whole_lines (take INPUT_LIMIT bytes)
 
@@ -70,13 +70,13 @@ pub record IsHeardOut {D C O : Type 0} (means : Meaning) (deck : Side D) (edits 
   pub no_fault : HadSteadyFaults edits
   pub short : length heard.answered.bytes ≤ INPUT_LIMIT
 
--- more bytes of the edits were taken than edits may have, without a fault, and the whole lines among the first of them were answered
+-- more bytes of the edits were taken than edits may have, without a fault, and the complete lines among the first of them were answered
 pub record IsHeardTooLong {D C O : Type 0} (means : Meaning) (deck : Side D) (edits : Side C) (out : Side O) : Type 0 where
   pub heard : IsHeard means deck edits out first_lines
   pub no_fault : HadSteadyFaults edits
   pub long : INPUT_LIMIT < length heard.answered.bytes
 
--- the edits could not be read on, and the whole lines before were answered
+-- reading the edits failed, and the complete lines before that were answered
 pub record IsHeardUnread {D C O : Type 0} (means : Meaning) (deck : Side D) (edits : Side C) (out : Side O) : Type 0 where
   pub heard : IsHeard means deck edits out whole_lines
   pub fault : HadFault edits

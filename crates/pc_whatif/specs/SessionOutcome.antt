@@ -1,4 +1,4 @@
--- What a session means and leaves behind, by its status.
+-- What a session means and what it leaves, by its status.
 use Rattle.std.specs.Prelude.{List, String}
 use Rattle.std.specs.declared.alloc.Global.{Global}
 use Rattle.pc_deck.specs.Limits.{longest_deck}
@@ -6,8 +6,8 @@ use Rattle.pc_project.specs.shell.Sides.{Side, HadFault, IsUntouched, TookAtMost
 use Rattle.pc_project.specs.shell.OneWord.{IsOneWord, IsRefusalCut}
 use Rattle.pc_whatif.specs.Heard.{session_usage_text, Meaning, IsHeardUnread, IsHeardCut}
 
--- what could not be read: the deck, of which no more was taken than a deck may have, and of the edits nothing; or the edits, whose whole
--- lines before that were answered
+-- what could not be read: the deck, of which no more was taken than a deck may have, and nothing of the edits; or the edits, whose
+-- complete lines before that were answered
 pub data IsSessionUnread {D C O : Type 0} (means : Meaning) (deck : Side D) (edits : Side C) (out : Side O) : Type 0 where
   deck_unread : HadFault deck → TookAtMost longest_deck deck → IsUntouched edits → IsUntouched out → IsSessionUnread means deck edits out
   edits_unread : IsHeardUnread means deck edits out → IsSessionUnread means deck edits out

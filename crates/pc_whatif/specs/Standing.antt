@@ -1,4 +1,4 @@
--- What the lines of a session mean by the edits that stand: no more of the lines before is needed.
+-- What the lines of a session mean, given the edits that are in effect: nothing else of the earlier lines is needed.
 use Rattle.std.specs.Prelude.{◌≡◌, ℕ, List, [], ◌∷◌, ◌++◌, Option, Some, None}
 use Rattle.std.specs.Option.{option_map_or}
 use Rattle.pc_project.specs.Project.{Project}
@@ -31,13 +31,13 @@ abbrev pub editing_of : Editing → List (List ℕ) → Editing
 editing_of editing [] = editing
 editing_of editing (line ∷ lines) = editing_of (editing_after editing (ask_of line)) lines
 
--- the text answers the lines, each on the deck's project with the edits that then stand applied in order
+-- the text answers the lines, each on the deck's project with the edits that are then in effect, applied in order
 abbrev pub AnswersByJournal : Project → Journal → List (List ℕ) → List ℕ → Type 0
 AnswersByJournal project journal [] text = text ≡ []
 AnswersByJournal project journal (line ∷ lines) text =
     (first : List ℕ) × (rest : List ℕ) × (text ≡ first ++ rest) × IsLineAnswer project (standing_of project journal) (ask_of line) first
     × AnswersByJournal project (journal_after project journal (ask_of line)) lines rest
 
--- and they are those on the project of a deck, on which at first no edit stands
+-- and they are those on the project of a deck, for which no edit is in effect at first
 abbrev pub AnswersInOrder : Project → List (List ℕ) → List ℕ → Type 0
 AnswersInOrder project lines text = AnswersByJournal project empty lines text

@@ -3,21 +3,21 @@ ghost use Rattle.std.specs.Prelude.{◌≡◌, length, IfOk, ℕ, List, None, So
 ghost use Rattle.pc_whatif.specs.edits.Editing.{begun};
 ghost use Rattle.pc_whatif.specs.inside.trials.Trials.{trial_cells};
 ghost use Rattle.pc_whatif.specs.inside.Planning.{
-  IsRenewed,
+  HasCurrentTimes,
   IsChangedAt,
   IsEditionOf,
   IsAnswered,
   LooksOver,
   LooksToAnswer,
   LooksToTry,
-  Says,
+  AnswersLine,
 };
 ghost use Rattle.pc_edges.specs.inside.Writes.{Writes};
 ghost use Rattle.pc_edges.specs.inside.page.Page.{fresh};
 ghost use Rattle.pc_whatif.specs.edits.Reading.{ask_of};
 ghost use Rattle.pc_crash.specs.inside.Steps.{IsBlankOf};
 ghost use Rattle.pc_whatif.specs.Texts.{ok_text, refused_text};
-ghost use Rattle.pc_whatif.specs.edits.Standing.{Stands, empty};
+ghost use Rattle.pc_whatif.specs.edits.Standing.{IsEditedBy, empty};
 ghost use Rattle.pc_project.specs.Planned.{IsPlanned};
 ghost use Rattle.pc_project.specs.Project.{Project};
 ghost use Rattle.pc_whatif.specs.Planning.{AnswersLines};
@@ -63,11 +63,11 @@ impl<'p> Model for Session<'p> {
 
     ghost Value = { Planning };
 
-    ghost use Rattle.pc_whatif.specs.inside.Inside.{planning_of, IsWholeInside};
+    ghost use Rattle.pc_whatif.specs.inside.Inside.{planning_of, IsSoundPlanning};
 
     ghost view = { planning_of };
 
-    ghost invariant = { IsWholeInside };
+    ghost invariant = { IsSoundPlanning };
 }
 
 impl<'p> Session<'p> {
@@ -99,7 +99,7 @@ impl<'p> Session<'p> {
     pub fn begin(alloc: Global, project: &'p Project) -> Result<Session<'p>, AllocError>
         ensures project { IfOk result (λ session. session.project ≡ project.now) }
         ensures editing { IfOk result (λ session. session.editing ≡ begun project.now) }
-        ensures standing { IfOk result (λ session. IsRenewed session.project session.editing session.region) }
+        ensures standing { IfOk result (λ session. HasCurrentTimes session.project session.editing session.region) }
         ensures cells { IfOk result (λ session. session.region.free ≡
             trial_cells project.now.network.events (length project.now.network.arcs) (length project.now.pieces)) }
     {
@@ -126,7 +126,7 @@ impl<'p> Session<'p> {
 pub(crate) fn renew(region: &mut SessionRegion, edits: &Edits<'_>, a: u32, project: &Project)
     requires edition { IsEditionOf project.now edits.now.editing }
     requires changed { IsChangedAt project.now edits.now.editing a region.old }
-    ensures renewed { IsRenewed project.now edits.now.editing region.new }
+    ensures renewed { HasCurrentTimes project.now edits.now.editing region.new }
     ensures free { region.new.free ≡ region.old.free }
 {
     region.set_estimates(a, &edits.estimates(a), project.unit_days());
@@ -251,7 +251,7 @@ impl Session<'_> {
 }
 
 impl Answers for Session<'_> {
-    ghost Says = { Says };
+    ghost Says = { AnswersLine };
 
     fn reply<O: Sink>(&mut self, line: &[u8], out: &mut O) -> Result<(), Failed> {
         counted::<O, Brand>(self, line, out, Blank::new(1))
@@ -297,7 +297,7 @@ fn refuse<O: Sink>(reason: Reason, page: &mut Page, out: &mut O) -> Result<(), F
 /// at that line.
 pub fn edits_stand_in_order()
     ensures stands { (project : Project) (lines : List (List ℕ)) →
-        Stands project (journal_of project empty lines) (editing_of (begun project) lines) }
+        IsEditedBy project (journal_of project empty lines) (editing_of (begun project) lines) }
     ensures answers { (project : Project) (lines : List (List ℕ)) (text : List ℕ) →
         AnswersLines project lines text → AnswersByJournal project empty lines text }
 {}

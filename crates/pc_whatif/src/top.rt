@@ -9,7 +9,7 @@ ghost use Rattle.pc_project.specs.shell.OneWord.{IsDeckRefused, IsOneWord};
 ghost use Rattle.pc_project.specs.shell.Sides.{side, pulled_side, HadNoFault, IsReadToEnd, OfBytes, Took};
 ghost use Rattle.pc_project.specs.shell.Verdict.{AcceptedBy, RefusedBy};
 ghost use Rattle.pc_whatif.specs.Heard.{session_usage_text, AnswersOn, IsHeardOut, IsHeardTooLong};
-ghost use Rattle.pc_whatif.specs.inside.Hearing.{Hearing, status_of};
+ghost use Rattle.pc_whatif.specs.inside.Hearing.{Hearing, talk_status};
 ghost use Rattle.pc_whatif.specs.SessionOutcome.{IsSessionCut, IsSessionUnread};
 ghost use Rattle.pc_whatif.specs.inside.SessionOutcome.{SessionOutcome};
 ghost use Rattle.pc_whatif.specs.Planning.{AnswersLines};
@@ -168,7 +168,7 @@ fn hear<C: Source, O: Sink>(alloc: Global, project: &Project, edits: &mut C, out
 
 /// Returns the status for the end of a talk.
 fn status_of(ended: Result<(), TalkError>) -> Status
-    ensures { result ≡ status_of ended }
+    ensures { result ≡ talk_status ended }
 {
     match ended {
         Ok(()) => Status::Done,

@@ -21,8 +21,8 @@ pub record Editing : Type 0 where
   pub kept : List Plan
 
 -- its numbers
-abbrev pub plan_of : Editing → Plan
-plan_of editing = record { terms = editing.net.terms; estimates = editing.estimates }
+abbrev pub edited_plan : Editing → Plan
+edited_plan editing = record { terms = editing.net.terms; estimates = editing.estimates }
 
 -- the same project with other numbers, and other plans kept
 abbrev pub editing_with : Editing → Plan → List Plan → Editing
@@ -45,10 +45,10 @@ begun project = record {
 abbrev pub activity_named : PricedNetwork → List ℕ → Option ℕ
 activity_named net code = position (pointwise nat_eq code) net.activities
 
--- the project after an accepted edit: its numbers are in place, and the plan before it is kept, with at most so many others
+-- the project after an accepted edit: its numbers are in place, and the plan before it is kept, with at most this many others
 abbrev pub edited : Editing → Edit → Editing
 edited editing edit =
-    option_map_or (λ a. editing_with editing (plan_with edit.change a (plan_of editing)) (keep_last MAX_KEPT (editing.kept ++ plan_of editing ∷ [])))
+    option_map_or (λ a. editing_with editing (plan_with edit.change a (edited_plan editing)) (keep_last MAX_KEPT (editing.kept ++ edited_plan editing ∷ [])))
     (activity_named editing.net edit.act) editing
 
 -- the project after an UNDO: its numbers are those before the latest kept edit, which is no longer kept; as it is where none is

@@ -15,8 +15,8 @@ pub record Plan : Type 0 where
   pub estimates : List Estimates
 
 -- the estimates of activity a; past the end of the list zeros
-abbrev pub estimates_at : List Estimates → ℕ → Estimates
-estimates_at list a = slice_index_or list a (record { optimistic = 0; likely = 0; pessimistic = 0 })
+abbrev pub nth_estimates : List Estimates → ℕ → Estimates
+nth_estimates list a = slice_index_or list a (record { optimistic = 0; likely = 0; pessimistic = 0 })
 
 -- the estimates of the cards of a deck
 abbrev pub estimates_in : Deck → List Estimates
@@ -38,7 +38,7 @@ estimates_with other old = old
 abbrev pub plan_with : Change → ℕ → Plan → Plan
 plan_with change a plan = record {
   terms = slice_set plan.terms a (term_with change (term_at plan.terms a));
-  estimates = slice_set plan.estimates a (estimates_with change (estimates_at plan.estimates a));
+  estimates = slice_set plan.estimates a (estimates_with change (nth_estimates plan.estimates a));
 }
 
 -- a term with the three numbers of a trial in place; the cost at the normal duration stays

@@ -14,7 +14,7 @@ use Rattle.pc_whatif.specs.declared.edits.ask.Edit.{Edit}
 use Rattle.pc_whatif.specs.declared.edits.ask.Trial.{Trial}
 use Rattle.pc_whatif.specs.declared.edits.reason.Reason.{Reason}
 use Rattle.pc_whatif.specs.declared.edits.reason.Reason.TheVariants.{UnknownActivity, OverLimit, CrashAboveNormal, EstimatesOutOfOrder, PieceFault, NothingToUndo}
-use Rattle.pc_whatif.specs.edits.Plans.{term_with, term_tried, estimates_with, estimates_at}
+use Rattle.pc_whatif.specs.edits.Plans.{term_with, term_tried, estimates_with, nth_estimates}
 use Rattle.pc_whatif.specs.edits.Editing.{Editing, activity_named}
 
 -- a number of a change is over the limit that a card's has
@@ -36,7 +36,7 @@ is_crash_above term = nat_lt term.normal term.crash
 abbrev pub are_disordered : Estimates → Bool
 are_disordered e = nat_lt e.likely e.optimistic || nat_lt e.pessimistic e.likely
 
--- one of these pieces of an activity has a fault, where those before them have so many units and the last of those, or
+-- one of these pieces of an activity has a fault, if the pieces before them have this many units in all and the last of those, or
 -- else the activity itself, costs `slope` for each unit: its slope does not rise (F34), or with it the pieces take all
 -- units from normal to crash (F35)
 abbrev pub has_flaw : Term → ℕ → ℕ → List PieceRow → Bool
@@ -64,7 +64,7 @@ refusal_of over term estimates pieces =
 abbrev pub edit_refusal : PricedNetwork → List Estimates → Edit → Option Reason
 edit_refusal net estimates edit =
     option_map_or
-    (λ a. refusal_of (is_over edit.change) (term_with edit.change (term_at net.terms a)) (estimates_with edit.change (estimates_at estimates a)) (pieces_of net.pieces a))
+    (λ a. refusal_of (is_over edit.change) (term_with edit.change (term_at net.terms a)) (estimates_with edit.change (nth_estimates estimates a)) (pieces_of net.pieces a))
     (activity_named net edit.act)
     -- 2: no activity has the code
     (Some UnknownActivity)
@@ -73,7 +73,7 @@ edit_refusal net estimates edit =
 abbrev pub trial_refusal : PricedNetwork → List Estimates → Trial → Option Reason
 trial_refusal net estimates trial =
     option_map_or
-    (λ a. refusal_of (is_trial_over trial) (term_tried trial (term_at net.terms a)) (estimates_at estimates a) (pieces_of net.pieces a))
+    (λ a. refusal_of (is_trial_over trial) (term_tried trial (term_at net.terms a)) (nth_estimates estimates a) (pieces_of net.pieces a))
     (activity_named net trial.act)
     (Some UnknownActivity)
 

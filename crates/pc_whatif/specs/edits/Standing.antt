@@ -1,4 +1,4 @@
--- Which edits stand, and that the project as edited is that of the deck with these edits, applied in order.
+-- Which edits are in effect, and that the edited project is the deck's project with these edits applied in order.
 use Rattle.std.specs.Prelude.{◌≡◌, ℕ, ◌+◌, ◌-◌, ◌≤◌, min, List, [], ◌∷◌, ◌++◌, length, take, unwrap_or}
 use Rattle.circular_buffer.specs.Buffer.{keep_last}
 use Rattle.pc_crash.specs.Priced.{PricedNetwork}
@@ -7,7 +7,7 @@ use Rattle.pc_project.specs.shell.Priced.{priced_in}
 use Rattle.pc_whatif.specs.declared.edits.ask.Edit.{Edit}
 use Rattle.pc_whatif.specs.declared.edits.TheConstants.{MAX_KEPT}
 use Rattle.pc_whatif.specs.edits.Plans.{Plan, plan_with}
-use Rattle.pc_whatif.specs.edits.Editing.{Editing, activity_named, begun, editing_with, plan_of}
+use Rattle.pc_whatif.specs.edits.Editing.{Editing, activity_named, begun, editing_with, edited_plan}
 
 -- the edits that were accepted and not taken back, in order, and how many of the last of them are kept for UNDO
 pub record Journal : Type 0 where
@@ -18,11 +18,11 @@ pub record Journal : Type 0 where
 abbrev pub empty : Journal
 empty = record { standing = []; kept = 0 }
 
--- after an accepted edit: it stands, and is kept; where as many are kept as may be, the oldest of them is no longer
+-- after an accepted edit: it is in effect and is kept; if there are as many kept edits as allowed, the oldest is no longer kept
 abbrev pub noted : Journal → Edit → Journal
 noted journal edit = record { standing = journal.standing ++ edit ∷ []; kept = min MAX_KEPT (journal.kept + 1) }
 
--- after an accepted UNDO: the latest edit stands no longer
+-- after an accepted UNDO: the latest edit is no longer in effect
 abbrev pub taken_back : Journal → Journal
 taken_back journal = record { standing = take (length journal.standing - 1) journal.standing; kept = journal.kept - 1 }
 
@@ -43,11 +43,11 @@ plans_before net (edit ∷ edits) plan = plan ∷ plans_before net edits (plan_w
 -- the project of a deck with the edits of a journal standing: applied in order, and of those that are kept the plans before each
 abbrev pub standing_of : Project → Journal → Editing
 standing_of project journal =
-    editing_with (begun project) (plan_after (priced_in project) journal.standing (plan_of (begun project)))
-    (keep_last journal.kept (plans_before (priced_in project) journal.standing (plan_of (begun project))))
+    editing_with (begun project) (plan_after (priced_in project) journal.standing (edited_plan (begun project)))
+    (keep_last journal.kept (plans_before (priced_in project) journal.standing (edited_plan (begun project))))
 
--- the project is as edited by the edits of the journal; of these no more are kept than stand, nor than may be
-pub record Stands (project : Project) (journal : Journal) (editing : Editing) : Type 0 where
+-- the project is edited by the edits of the journal; no more of them are kept than are in effect, nor than are allowed
+pub record IsEditedBy (project : Project) (journal : Journal) (editing : Editing) : Type 0 where
   pub is : editing ≡ standing_of project journal
   pub some : journal.kept ≤ length journal.standing
   pub few : journal.kept ≤ MAX_KEPT

@@ -18,8 +18,8 @@ pub data Hearing {C O : Type 0} (answers : List (List ℕ) → List ℕ → Type
   no_room : IsUntouched edits → IsUntouched out → Hearing answers edits out OutOfMemory
 
 -- the status of a talk that ended so
-abbrev pub status_of : Result (Unit {0}) TalkError → Status
-status_of (Ok done) = Done
-status_of (Err talk.ReadFault) = ReadFault
-status_of (Err talk.WriteFault) = WriteFault
-status_of (Err talk.TooLong) = TooLong
+abbrev pub talk_status : Result (Unit {0}) TalkError → Status
+talk_status (Ok done) = Done
+talk_status (Err talk.ReadFault) = ReadFault
+talk_status (Err talk.WriteFault) = WriteFault
+talk_status (Err talk.TooLong) = TooLong

@@ -8,16 +8,16 @@ use Rattle.pc_whatif.specs.declared.edits.ask.Ask.TheVariants as ask
 use Rattle.pc_whatif.specs.declared.edits.ask.Trial.{Trial}
 use Rattle.pc_whatif.specs.declared.edits.reason.Reason.{Reason}
 use Rattle.pc_whatif.specs.edits.Editing.{Editing, activity_named}
-use Rattle.pc_whatif.specs.edits.Plans.{estimates_at, expected_times, variances}
+use Rattle.pc_whatif.specs.edits.Plans.{nth_estimates, expected_times, variances}
 use Rattle.pc_whatif.specs.edits.Reading.{ask_of}
 use Rattle.pc_whatif.specs.edits.Refusal.{trial_refusal}
-use Rattle.pc_whatif.specs.inside.trials.SessionRegion.{SessionRegion, IsFor, IsStanding, expected_by, variance_by}
+use Rattle.pc_whatif.specs.inside.trials.SessionRegion.{SessionRegion, IsRegionFor, IsStanding, expected_by, variance_by}
 use Rattle.pc_curve.specs.Range.{IsRange}
 use Rattle.pc_whatif.specs.inside.trials.Trials.{looks_over}
 use Rattle.pc_whatif.specs.Texts.{ok_text}
 use Rattle.pc_whatif.specs.Planning.{net_tried, IsLineAnswer, editing_after}
 
--- what contracts see of a session: the deck's project, that project as it is edited, and what stands in the session's spans
+-- what contracts see of a session: the deck's project, that project as it is edited, and the contents of the session's spans
 pub record Planning : Type 0 where
   pub project : Project
   pub editing : Editing
@@ -27,8 +27,8 @@ pub record Planning : Type 0 where
 
 -- the standing times are those of the project as it is edited, from scratch: its expected times and variances, the greatest sums of these to
 -- each event and from it to the end, and the critical path
-pub record IsRenewed (project : Project) (editing : Editing) (region : SessionRegion) : Type 0 where
-  pub fits : IsFor project.network region
+pub record HasCurrentTimes (project : Project) (editing : Editing) (region : SessionRegion) : Type 0 where
+  pub fits : IsRegionFor project.network region
   pub standing : IsStanding project.network region
   pub expected : region.expected ≡ expected_times editing.unit_days editing.estimates
   pub variances_are : region.variances ≡ variances editing.unit_days editing.estimates
@@ -39,12 +39,12 @@ pub record IsAnswered (old : Planning) (asked : Option Ask) (text : List ℕ) (n
   pub answer : IsLineAnswer old.project old.editing asked text
   pub project : new.project ≡ old.project
   pub editing : new.editing ≡ editing_after old.editing asked
-  pub standing : IsRenewed new.project new.editing new.region
+  pub standing : HasCurrentTimes new.project new.editing new.region
   pub lists : (text ≡ ok_text → ⊥) → new ≡ old
   pub cells : new.region.free ≡ old.region.free
 
-abbrev pub Says : Planning → List ℕ → List ℕ → Planning → Type 0
-Says old line text new = IsAnswered old (ask_of line) text new
+abbrev pub AnswersLine : Planning → List ℕ → List ℕ → Planning → Type 0
+AnswersLine old line text new = IsAnswered old (ask_of line) text new
 
 -- ---- how often a line looks
 
@@ -75,9 +75,9 @@ pub record IsEditionOf (project : Project) (editing : Editing) : Type 0 where
   pub pieces : editing.net.pieces ≡ project.pieces
   pub unit_days : editing.unit_days ≡ project.heading.unit_days
 
--- the expected times and the variances that stand are those of the project as it is edited, but for those of activity a
+-- the current expected times and variances are those of the project as it is edited, except those of activity a
 pub record IsChangedAt (project : Project) (editing : Editing) (a : ℕ) (region : SessionRegion) : Type 0 where
-  pub fits : IsFor project.network region
+  pub fits : IsRegionFor project.network region
   pub activity : a < length project.network.arcs
-  pub expected : expected_times editing.unit_days editing.estimates ≡ slice_set region.expected a (expected_by editing.unit_days (estimates_at editing.estimates a))
-  pub variances_are : variances editing.unit_days editing.estimates ≡ slice_set region.variances a (variance_by editing.unit_days (estimates_at editing.estimates a))
+  pub expected : expected_times editing.unit_days editing.estimates ≡ slice_set region.expected a (expected_by editing.unit_days (nth_estimates editing.estimates a))
+  pub variances_are : variances editing.unit_days editing.estimates ≡ slice_set region.variances a (variance_by editing.unit_days (nth_estimates editing.estimates a))

@@ -1,4 +1,4 @@
--- What a session means and leaves behind, by its status.
+-- What a session means and what it leaves, by its status.
 -- Here is what no clause of a top call and no law reaches.
 use Rattle.std.specs.Prelude.{List, String}
 use Rattle.std.specs.declared.alloc.Global.{Global}
@@ -9,7 +9,7 @@ use Rattle.pc_project.specs.shell.OneWord.{IsDeckRefused, IsOneWord}
 use Rattle.pc_whatif.specs.Heard.{session_usage_text, Meaning, IsHeardOut, IsHeardTooLong}
 use Rattle.pc_whatif.specs.SessionOutcome.{IsSessionUnread, IsSessionCut}
 
--- what a session that ended with the status means and leaves behind
+-- what a session that ended with the status means, and what it leaves
 pub data SessionOutcome {D C O E : Type 0} (means : Meaning) (words : List (String Global)) (deck : Side D) (edits : Side C) (out : Side O) (err : Side E) : Status → Type 0 where
   heard_out : IsOneWord words → IsHeardOut means deck edits out → IsUntouched err → SessionOutcome means words deck edits out err Done
   too_long : IsOneWord words → IsHeardTooLong means deck edits out → IsUntouched err → SessionOutcome means words deck edits out err TooLong

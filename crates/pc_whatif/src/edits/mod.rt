@@ -6,15 +6,15 @@
 ghost use Rattle.std.specs.Prelude.{◌≡◌, ◌<◌, length, IfOk, OnOk, slice_set, None, Some, IfErr, OnErr};
 ghost use Rattle.pc_whatif.specs.inside.edits.Editing.{net_in, at_rest, ChangesOnly, MayTry};
 ghost use Rattle.pc_whatif.specs.edits.Plans.{
-  estimates_at,
+  nth_estimates,
   estimates_in,
   estimates_with,
   plan_with,
   term_with,
   term_tried,
 };
-ghost use Rattle.pc_whatif.specs.edits.Editing.{begun, edited, plan_of, undone, activity_named};
-ghost use Rattle.pc_whatif.specs.edits.Standing.{Stands, empty, Journal, noted, taken_back};
+ghost use Rattle.pc_whatif.specs.edits.Editing.{begun, edited, edited_plan, undone, activity_named};
+ghost use Rattle.pc_whatif.specs.edits.Standing.{IsEditedBy, empty, Journal, noted, taken_back};
 ghost use Rattle.pc_model.specs.Schedule.{term_at};
 ghost use Rattle.pc_whatif.specs.inside.edits.Inside.{replaced};
 ghost use Rattle.pc_whatif.specs.inside.edits.Plans.{AreEstimates, IsFitPlan};
@@ -71,11 +71,11 @@ impl<'p> Model for Edits<'p> {
 
     ghost Value = { Edits };
 
-    ghost use Rattle.pc_whatif.specs.inside.edits.Inside.{edits_from, IsWholeInside};
+    ghost use Rattle.pc_whatif.specs.inside.edits.Inside.{edits_from, IsSoundEdits};
 
     ghost view = { edits_from };
 
-    ghost invariant = { IsWholeInside };
+    ghost invariant = { IsSoundEdits };
 }
 
 impl<'p> Edits<'p> {
@@ -89,7 +89,7 @@ impl<'p> Edits<'p> {
     /// Returns the current estimates of an activity, in units.
     pub(crate) fn estimates(&self, a: u32) -> Estimates
         requires { a < length self.now.editing.net.network.arcs }
-        ensures value { result ≡ estimates_at self.now.editing.estimates a }
+        ensures value { result ≡ nth_estimates self.now.editing.estimates a }
         ensures fit { AreEstimates result }
     {
         self.estimates[a as usize]
@@ -100,7 +100,7 @@ impl<'p> Edits<'p> {
     /// Linear in events, activities and pieces.
     pub(crate) fn build(alloc: Global, project: &'p Project) -> Result<Edits<'p>, AllocError>
         ensures begun { IfOk result (λ edits. edits ≡ at_rest (begun project.now)) }
-        ensures standing { IfOk result (λ edits. Stands project.now empty edits.editing) }
+        ensures standing { IfOk result (λ edits. IsEditedBy project.now empty edits.editing) }
     {
         project.facts();
         Ok(Edits {
@@ -178,7 +178,7 @@ fn put(net: &mut CrashNet<'_>, estimates: &mut [Estimates], a: u32, change: &Cha
     ensures net { net.new ≡ record net.old
         { terms = slice_set net.old.terms a (term_with change.now (term_at net.old.terms a)) } }
     ensures estimates { estimates.new
-        ≡ slice_set estimates.old a (estimates_with change.now (estimates_at estimates.old a)) }
+        ≡ slice_set estimates.old a (estimates_with change.now (nth_estimates estimates.old a)) }
 {
     net.set_term(a, term_with(change, net.term(a)));
     estimates[a as usize] = estimates_with(change, estimates[a as usize]);
@@ -199,10 +199,11 @@ impl Edits<'_> {
             edit.now ≡ Some reason) }
         ensures changed { OnOk result (self.new ≡ at_rest (edited self.old.editing edit.now)) }
         ensures unchanged { OnErr result (self.new ≡ self.old) }
-        ensures undone { OnOk result (plan_of (undone self.new.editing) ≡ plan_of self.old.editing) }
+        ensures undone { OnOk result (edited_plan (undone self.new.editing) ≡ edited_plan self.old.editing) }
         ensures touched { IfOk result (ChangesOnly self.old.editing self.new.editing) }
         ensures standing { OnOk result ((project : Project) (journal : Journal) →
-            Stands project journal self.old.editing → Stands project (noted journal edit.now) self.new.editing) }
+            IsEditedBy project journal self.old.editing
+            → IsEditedBy project (noted journal edit.now) self.new.editing) }
     {
         let a = judge_edit(&self.net, &self.estimates, edit)?;
         let was = replaced(&edit.change, &self.net.term(a), &self.estimates[a as usize]);
@@ -262,7 +263,8 @@ impl Edits<'_> {
         ensures unchanged { OnErr result (self.new ≡ self.old) }
         ensures touched { IfOk result (ChangesOnly self.old.editing self.new.editing) }
         ensures standing { OnOk result ((project : Project) (journal : Journal) →
-            Stands project journal self.old.editing → Stands project (taken_back journal) self.new.editing) }
+            IsEditedBy project journal self.old.editing
+            → IsEditedBy project (taken_back journal) self.new.editing) }
     {
         let Some(kept) = self.kept.pop_back() else {
             return Err(Reason::NothingToUndo);

@@ -17,10 +17,10 @@ ghost use Rattle.pc_reports.specs.TimesText.{IsTimesText};
 ghost use Rattle.pc_times.specs.Times.{AreLengths};
 ghost use Rattle.pc_times.specs.declared.TheConstants.{MAX_ACTIVITY_LENGTH, MAX_TIME};
 ghost use Rattle.pc_whatif.specs.inside.edits.Plans.{AreEstimates};
-ghost use Rattle.pc_whatif.specs.inside.trials.Laid.{AreAtMost, AreSpansTaken, AreRenewed, IsLaidIn, list_of};
+ghost use Rattle.pc_whatif.specs.inside.trials.Laid.{AreAtMost, AreSpansTaken, AreRenewed, IsLaidIn, span_list};
 ghost use Rattle.pc_whatif.specs.inside.trials.SessionRegion.{
   IsChangedTo,
-  IsFor,
+  IsRegionFor,
   IsStanding,
   IsStandingOf,
   path_in,
@@ -28,7 +28,7 @@ ghost use Rattle.pc_whatif.specs.inside.trials.SessionRegion.{
   with_times,
 };
 ghost use Rattle.pc_curve.specs.Range.{IsRange, IsLengthInRange};
-ghost use Rattle.pc_whatif.specs.inside.trials.Trials.{HasRoom, looks_over, trial_cells};
+ghost use Rattle.pc_whatif.specs.inside.trials.Trials.{HasTrialCells, looks_over, trial_cells};
 
 mod trial;
 
@@ -81,7 +81,7 @@ impl SessionRegion {
     ///
     /// Linear in events, activities and pieces.
     pub(crate) fn build(alloc: Global, project: &Project) -> Result<SessionRegion, AllocError>
-        ensures fits { IfOk result (IsFor project.now.network) }
+        ensures fits { IfOk result (IsRegionFor project.now.network) }
         ensures standing { IfOk result (IsStandingOf project.now) }
         ensures free { IfOk result (λ r. r.free ≡
             trial_cells project.now.network.events (length project.now.network.arcs) (length project.now.pieces)) }
@@ -108,7 +108,7 @@ impl SessionRegion {
         requires variance_each { length variances.now ≡ length net.now.arcs }
         requires variances { AreAtMost MAX_VARIANCE variances.now }
         requires pieces { pieces ≤ MAX_PIECES }
-        ensures fits { IfOk result (IsFor net.now) }
+        ensures fits { IfOk result (IsRegionFor net.now) }
         ensures standing { IfOk result (IsStanding net.now) }
         ensures expected { IfOk result (λ r. r.expected ≡ expected.now) }
         ensures variances { IfOk result (λ r. r.variances ≡ variances.now) }
@@ -203,9 +203,9 @@ impl SessionRegion {
 
     /// Computes the times of events and the critical path from the expected times. Takes a few passes over the network.
     pub(crate) fn renew(&mut self, net: &Net)
-        requires { IsFor net.now self.old }
+        requires { IsRegionFor net.now self.old }
         ensures standing { IsStanding net.now self.new }
-        ensures fits { IsFor net.now self.new }
+        ensures fits { IsRegionFor net.now self.new }
         ensures rest { self.new ≡ with_times self.old self.new.early self.new.tails self.new.path_cells
             self.new.path_len }
     {
@@ -224,7 +224,7 @@ impl SessionRegion {
         project: &Project,
     ) -> Result<(), Failed>
         requires fresh { page.old ≡ fresh }
-        requires fits { IsFor project.now.network self.now }
+        requires fits { IsRegionFor project.now.network self.now }
         requires standing { IsStanding project.now.network self.now }
         ensures text { (changed : Plan) → IsChangedTo project.now self.now changed →
             (text : List ℕ) × IsTimesText changed text
@@ -255,7 +255,7 @@ impl SessionRegion {
         steps: &mut Steps<L>,
     ) -> Result<(), Failed>
         requires fresh { page.old ≡ fresh }
-        requires room { HasRoom net.now self.old }
+        requires room { HasTrialCells net.now self.old }
         ensures text { (text : List ℕ) × IsCurveText net.now text
             × Writes result (O.taken sink.old) (O.taken sink.new) (O.faults sink.old) (O.faults sink.new) text }
         ensures fresh { page.new ≡ fresh }
@@ -274,7 +274,7 @@ impl SessionRegion {
         limit: u64,
         steps: &mut Steps<L>,
     ) -> Option<u64>
-        requires room { HasRoom net.now self.old }
+        requires room { HasTrialCells net.now self.old }
         ensures least { IfSome result (curve_in net.now limit) }
         ensures within { IsSome result ↔ IsLengthInRange net.now limit }
         ensures kept { self.new ≡ self.old }
@@ -325,10 +325,10 @@ fn take_spans(region: &mut Region, events: usize, activities: usize) -> Spans
 /// The passes write into `room`, which has an entry for each event, and from there into the spans. Takes no memory.
 fn renew_times(region: &mut Region, spans: &Spans, net: &Net, room: &mut [u64]) -> usize
     requires laid { IsLaidIn region.old spans.now }
-    requires lengths { AreLengths net.now (list_of region.old 0) }
-    requires early { length (list_of region.old 2) ≡ net.now.events }
-    requires tails { length (list_of region.old 3) ≡ net.now.events }
-    requires path_cells { length (list_of region.old 4) ≡ net.now.events }
+    requires lengths { AreLengths net.now (span_list region.old 0) }
+    requires early { length (span_list region.old 2) ≡ net.now.events }
+    requires tails { length (span_list region.old 3) ≡ net.now.events }
+    requires path_cells { length (span_list region.old 4) ≡ net.now.events }
     requires room { length room.old ≡ net.now.events }
     ensures renewed { AreRenewed net.now spans.now region.old region.new result }
     ensures room { length room.new ≡ length room.old }

@@ -1,4 +1,4 @@
--- What is read of a line is spelled so, and what is spelled so is read.
+-- What is read from a line has the line as its text, and a request is read from its text.
 use Rattle.std.proofs.Common.{◌≡◌, ℕ, ltb, List, [], ◌++◌, length, take, drop, Option, Some, None, refl, sym, ap, subst, ◌∙◌}
 use Rattle.std.proofs.lemmas.Bool.{ltb-false, le-ltb}
 use Rattle.std.proofs.lemmas.List.{take-append-drop}
@@ -13,15 +13,15 @@ use Rattle.pc_whatif.specs.declared.edits.ask.Trial.{Trial}
 use Rattle.pc_whatif.specs.declared.edits.ask.TheConstants.{MAX_LINE}
 use Rattle.pc_text.specs.Fields.{◌>>=◌, run_len, code_field, number_field, alone, spaced, IsCode}
 use Rattle.pc_text.specs.declared.number.TheConstants.{DECK_DIGITS}
-use Rattle.pc_whatif.specs.inside.edits.Lines.{spelling, Fits, Asks, IsSmall}
+use Rattle.pc_whatif.specs.inside.edits.Lines.{ask_text, IsWritableAsk, Asks, HasAtMost13Digits}
 use Rattle.pc_whatif.specs.edits.Reading.{edit_of, estimate_ask, amount_of, normal_ask, crash_ask, slope_ask, try_ask, ask_with, ask_of}
 use Rattle.pc_text.proofs.SpellingLemmas.{IsSpelled, either, no_name, one_word}
 use Rattle.pc_text.proofs.FieldLemmas.{bind_some, alone_takes, unless_takes, unless_again, nothing, space, code_field_takes, code_field_again, number_field_takes, number_field_again}
 use Rattle.pc_text.proofs.NumberLemmas.{of_deck}
 
--- the word and the fields are those of the ask, which can be spelled
+-- the word and the fields are those of the request, which can be written
 abbrev IsAsk : List ℕ → List ℕ → Ask → Type 0
-IsAsk word fields a = IsSpelled spelling Fits word fields a
+IsAsk word fields a = IsSpelled ask_text IsWritableAsk word fields a
 
 -- ---- estimates
 
@@ -53,7 +53,7 @@ estimate_takes fields a e =
       fits = (code_is.code_is, (opt_is.small, likely_is.small, pess_is.small));
     })
 
-estimate_again : (act : List ℕ) (new : Estimates) → Fits (edit_of act (Estimate new)) →
+estimate_again : (act : List ℕ) (new : Estimates) → IsWritableAsk (edit_of act (Estimate new)) →
     estimate_ask (spaced act (spaced (decimal new.optimistic) (spaced (decimal new.likely) (spaced (decimal new.pessimistic) [])))) ≡ Some (edit_of act (Estimate new))
 unfolding estimate_ask
 estimate_again act new h =
@@ -69,7 +69,7 @@ estimate_again act new h =
 record TakesAmount (fields act : List ℕ) (n : ℕ) : Type 0 where
   text : fields ≡ spaced act (spaced (decimal n) [])
   code_is : IsCode act
-  small : IsSmall n
+  small : HasAtMost13Digits n
 
 amount_takes : (fields : List ℕ) (x : List ℕ × ℕ) → amount_of fields ≡ Some x → TakesAmount fields (x.0) (x.1)
 unfolding amount_of
@@ -85,7 +85,7 @@ amount_takes fields x e =
       small = n_is.small;
     })
 
-amount_again : (act : List ℕ) (n : ℕ) → IsCode act → IsSmall n → amount_of (spaced act (spaced (decimal n) [])) ≡ Some (act, n)
+amount_again : (act : List ℕ) (n : ℕ) → IsCode act → HasAtMost13Digits n → amount_of (spaced act (spaced (decimal n) [])) ≡ Some (act, n)
 unfolding amount_of
 amount_again act n code small =
     rw (code_field_again act (spaced (decimal n) []) code (space _), number_field_again of_deck n [] small nothing) refl
@@ -114,15 +114,15 @@ slope_takes fields a e =
     let is = amount_takes fields (amount.0) (amount.1) in
     subst (λ l. IsAsk (codes "SLOPE") fields l) (some_same _ _ (amount.2)) (record { text = ap (λ x. codes "SLOPE" ++ x) is.text; fits = (is.code_is, is.small) })
 
-normal_again : (act : List ℕ) (n : ℕ) → IsCode act → IsSmall n → normal_ask (spaced act (spaced (decimal n) [])) ≡ Some (edit_of act (Normal n))
+normal_again : (act : List ℕ) (n : ℕ) → IsCode act → HasAtMost13Digits n → normal_ask (spaced act (spaced (decimal n) [])) ≡ Some (edit_of act (Normal n))
 unfolding normal_ask
 normal_again act n code small = rw (amount_again act n code small) refl
 
-crash_again : (act : List ℕ) (n : ℕ) → IsCode act → IsSmall n → crash_ask (spaced act (spaced (decimal n) [])) ≡ Some (edit_of act (Crash n))
+crash_again : (act : List ℕ) (n : ℕ) → IsCode act → HasAtMost13Digits n → crash_ask (spaced act (spaced (decimal n) [])) ≡ Some (edit_of act (Crash n))
 unfolding crash_ask
 crash_again act n code small = rw (amount_again act n code small) refl
 
-slope_again : (act : List ℕ) (n : ℕ) → IsCode act → IsSmall n → slope_ask (spaced act (spaced (decimal n) [])) ≡ Some (edit_of act (Slope n))
+slope_again : (act : List ℕ) (n : ℕ) → IsCode act → HasAtMost13Digits n → slope_ask (spaced act (spaced (decimal n) [])) ≡ Some (edit_of act (Slope n))
 unfolding slope_ask
 slope_again act n code small = rw (amount_again act n code small) refl
 
@@ -165,7 +165,7 @@ try_takes fields a e =
       fits = (code_is.code_is, normal_is.small, crash_is.small, slope_is.small, limit_is.small);
     })
 
-try_again : (trial : Trial) → Fits (ask.Try trial) →
+try_again : (trial : Trial) → IsWritableAsk (ask.Try trial) →
     try_ask (spaced trial.act (spaced (decimal trial.normal) (spaced (decimal trial.crash) (spaced (decimal trial.slope) (spaced (decimal trial.length) []))))) ≡ Some (ask.Try trial)
 unfolding try_ask
 try_again trial h =
@@ -177,12 +177,12 @@ try_again trial h =
       number_field_again of_deck trial.length [] (h.4) nothing,
     ) refl
 
--- ---- the whole line
+-- ---- the complete line
 
 ask_with_takes : (word fields : List ℕ) (a : Ask) → ask_with word fields ≡ Some a → IsAsk word fields a
 ask_with_takes word fields a =
     let reads = λ (name : List ℕ). IsAsk name fields a in
-    let by = one_word spelling Fits in
+    let by = one_word ask_text IsWritableAsk in
     either reads word (codes "TRY") _ _ a (try_takes fields a)
     (either reads word (codes "ESTIMATE") _ _ a (estimate_takes fields a)
     (either reads word (codes "NORMAL") _ _ a (normal_takes fields a)
@@ -201,12 +201,12 @@ ask_takes line a e =
     let is = ask_with_takes (take (run_len 32 line) line) (drop (run_len 32 line) line) a (short.1) in
     record { fits = is.fits; spelled = sym (take-append-drop (run_len 32 line) line) ∙ is.text; short = ltb-false _ _ (short.0) }
 
-ask_again : (a : Ask) → Fits a → ask_with (take (run_len 32 (spelling a)) (spelling a)) (drop (run_len 32 (spelling a)) (spelling a)) ≡ Some a
+ask_again : (a : Ask) → IsWritableAsk a → ask_with (take (run_len 32 (ask_text a)) (ask_text a)) (drop (run_len 32 (ask_text a)) (ask_text a)) ≡ Some a
 ask_again (ask.Edit edit) h = change_again edit.act edit.change h
   where
-    change_again : (act : List ℕ) (change : Change) → Fits (edit_of act change) →
-        ask_with (take (run_len 32 (spelling (edit_of act change))) (spelling (edit_of act change)))
-        (drop (run_len 32 (spelling (edit_of act change))) (spelling (edit_of act change))) ≡ Some (edit_of act change)
+    change_again : (act : List ℕ) (change : Change) → IsWritableAsk (edit_of act change) →
+        ask_with (take (run_len 32 (ask_text (edit_of act change))) (ask_text (edit_of act change)))
+        (drop (run_len 32 (ask_text (edit_of act change))) (ask_text (edit_of act change))) ≡ Some (edit_of act change)
     change_again act (Estimate new) h = estimate_again act new h
     change_again act (Normal n) h = normal_again act n (h.0) (h.1)
     change_again act (Crash n) h = crash_again act n (h.0) (h.1)

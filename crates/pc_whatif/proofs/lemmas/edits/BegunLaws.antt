@@ -16,14 +16,14 @@ use Rattle.pc_project.specs.Planned.{IsPlanned}
 use Rattle.pc_project.specs.Project.{Project}
 use Rattle.pc_project.proofs.MakesLaws.{no_misfit}
 use Rattle.pc_project.specs.shell.Priced.{priced_in}
-use Rattle.pc_whatif.specs.edits.Plans.{estimates_at, estimates_in}
+use Rattle.pc_whatif.specs.edits.Plans.{nth_estimates, estimates_in}
 use Rattle.pc_whatif.specs.inside.edits.Plans.{AreEstimates}
 use Rattle.pc_whatif.specs.declared.edits.KeptEdit.{KeptEdit}
 use Rattle.pc_whatif.specs.declared.edits.Edits.TheInside.{Inside}
 use Rattle.pc_whatif.specs.declared.edits.TheConstants.{MAX_KEPT}
 use Rattle.pc_whatif.specs.edits.Editing.{begun}
 use Rattle.pc_whatif.specs.inside.edits.Editing.{IsEditing}
-use Rattle.pc_whatif.specs.inside.edits.Inside.{IsWholeInside, editing_in, plans_back}
+use Rattle.pc_whatif.specs.inside.edits.Inside.{IsSoundEdits, editing_in, plans_back}
 
 -- a card to read past the end of the cards, where no one looks
 no_act : ActCard
@@ -46,7 +46,7 @@ module _ (project : Project) (planned : IsPlanned project) where
   as_many =
       sym (ap (λ (p : Project). length p.network.arcs) planned.own.is.lists ∙ length-map project.deck.acts _)
 
-  ordered : (a : ℕ) → a < length project.network.arcs → AreEstimates (estimates_at (estimates_in project.deck) a)
+  ordered : (a : ℕ) → a < length project.network.arcs → AreEstimates (nth_estimates (estimates_in project.deck) a)
   ordered a known =
       let inside : a < length project.deck.acts = omega (arith, known, as_many) in
       let card : ActCard = get_or project.deck.acts a no_act in
@@ -83,7 +83,7 @@ module _ (project : Project) (planned : IsPlanned project) where
         ap (λ aside. editing_in (record s { aside = aside })) aside_is
         ∙ (λ i. record { net = net_is i; estimates = estimates_are i; unit_days = unit_is i; kept = plans_back (kept_is i).items (record { terms = (net_is i).terms; estimates = estimates_are i }) })
 
-    pub begun_whole : IsWholeInside s
+    pub begun_whole : IsSoundEdits s
     begun_whole = record {
       editing = subst IsEditing (sym editing_is) IsEditing-begun;
       room = ap (λ (b : Buffer KeptEdit). b.capacity) kept_is;

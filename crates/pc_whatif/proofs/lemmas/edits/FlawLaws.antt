@@ -1,4 +1,4 @@
--- Whether a further piece of an activity has a fault is told by the slope of the first of them and the units of all.
+-- Whether a further piece of an activity has a fault follows from the slope of the first of them and the units of all.
 use Rattle.std.proofs.Common.{◌≡◌, ℕ, zero, suc, ◌+◌, ◌-◌, ◌<◌, ◌≤◌, Bool, false, ◌||◌, leb, List, [], ◌∷◌, length, refl, sym, ◌∙◌, ap, add-one, arith}
 use Rattle.std.proofs.lemmas.Bool.Decides.{nat_tests}
 use Rattle.std.proofs.lemmas.List.Sums.{sum_by-cons}
@@ -9,7 +9,7 @@ use Rattle.pc_crash.specs.inside.Laid.{IsRising}
 use Rattle.pc_crash.specs.Priced.{piece_at}
 use Rattle.pc_whatif.specs.edits.Refusal.{has_flaw}
 
--- the units of a piece and of those behind it
+-- the units of a piece and of those after it
 units_of-cons : (piece : PieceRow) (pieces : List PieceRow) → units_of (piece ∷ pieces) ≡ piece.units + units_of pieces
 units_of-cons piece pieces = sum_by-cons (λ (p : PieceRow). p.units) piece pieces
 
@@ -31,7 +31,7 @@ flaw-is term slope units piece (next ∷ pieces) rising =
     (more_units term.normal term.crash units piece.units (units_of (next ∷ pieces))
     (units_of (piece ∷ next ∷ pieces)) piece.slope next.slope (units_of-cons piece (next ∷ pieces)) rising.0)
 
--- the slopes behind the first piece rise
+-- the slopes after the first piece rise
 rising_behind : (slope : ℕ) (pieces : List PieceRow) →
     ((k : ℕ) → k < length pieces → slope_in
     (record { normal = 0; crash = 0; cost = 0; slope = slope }) pieces k < (piece_at pieces k).slope) → IsRising slope pieces
@@ -64,7 +64,7 @@ pub no_flaw : (term : Term) (own : List PieceRow) → length own + 1 < 2 → fal
 no_flaw term [] few = refl
 no_flaw term (piece ∷ pieces) few = absurd (omega arith)
 
--- and with some the second knee of the activity tells
+-- and if there are some, the second knee of the activity decides
 pub flaw_by : (old term : Term) (own : List PieceRow) (at rise : ℕ) → 1 < length own + 1 → at ≡ knee_in old own 1 → rise ≡ rise_in old own 1
     → ((k : ℕ) → k < length own → slope_in old own k < slope_in old own (k + 1)) → term.crash ≤ term.normal
     → (leb (old.slope + rise) term.slope || leb (term.normal - term.crash) (at - old.crash)) ≡ has_flaw term term.slope 0 own

@@ -18,11 +18,11 @@ use Rattle.pc_whatif.specs.declared.edits.KeptEdit.{KeptEdit}
 use Rattle.pc_whatif.specs.declared.edits.ActTerm.{ActTerm}
 use Rattle.pc_whatif.specs.declared.edits.Edits.TheInside.{Inside}
 use Rattle.pc_whatif.specs.declared.edits.TheConstants.{MAX_KEPT}
-use Rattle.pc_whatif.specs.edits.Plans.{Plan, plan_with, term_with, estimates_with, estimates_at}
+use Rattle.pc_whatif.specs.edits.Plans.{Plan, plan_with, term_with, estimates_with, nth_estimates}
 use Rattle.pc_whatif.specs.inside.edits.Plans.{IsFitPlan}
-use Rattle.pc_whatif.specs.edits.Editing.{Editing, activity_named, edited, editing_with, net_trying, plan_of, undone}
+use Rattle.pc_whatif.specs.edits.Editing.{Editing, activity_named, edited, editing_with, net_trying, edited_plan, undone}
 use Rattle.pc_whatif.specs.inside.edits.Editing.{ChangesOnly, Edits, IsEditing, at_rest, net_in}
-use Rattle.pc_whatif.specs.inside.edits.Inside.{edits_from, editing_in, plans_back, replaced, trial_in, IsWholeInside}
+use Rattle.pc_whatif.specs.inside.edits.Inside.{edits_from, editing_in, plans_back, replaced, trial_in, IsSoundEdits}
 use Rattle.pc_whatif.specs.edits.Refusal.{undo_refusal}
 use Rattle.pc_whatif.proofs.lemmas.edits.ListLaws.{length-push, keep_last-push, last_item-push, last_item-some, front-push}
 use Rattle.pc_whatif.proofs.lemmas.edits.KeptLaws.{length-plans_back, plans_back-keep_last, plans_back-push}
@@ -44,7 +44,7 @@ abbrev pub net_with : Change → ℕ → PricedNetwork → PricedNetwork
 net_with change a net = record net { terms = set net.terms a (term_with change (term_at net.terms a)) }
 
 abbrev pub list_with : Change → ℕ → List Estimates → List Estimates
-list_with change a list = set list a (estimates_with change (estimates_at list a))
+list_with change a list = set list a (estimates_with change (nth_estimates list a))
 
 -- what holds of all holds of the last
 All-last : {X : Type 0} (P : X → Type 0) (xs : List X) (x : X) → All P xs → last_item xs ≡ Some x → P x
@@ -65,7 +65,7 @@ module _ (net : PricedNetwork) (estimates : List Estimates) (unit_days : ℕ) (k
   changes change a rest known = record {
     activity = known;
     net = ap (λ t. record net { terms = set net.terms a t }) (sym (get_or-set_same net.terms a (term_with change (term_at net.terms a)) no_term (omega (arith, known, whole.fit.terms.one_each))));
-    estimates = ap (set estimates a) (sym (get_or-set_same estimates a (estimates_with change (estimates_at estimates a)) no_estimates (omega (arith, known, whole.fit.estimates_each))));
+    estimates = ap (set estimates a) (sym (get_or-set_same estimates a (estimates_with change (nth_estimates estimates a)) no_estimates (omega (arith, known, whole.fit.estimates_each))));
     unit_days = refl;
   }
 
@@ -73,7 +73,7 @@ module _ (net : PricedNetwork) (estimates : List Estimates) (unit_days : ℕ) (k
   module _ (edit : Edit) (a : ℕ) (named : activity_named net edit.act ≡ Some a) (known : a < length net.network.arcs)
       (fits : IsFitPlan net.network net.pieces (plan_with edit.change a plan)) where
     abbrev pub kept_now : KeptEdit
-    kept_now = record { activity = a; was = replaced edit.change (term_at net.terms a) (estimates_at estimates a) }
+    kept_now = record { activity = a; was = replaced edit.change (term_at net.terms a) (nth_estimates estimates a) }
 
     abbrev after : Editing
     after = editing_at (net_with edit.change a net) (list_with edit.change a estimates) unit_days (keep_last MAX_KEPT (kept ++ kept_now ∷ []))
@@ -92,12 +92,12 @@ module _ (net : PricedNetwork) (estimates : List Estimates) (unit_days : ℕ) (k
     later = keep_last (MAX_KEPT - 1) (plans_back kept plan) ++ plan ∷ []
 
     -- an UNDO would bring back the plan before
-    pub undone_edited : plan_of (undone (edited before edit)) ≡ plan
+    pub undone_edited : edited_plan (undone (edited before edit)) ≡ plan
     undone_edited =
-        ap (λ e. plan_of (undone e)) (sym edited_at)
-        ∙ ap (λ ps. plan_of (option_map_or (λ p. editing_with (record after { kept = ps }) p (take (length ps - 1) ps)) (last_item ps)
+        ap (λ e. edited_plan (undone e)) (sym edited_at)
+        ∙ ap (λ ps. edited_plan (option_map_or (λ p. editing_with (record after { kept = ps }) p (take (length ps - 1) ps)) (last_item ps)
         (record after { kept = ps }))) (kept_after ∙ keep_last-push (MAX_KEPT - 1) (plans_back kept plan) plan)
-        ∙ ap (λ found. plan_of (option_map_or (λ p. editing_with (record after { kept = later }) p (take (length later - 1) later)) found
+        ∙ ap (λ found. edited_plan (option_map_or (λ p. editing_with (record after { kept = later }) p (take (length later - 1) later)) found
         (record after { kept = later }))) (last_item-push (keep_last (MAX_KEPT - 1) (plans_back kept plan)) plan)
 
     pub whole_edited : IsEditing after
@@ -160,13 +160,13 @@ module _ (net : PricedNetwork) (estimates : List Estimates) (unit_days : ℕ) (k
 
 -- ---- fields
 
--- what gave way to a trial tells whether there is one
+-- whether something gave way to a trial says whether there is one
 no_trial : (aside : Option ActTerm) (terms : List Term) → trial_in aside terms ≡ None → aside ≡ None
 no_trial None terms e = refl
 no_trial (Some aside) terms e = absurd cc
 
 -- fields with nothing on trial
-module _ (s : Inside) (v : Edits) (view : edits_from s ≡ v) (inv : IsWholeInside s) (rest : v.trial ≡ None) where
+module _ (s : Inside) (v : Edits) (view : edits_from s ≡ v) (inv : IsSoundEdits s) (rest : v.trial ≡ None) where
   pub no_aside : s.aside ≡ None
   no_aside = no_trial s.aside s.net.terms (ap (λ (e : Edits). e.trial) view ∙ rest)
 
@@ -196,7 +196,7 @@ net_in-is s = case s.aside
     case (Some aside) = ap (λ ts. record s.net { terms = ts }) (sym (set-back s.net.terms aside.activity aside.term no_term))
 
 -- what holds of kept edits and of the term that was put aside, where the network is the same but for its terms
-module _ (s : Inside) (inv : IsWholeInside s) (terms : List Term) (net : PricedNetwork) (net_is : net ≡ record s.net { terms = terms }) where
+module _ (s : Inside) (inv : IsSoundEdits s) (terms : List Term) (net : PricedNetwork) (net_is : net ≡ record s.net { terms = terms }) where
   known_kept : (kept : List KeptEdit) → All (λ (k : KeptEdit). k.activity < length s.net.network.arcs) kept → All (λ (k : KeptEdit). k.activity < length net.network.arcs) kept
   known_kept kept = subst (λ (n : PricedNetwork). All (λ (k : KeptEdit). k.activity < length s.net.network.arcs) kept →
       All (λ (k : KeptEdit). k.activity < length n.network.arcs) kept) (sym net_is) (λ all. all)
@@ -206,16 +206,16 @@ module _ (s : Inside) (inv : IsWholeInside s) (terms : List Term) (net : PricedN
 
 -- what an accepted edit of activity a makes of the fields
 pub record IsEdited (v : Edits) (edit : Edit) (a : ℕ) (new : Inside) : Type 0 where
-  pub whole : IsWholeInside new
+  pub whole : IsSoundEdits new
   pub view : edits_from new ≡ at_rest (edited v.editing edit)
   pub touched : ChangesOnly v.editing (editing_in new) a
-  pub back : plan_of (undone (edited v.editing edit)) ≡ plan_of v.editing
+  pub back : edited_plan (undone (edited v.editing edit)) ≡ edited_plan v.editing
 
-module _ (s : Inside) (v : Edits) (view : edits_from s ≡ v) (inv : IsWholeInside s) (rest : v.trial ≡ None)
+module _ (s : Inside) (v : Edits) (view : edits_from s ≡ v) (inv : IsSoundEdits s) (rest : v.trial ≡ None)
     (edit : Edit) (a : ℕ) (named : activity_named s.net edit.act ≡ Some a) (known : a < length s.net.network.arcs)
     (list : List Estimates) (list_is : list ≡ s.estimates.items)
     (fits : IsFitPlan s.net.network s.net.pieces (plan_with edit.change a (record { terms = s.net.terms; estimates = list })))
-    (was : Change) (was_is : was ≡ replaced edit.change (term_at s.net.terms a) (estimates_at s.estimates.items a))
+    (was : Change) (was_is : was ≡ replaced edit.change (term_at s.net.terms a) (nth_estimates s.estimates.items a))
     (net : PricedNetwork) (net_is : net ≡ net_with edit.change a s.net) (lent : List Estimates) (lent_is : lent ≡ s.estimates.items)
     (new : List Estimates) (new_is : new ≡ list_with edit.change a lent)
     (kept : Buffer KeptEdit) (kept_is : kept ≡ buffer (keep_last s.kept.capacity (s.kept.items ++ record { activity = a; was = was } ∷ [])) s.kept.capacity) where
@@ -234,11 +234,11 @@ module _ (s : Inside) (v : Edits) (view : edits_from s ≡ v) (inv : IsWholeInsi
   items_are : (with_items s.estimates new).items ≡ list_with edit.change a s.estimates.items
   items_are =
       with_items_is s.estimates new (ap (λ (xs : List Estimates). length xs) now_is
-      ∙ length-set s.estimates.items a (estimates_with edit.change (estimates_at s.estimates.items a)) ∙ sym s.estimates.ok.0)
+      ∙ length-set s.estimates.items a (estimates_with edit.change (nth_estimates s.estimates.items a)) ∙ sym s.estimates.ok.0)
       ∙ now_is
 
   abbrev kept_then : List KeptEdit
-  kept_then = keep_last MAX_KEPT (s.kept.items ++ record { activity = a; was = replaced edit.change (term_at s.net.terms a) (estimates_at s.estimates.items a) } ∷ [])
+  kept_then = keep_last MAX_KEPT (s.kept.items ++ record { activity = a; was = replaced edit.change (term_at s.net.terms a) (nth_estimates s.estimates.items a) } ∷ [])
 
   pushed_are : kept.items ≡ kept_then
   pushed_are =
@@ -268,18 +268,18 @@ module _ (s : Inside) (v : Edits) (view : edits_from s ≡ v) (inv : IsWholeInsi
     touched = subst (λ (e : Edits). ChangesOnly e.editing (editing_in after_edit) a) at_now
         (subst (λ (e : Edits). ChangesOnly (editing_at s.net s.estimates.items s.unit_days s.kept.items) e.editing a) (sym edit_is)
         (changes_edited s.net s.estimates.items s.unit_days s.kept.items whole_now edit a named known fits_now));
-    back = subst (λ (e : Edits). plan_of (undone (edited e.editing edit)) ≡ plan_of e.editing) at_now
+    back = subst (λ (e : Edits). edited_plan (undone (edited e.editing edit)) ≡ edited_plan e.editing) at_now
         (undone_edited s.net s.estimates.items s.unit_days s.kept.items whole_now edit a named known fits_now);
   }
 
 -- what taking back an edit of activity a makes of the fields
 pub record IsUndone (v : Edits) (a : ℕ) (new : Inside) : Type 0 where
-  pub whole : IsWholeInside new
+  pub whole : IsSoundEdits new
   pub view : edits_from new ≡ at_rest (undone v.editing)
   pub touched : ChangesOnly v.editing (editing_in new) a
 
 -- the fields when an edit is to be taken back
-module _ (s : Inside) (v : Edits) (view : edits_from s ≡ v) (inv : IsWholeInside s) (rest : v.trial ≡ None)
+module _ (s : Inside) (v : Edits) (view : edits_from s ≡ v) (inv : IsSoundEdits s) (rest : v.trial ≡ None)
     (k : KeptEdit) (last : last_item s.kept.items ≡ Some k) where
   pub undo_known : k.activity < length s.net.network.arcs
   undo_known = All-last (λ (k : KeptEdit). k.activity < length s.net.network.arcs) s.kept.items k inv.known last
@@ -314,7 +314,7 @@ module _ (s : Inside) (v : Edits) (view : edits_from s ≡ v) (inv : IsWholeInsi
     items_back : (with_items s.estimates new).items ≡ list_with k.was k.activity s.estimates.items
     items_back =
         with_items_is s.estimates new (ap (λ (xs : List Estimates). length xs) back_is
-        ∙ length-set s.estimates.items k.activity (estimates_with k.was (estimates_at s.estimates.items k.activity))
+        ∙ length-set s.estimates.items k.activity (estimates_with k.was (nth_estimates s.estimates.items k.activity))
         ∙ sym s.estimates.ok.0)
         ∙ back_is
 
@@ -349,7 +349,7 @@ module _ (s : Inside) (v : Edits) (view : edits_from s ≡ v) (inv : IsWholeInsi
     }
 
 -- fields with a term on trial
-module _ (s : Inside) (v : Edits) (view : edits_from s ≡ v) (inv : IsWholeInside s) (rest : v.trial ≡ None)
+module _ (s : Inside) (v : Edits) (view : edits_from s ≡ v) (inv : IsSoundEdits s) (rest : v.trial ≡ None)
     (tried : ActTerm) (known : tried.activity < length s.net.network.arcs) (own : Term) (own_is : own ≡ term_at s.net.terms tried.activity)
     (net : PricedNetwork) (net_is : net ≡ net_trying s.net tried) where
   abbrev pub in_trial : Inside
@@ -374,7 +374,7 @@ module _ (s : Inside) (v : Edits) (view : edits_from s ≡ v) (inv : IsWholeInsi
       (λ i. record { editing = editing_same i; trial = Some (record { activity = tried.activity; term = on_trial i }) })
       ∙ ap (λ (e : Edits). record e { trial = Some tried }) (view_at s v view inv rest)
 
-  pub trial_whole : IsWholeInside in_trial
+  pub trial_whole : IsSoundEdits in_trial
   trial_whole = record {
     editing = subst IsEditing (sym editing_same) (whole_at s v view inv rest);
     room = inv.room;

@@ -11,7 +11,7 @@ use Rattle.pc_whatif.specs.declared.edits.ask.Edit.{Edit}
 use Rattle.pc_whatif.specs.declared.edits.ask.Trial.{Trial}
 use Rattle.pc_whatif.specs.declared.edits.reason.Reason.{Reason}
 use Rattle.pc_whatif.specs.declared.edits.reason.Reason.TheVariants.{UnknownActivity}
-use Rattle.pc_whatif.specs.edits.Plans.{plan_with, term_with, term_tried, estimates_with, estimates_at}
+use Rattle.pc_whatif.specs.edits.Plans.{plan_with, term_with, term_tried, estimates_with, nth_estimates}
 use Rattle.pc_whatif.specs.inside.edits.Plans.{IsFitPlan}
 use Rattle.pc_whatif.specs.edits.Editing.{activity_named}
 use Rattle.pc_whatif.specs.inside.edits.Editing.{MayTry}
@@ -28,11 +28,11 @@ module _ (net : PricedNetwork) (list : List Estimates)
     (found : Option Reason) where
   -- for an edit
   module _ (edit : Edit) (named : activity_named net edit.act ≡ Some a)
-      (is : found ≡ refusal_of (is_over edit.change) (term_with edit.change (term_at net.terms a)) (estimates_with edit.change (estimates_at list a)) (pieces_of net.pieces a)) where
+      (is : found ≡ refusal_of (is_over edit.change) (term_with edit.change (term_at net.terms a)) (estimates_with edit.change (nth_estimates list a)) (pieces_of net.pieces a)) where
     pub edit_refusal-is : edit_refusal net list edit ≡ found
     edit_refusal-is =
         ap (λ o. option_map_or (λ b. refusal_of (is_over edit.change) (term_with edit.change (term_at net.terms b))
-        (estimates_with edit.change (estimates_at list b)) (pieces_of net.pieces b)) o (Some UnknownActivity)) named
+        (estimates_with edit.change (nth_estimates list b)) (pieces_of net.pieces b)) o (Some UnknownActivity)) named
         ∙ sym is
 
     pub edit_fits : found ≡ None → IsFitPlan net.network net.pieces (plan_with edit.change a (record { terms = net.terms; estimates = list }))
@@ -40,10 +40,10 @@ module _ (net : PricedNetwork) (list : List Estimates)
 
   -- for a trial
   module _ (trial : Trial) (named : activity_named net trial.act ≡ Some a)
-      (is : found ≡ refusal_of (is_trial_over trial) (term_tried trial (term_at net.terms a)) (estimates_at list a) (pieces_of net.pieces a)) where
+      (is : found ≡ refusal_of (is_trial_over trial) (term_tried trial (term_at net.terms a)) (nth_estimates list a) (pieces_of net.pieces a)) where
     pub trial_refusal-is : trial_refusal net list trial ≡ found
     trial_refusal-is =
-        ap (λ o. option_map_or (λ b. refusal_of (is_trial_over trial) (term_tried trial (term_at net.terms b)) (estimates_at list b) (pieces_of net.pieces b)) o (Some UnknownActivity)) named
+        ap (λ o. option_map_or (λ b. refusal_of (is_trial_over trial) (term_tried trial (term_at net.terms b)) (nth_estimates list b) (pieces_of net.pieces b)) o (Some UnknownActivity)) named
         ∙ sym is
 
     pub MayTry-is : (term : Term) → term ≡ term_tried trial (term_at net.terms a) → found ≡ None → MayTry net (record { activity = a; term = term })

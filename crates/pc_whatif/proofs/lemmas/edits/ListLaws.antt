@@ -1,4 +1,4 @@
--- The last elements of a list, and one more behind them.
+-- The last elements of a list, and one more after them.
 use Rattle.std.proofs.Common.{◌≡◌, ℕ, ◌+◌, ◌-◌, ◌≤◌, min, List, [], ◌∷◌, ◌++◌, length, take, drop, get_or, Some}
 use Rattle.std.proofs.Common.{sym, ◌∙◌, ap, ⊎_elim, arith, length-append, length-drop, drop-drop, take_at}
 use Rattle.std.proofs.lemmas.Bool.{cases_lt}
@@ -14,7 +14,7 @@ module _ {X : Type 0} where
   pub length-keep_last : (n : ℕ) (xs : List X) → n ≤ length xs → length (keep_last n xs) ≡ n
   length-keep_last n xs few = omega (arith, length-drop (length xs - n) xs)
 
-  -- the last n + 1 with one more behind them are the last n and that one
+  -- the last n + 1 with one more after them are the last n and that one
   pub keep_last-push : (n : ℕ) (xs : List X) (x : X) → keep_last (n + 1) (xs ++ x ∷ []) ≡ keep_last n xs ++ x ∷ []
   keep_last-push n xs x =
       let from : length (xs ++ x ∷ []) - (n + 1) ≡ length xs - n = omega (arith, length-push xs x) in
@@ -27,7 +27,7 @@ module _ {X : Type 0} where
       drop-drop (length (keep_last k xs) - n) (length xs - k) xs
       ∙ ap (λ m. drop m xs) (⊎_elim (λ less. omega (arith, long, less)) (λ more. omega (arith, long, more)) (cases_lt n k))
 
-  -- the last of a list with one more behind it, and those before it
+  -- the last of a list with one more after it, and those before it
   pub last_item-push : (xs : List X) (x : X) → last_item (xs ++ x ∷ []) ≡ Some x
   last_item-push xs x = slice_get-last xs x (length (xs ++ x ∷ []) - 1) (omega (arith, length-push xs x))
 

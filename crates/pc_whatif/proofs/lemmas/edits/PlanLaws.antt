@@ -17,7 +17,7 @@ use Rattle.pc_whatif.specs.declared.edits.ask.Change.TheVariants.{Estimate, Norm
 use Rattle.pc_whatif.specs.declared.edits.ask.Trial.{Trial}
 use Rattle.pc_whatif.specs.declared.edits.reason.Reason.{Reason}
 use Rattle.pc_whatif.specs.declared.edits.reason.Reason.TheVariants.{OverLimit, CrashAboveNormal, EstimatesOutOfOrder, PieceFault}
-use Rattle.pc_whatif.specs.edits.Plans.{Plan, plan_with, term_with, estimates_with, estimates_at, term_tried}
+use Rattle.pc_whatif.specs.edits.Plans.{Plan, plan_with, term_with, estimates_with, nth_estimates, term_tried}
 use Rattle.pc_whatif.specs.inside.edits.Plans.{AreEstimates, IsFitPlan}
 use Rattle.pc_whatif.specs.edits.Refusal.{is_over, is_trial_over, is_crash_above, are_disordered, has_flaw, refusal_of}
 use Rattle.pc_whatif.specs.inside.edits.Inside.{replaced}
@@ -84,7 +84,7 @@ module _ (net : Network) (terms : List Term) (pieces : List PieceRow) (fit : Are
     gentle = each (λ b t. t.slope ≤ MAX_SLOPE) limits.gentle own.gentle;
   }
 
-  -- behind the first of its pieces the slopes are those of the pieces alone
+  -- after the first of its pieces the slopes are those of the pieces alone
   rises : (k : ℕ) → k < length (pieces_of pieces a) → slope_in new (pieces_of pieces a) k < slope_in new (pieces_of pieces a) (k + 1)
   rises zero some = omega (arith, own.rising some)
   rises (suc k) within = omega (
@@ -104,14 +104,14 @@ module _ (net : Network) (terms : List Term) (pieces : List PieceRow) (fit : Are
     leaving = each (λ c t. 0 < length (pieces_of pieces c) → t.crash + units_of (pieces_of pieces c) < t.normal) right.leaving own.leaving;
   }
 
--- ---- numbers against which nothing stands
+-- ---- numbers that no reason refuses
 
--- a reason that was not given, and those behind it
+-- a reason that was not given, and those after it
 unless_given : (test : Bool) (reason : Reason) (others : Option Reason) → cond test (Some reason) others ≡ None → (test ≡ false) × (others ≡ None)
 unless_given true reason others e = absurd cc
 unless_given false reason others e = (refl, e)
 
--- no reason stands against the numbers
+-- no reason refuses the numbers
 pub record HasNone (over : Bool) (term : Term) (estimates : Estimates) (own : List PieceRow) : Type 0 where
   pub within : over ≡ false
   pub ordered : is_crash_above term ≡ false
@@ -212,7 +212,7 @@ module _ (net : Network) (pieces : List PieceRow) (plan : Plan) (change : Change
   new = term_with change old
 
   abbrev before : Estimates
-  before = estimates_at plan.estimates a
+  before = nth_estimates plan.estimates a
 
   abbrev after : Estimates
   after = estimates_with change before
@@ -223,7 +223,7 @@ module _ (net : Network) (pieces : List PieceRow) (plan : Plan) (change : Change
   there : a < length plan.estimates
   there = omega (arith, known, fit.estimates_each)
 
-  -- the plan with a change against which nothing stands fits
+  -- the plan with a change that no reason refuses fits
   module _ (none : HasNone (is_over change) new after (pieces_of pieces a)) where
     own : IsOwnFit new (pieces_of pieces a)
     own = own_fit old new (pieces_of pieces a) (λ k. fit.pieces.rising a k inside) none.ordered none.flawless
@@ -241,7 +241,7 @@ module _ (net : Network) (pieces : List PieceRow) (plan : Plan) (change : Change
       pieces = ArePieces-set net plan.terms pieces fit.terms fit.limits fit.pieces a inside new own;
       estimates_each = length-set plan.estimates a after ∙ fit.estimates_each;
       estimates = λ b below. ⊎_elim
-          (λ same. subst (λ c. AreEstimates (estimates_at (set plan.estimates a after) c)) (sym same) (subst AreEstimates (sym (get_or-set_same plan.estimates a after no_estimates there)) fine))
+          (λ same. subst (λ c. AreEstimates (nth_estimates (set plan.estimates a after) c)) (sym same) (subst AreEstimates (sym (get_or-set_same plan.estimates a after no_estimates there)) fine))
           (λ other. subst AreEstimates (sym (get_or-set_other plan.estimates a b after no_estimates other)) (fit.estimates b below))
           (cases_eq b a);
     }
@@ -265,9 +265,9 @@ module _ (net : Network) (pieces : List PieceRow) (plan : Plan) (change : Change
   pub plan-back : plan_with was a (plan_with change a plan) ≡ plan
   plan-back = λ i. record { terms = terms_back i; estimates = estimates_again i }
 
--- the term of a trial against which nothing stands may be tried
+-- the term of a trial that no reason refuses may be tried
 module _ (net : Network) (pieces : List PieceRow) (plan : Plan) (a : ℕ) (fit : IsFitPlan net pieces plan) (known : a < length net.arcs) (trial : Trial)
-    (none : HasNone (is_trial_over trial) (term_tried trial (term_at plan.terms a)) (estimates_at plan.estimates a) (pieces_of pieces a)) where
+    (none : HasNone (is_trial_over trial) (term_tried trial (term_at plan.terms a)) (nth_estimates plan.estimates a) (pieces_of pieces a)) where
   in_terms : a < length plan.terms
   in_terms = omega (arith, known, fit.terms.one_each)
 

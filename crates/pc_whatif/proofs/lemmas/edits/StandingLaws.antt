@@ -1,4 +1,4 @@
--- What stands after an accepted edit, and after one is taken back.
+-- What is in effect after an accepted edit, and after one is taken back.
 use Rattle.std.proofs.Common.{◌≡◌, ℕ, suc, ◌+◌, ◌-◌, ◌<◌, ◌≤◌, min, List, [], ◌∷◌, ◌++◌, length, take, Some, unwrap_or, refl, sym, ◌∙◌, ap, arith}
 use Rattle.std.specs.Option.{option_map_or}
 use Rattle.std.proofs.lemmas.List.{length-take}
@@ -10,8 +10,8 @@ use Rattle.pc_project.specs.shell.Priced.{priced_in}
 use Rattle.pc_whatif.specs.declared.edits.ask.Edit.{Edit}
 use Rattle.pc_whatif.specs.declared.edits.TheConstants.{MAX_KEPT}
 use Rattle.pc_whatif.specs.edits.Plans.{Plan, plan_with}
-use Rattle.pc_whatif.specs.edits.Editing.{Editing, activity_named, begun, edited, editing_with, plan_of, undone}
-use Rattle.pc_whatif.specs.edits.Standing.{Journal, Stands, empty, noted, activity_of_edit, plan_after, plans_before, standing_of, taken_back}
+use Rattle.pc_whatif.specs.edits.Editing.{Editing, activity_named, begun, edited, editing_with, edited_plan, undone}
+use Rattle.pc_whatif.specs.edits.Standing.{Journal, IsEditedBy, empty, noted, activity_of_edit, plan_after, plans_before, standing_of, taken_back}
 use Rattle.pc_whatif.proofs.lemmas.edits.ListLaws.{length-push, length-keep_last, keep_last-push, keep_last-keep_last, last_item-push, front-push}
 
 module _ (net : PricedNetwork) (edit : Edit) where
@@ -27,16 +27,16 @@ length-plans_before : (net : PricedNetwork) (edits : List Edit) (plan : Plan) �
 length-plans_before net [] plan = refl
 length-plans_before net (e ∷ edits) plan = ap suc (length-plans_before net edits (plan_with e.change (activity_of_edit net e) plan))
 
--- before any line nothing stands
-pub Stands-begun : (project : Project) → Stands project empty (begun project)
-Stands-begun project = record { is = refl; some = omega arith; few = omega arith }
+-- before any line nothing is in effect
+pub IsEditedBy-begun : (project : Project) → IsEditedBy project empty (begun project)
+IsEditedBy-begun project = record { is = refl; some = omega arith; few = omega arith }
 
 module _ (project : Project) (journal : Journal) where
   abbrev net : PricedNetwork
   net = priced_in project
 
   abbrev first : Plan
-  first = plan_of (begun project)
+  first = edited_plan (begun project)
 
   abbrev plans : List Plan
   plans = plans_before net journal.standing first
@@ -44,7 +44,7 @@ module _ (project : Project) (journal : Journal) where
   abbrev now : Plan
   now = plan_after net journal.standing first
 
-  -- an accepted edit stands behind those that stood
+  -- an accepted edit is in effect after those that were
   edited_stands : (edit : Edit) (a : ℕ) → activity_named net edit.act ≡ Some a → journal.kept ≤ length journal.standing →
       edited (standing_of project journal) edit ≡ standing_of project (noted journal edit)
   edited_stands edit a named some =
@@ -63,9 +63,9 @@ module _ (project : Project) (journal : Journal) where
           ∙ keep_last-keep_last MAX_KEPT (journal.kept + 1) (plans ++ now ∷ []) (omega (arith, some, length-push plans now, length-plans_before net journal.standing first))
           ∙ ap (keep_last (min MAX_KEPT (journal.kept + 1))) (sym (plans_before-push net edit journal.standing first))
 
-  pub Stands-edited : (editing : Editing) (edit : Edit) (a : ℕ) → activity_named editing.net edit.act ≡ Some a →
-      Stands project journal editing → Stands project (noted journal edit) (edited editing edit)
-  Stands-edited editing edit a named stands = record {
+  pub IsEditedBy-edited : (editing : Editing) (edit : Edit) (a : ℕ) → activity_named editing.net edit.act ≡ Some a →
+      IsEditedBy project journal editing → IsEditedBy project (noted journal edit) (edited editing edit)
+  IsEditedBy-edited editing edit a named stands = record {
     is = ap (λ e. edited e edit) stands.is ∙ edited_stands edit a (sym (ap (λ (e : Editing). activity_named e.net edit.act) stands.is) ∙ named) stands.some;
     some = omega (arith, stands.some, length-push journal.standing edit);
     few = omega arith;
@@ -100,8 +100,8 @@ module _ (project : Project) (journal : Journal) where
         ∙ ap (λ ps. editing_with (begun project) latest ps) (front-push before latest)
         ∙ ap (λ edits. editing_with (begun project) (plan_after net edits first) (keep_last (journal.kept - 1) (plans_before net edits first))) fronts
 
-  pub Stands-undone : (editing : Editing) → 0 < length editing.kept → Stands project journal editing → Stands project (taken_back journal) (undone editing)
-  Stands-undone editing some stands =
+  pub IsEditedBy-undone : (editing : Editing) → 0 < length editing.kept → IsEditedBy project journal editing → IsEditedBy project (taken_back journal) (undone editing)
+  IsEditedBy-undone editing some stands =
       let as_many : length editing.kept ≡ journal.kept =
       ap (λ (e : Editing). length e.kept) stands.is ∙ length-keep_last journal.kept plans (omega (arith, stands.some, length-plans_before net journal.standing first)) in
       let parts = cut_end journal.standing (omega (arith, stands.some, as_many)) in

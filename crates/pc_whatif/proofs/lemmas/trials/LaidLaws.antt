@@ -9,7 +9,7 @@ use Rattle.pc_cells.specs.Spans.{Cells}
 use Rattle.pc_cells.specs.inside.Spans.{span_at, with_span, free_of, IsSpan}
 use Rattle.pc_cells.proofs.LiveLaws.{live-set}
 use Rattle.pc_whatif.specs.declared.trials.Spans.{Spans}
-use Rattle.pc_whatif.specs.inside.trials.Laid.{AreAtMost, IsLaidIn, list_of}
+use Rattle.pc_whatif.specs.inside.trials.Laid.{AreAtMost, IsLaidIn, span_list}
 
 -- another list of its length in a span: all spans are together as long as before
 sum-set : (spans : List (List ℕ)) (k : ℕ) (xs : List ℕ) → length xs ≡ length (span_at spans k) → sum_by length (set spans k xs) ≡ sum_by length spans
@@ -20,12 +20,12 @@ sum-set (s ∷ spans) (suc k) xs size =
 
 -- the new region has xs in its k-th span, and all else is as it was
 pub record IsPut (old new : Cells) (k : ℕ) (xs : List ℕ) : Type 0 where
-  pub at : list_of new k ≡ xs
-  pub off : (j : ℕ) → j ≢ k → list_of new j ≡ list_of old j
+  pub at : span_list new k ≡ xs
+  pub off : (j : ℕ) → j ≢ k → span_list new j ≡ span_list old j
   pub free : free_of new ≡ free_of old
   pub laid : (spans : Spans) → IsLaidIn old spans → IsLaidIn new spans
 
-pub put : (old new : Cells) (k : ℕ) (xs : List ℕ) → new ≡ with_span old k xs → k < length old.spans → length xs ≡ length (list_of old k) → IsPut old new k xs
+pub put : (old new : Cells) (k : ℕ) (xs : List ℕ) → new ≡ with_span old k xs → k < length old.spans → length xs ≡ length (span_list old k) → IsPut old new k xs
 put old new k xs is known size = record {
   at = ap (λ ys. span_at ys k) spans ∙ get_or-set_same old.spans k xs [] known;
   off = λ j apart. ap (λ ys. span_at ys j) spans ∙ get_or-set_other old.spans k j xs [] apart;

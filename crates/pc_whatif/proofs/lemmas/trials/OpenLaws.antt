@@ -9,10 +9,10 @@ use Rattle.pc_model.specs.declared.limits.TheConstants.{MAX_VARIANCE}
 use Rattle.pc_times.specs.declared.TheConstants.{MAX_ACTIVITY_LENGTH}
 use Rattle.pc_whatif.specs.declared.trials.Spans.{Spans}
 use Rattle.pc_whatif.specs.inside.trials.SessionRegion.{SessionRegion}
-use Rattle.pc_whatif.specs.inside.trials.Laid.{AreAtMost, AreSpansTaken, IsLaidIn, IsWhole, kept_in, list_of}
+use Rattle.pc_whatif.specs.inside.trials.Laid.{AreAtMost, AreSpansTaken, IsLaidIn, IsSoundRegion, kept_in, span_list}
 use Rattle.pc_whatif.proofs.lemmas.trials.LaidLaws.{IsPut, put}
 
--- so many numbers in all
+-- this many numbers in all
 sum-five : (m n : List ℕ) → sum_by length (m ∷ m ∷ n ∷ n ∷ n ∷ []) ≡ 2 * length m + 3 * length n
 sum-five m n =
     omega (
@@ -29,7 +29,7 @@ zeros-small n most i below =
     let size : length (replicate {A = ℕ} n 0) ≡ n = length-replicate n 0 in
     omega (arith, get_or-replicate {A = ℕ} n i 0 0 (omega (arith, below, size)))
 
--- these expected times and variances, zeros for each event, and so many free cells
+-- these expected times and variances, zeros for each event, and this many free cells
 abbrev pub opened : ℕ → List ℕ → List ℕ → ℕ → SessionRegion
 opened events times squares cells = record {
   expected = times;
@@ -45,8 +45,8 @@ opened events times squares cells = record {
 pub record IsOpened (events activities : ℕ) (spans : Spans) (r0 r3 : Cells) (times squares : List ℕ) : Type 0 where
   pub laid : IsLaidIn r3 spans
   pub kept : kept_in r3 0 ≡ opened events times squares (r0.capacity - (2 * activities + 3 * events))
-  pub early : length (list_of r3 2) ≡ events
-  pub whole : AreAtMost MAX_ACTIVITY_LENGTH times → AreAtMost MAX_VARIANCE squares → IsWhole (kept_in r3 0)
+  pub early : length (span_list r3 2) ≡ events
+  pub whole : AreAtMost MAX_ACTIVITY_LENGTH times → AreAtMost MAX_VARIANCE squares → IsSoundRegion (kept_in r3 0)
 
 module _ (events activities : ℕ) (spans : Spans) (r0 r1 r2 : Cells) (expected : List ℕ) (taken : AreSpansTaken r0 r1 events activities spans)
     (one_each : length expected ≡ activities) (written : r2 ≡ with_span r1 0 expected) where
@@ -56,8 +56,8 @@ module _ (events activities : ℕ) (spans : Spans) (r0 r1 r2 : Cells) (expected 
   abbrev n : List ℕ
   n = replicate events 0
 
-  list : (k : ℕ) → list_of r1 k ≡ list_of (record { capacity = r0.capacity; spans = m ∷ m ∷ n ∷ n ∷ n ∷ [] }) k
-  list k = ap (λ (r : Cells). list_of r k) taken.region
+  list : (k : ℕ) → span_list r1 k ≡ span_list (record { capacity = r0.capacity; spans = m ∷ m ∷ n ∷ n ∷ n ∷ [] }) k
+  list k = ap (λ (r : Cells). span_list r k) taken.region
 
   laid-1 : IsLaidIn r1 spans
   laid-1 = record { count = ap (λ (r : Cells). length r.spans) taken.region; live = taken.spans }
@@ -89,34 +89,34 @@ module _ (events activities : ℕ) (spans : Spans) (r0 r1 r2 : Cells) (expected 
     abbrev made : List ℕ → List ℕ → List ℕ → List ℕ → List ℕ → ℕ → SessionRegion
     made e f t u p cells = record { expected = e; variances = f; early = t; tails = u; path_cells = p; path_len = 0; free = cells }
 
-    expected-3 : list_of r3 0 ≡ expected
+    expected-3 : span_list r3 0 ≡ expected
     expected-3 = second.off 0 (λ e. omega (arith, e)) ∙ first.at
 
-    early-3 : list_of r3 2 ≡ n
+    early-3 : span_list r3 2 ≡ n
     early-3 = second.off 2 (λ e. omega (arith, e)) ∙ first.off 2 (λ e. omega (arith, e)) ∙ list 2
 
-    tails-3 : list_of r3 3 ≡ n
+    tails-3 : span_list r3 3 ≡ n
     tails-3 = second.off 3 (λ e. omega (arith, e)) ∙ first.off 3 (λ e. omega (arith, e)) ∙ list 3
 
-    path_cells-3 : list_of r3 4 ≡ n
+    path_cells-3 : span_list r3 4 ≡ n
     path_cells-3 = second.off 4 (λ e. omega (arith, e)) ∙ first.off 4 (λ e. omega (arith, e)) ∙ list 4
 
     -- what is kept then
     kept-3 : kept_in r3 0 ≡ opened events expected variances (r0.capacity - (2 * activities + 3 * events))
     kept-3 =
-        ap (λ e. made e (list_of r3 1) (list_of r3 2) (list_of r3 3) (list_of r3 4) (free_of r3)) expected-3
-        ∙ ap (λ f. made expected f (list_of r3 2) (list_of r3 3) (list_of r3 4) (free_of r3)) second.at
-        ∙ ap (λ t. made expected variances t (list_of r3 3) (list_of r3 4) (free_of r3)) early-3
-        ∙ ap (λ u. made expected variances n u (list_of r3 4) (free_of r3)) tails-3
+        ap (λ e. made e (span_list r3 1) (span_list r3 2) (span_list r3 3) (span_list r3 4) (free_of r3)) expected-3
+        ∙ ap (λ f. made expected f (span_list r3 2) (span_list r3 3) (span_list r3 4) (free_of r3)) second.at
+        ∙ ap (λ t. made expected variances t (span_list r3 3) (span_list r3 4) (free_of r3)) early-3
+        ∙ ap (λ u. made expected variances n u (span_list r3 4) (free_of r3)) tails-3
         ∙ ap (λ p. made expected variances n n p (free_of r3)) path_cells-3
         ∙ ap (λ cells. made expected variances n n n cells) free
 
-    early-size : length (list_of r3 2) ≡ events
+    early-size : length (span_list r3 2) ≡ events
     early-size = ap length early-3 ∙ length-replicate events 0
 
-    whole-3 : AreAtMost MAX_ACTIVITY_LENGTH expected → AreAtMost MAX_VARIANCE variances → IsWhole (kept_in r3 0)
+    whole-3 : AreAtMost MAX_ACTIVITY_LENGTH expected → AreAtMost MAX_VARIANCE variances → IsSoundRegion (kept_in r3 0)
     whole-3 small gentle =
-        let whole : IsWhole (opened events expected variances (r0.capacity - (2 * activities + 3 * events))) = record {
+        let whole : IsSoundRegion (opened events expected variances (r0.capacity - (2 * activities + 3 * events))) = record {
           variances = also_each ∙ sym one_each;
           tails = refl;
           path_cells = refl;
@@ -126,7 +126,7 @@ module _ (events activities : ℕ) (spans : Spans) (r0 r1 r2 : Cells) (expected 
           small_early = zeros-small events _;
           small_tails = zeros-small events _;
         } in
-        subst IsWhole (sym kept-3) whole
+        subst IsSoundRegion (sym kept-3) whole
 
     pub is-opened : IsOpened events activities spans r0 r3 expected variances
     is-opened = record { laid = laid-3; kept = kept-3; early = early-size; whole = whole-3 }

@@ -11,11 +11,11 @@ use Rattle.pc_project.specs.Project.{Project, Heading}
 use Rattle.pc_reports.specs.Times.{Times, IsTimes, end_to_meet}
 use Rattle.pc_reports.specs.TimesText.{times_text}
 use Rattle.pc_reports.specs.inside.View.{Shown, IsShownOf, as_shown}
-use Rattle.pc_whatif.specs.inside.trials.SessionRegion.{SessionRegion, IsChangedTo, IsFor, IsStanding, path_in}
+use Rattle.pc_whatif.specs.inside.trials.SessionRegion.{SessionRegion, IsChangedTo, IsRegionFor, IsStanding, path_in}
 use Rattle.pc_whatif.specs.inside.trials.Laid.{AreAtMost}
 use Rattle.pc_whatif.specs.inside.trials.Shown.{late_by}
 
--- those of the path that stands there
+-- those of the path that is kept there
 pub path-known : (net : Network) (r : SessionRegion) (k : ℕ) → IsStanding net r → k < length (path_in r) → slice_index (path_in r) k < length net.arcs
 path-known net r k standing below = picked_from_known net r.expected net.start (path_in r) k standing.path below
 
@@ -35,8 +35,8 @@ shown_from expected variances early tails path by = record {
   times = record { early = early; late = late_by by tails; path = path };
 }
 
--- it is fit to be told of the project
-pub shown-fits : (project : Project) (r : SessionRegion) (by : ℤ) → IsFor project.network r → IsStanding project.network r
+-- it is a report of the project
+pub shown-fits : (project : Project) (r : SessionRegion) (by : ℤ) → IsRegionFor project.network r → IsStanding project.network r
     → AreAtMost MAX_ACTIVITY_LENGTH r.expected → AreAtMost MAX_VARIANCE r.variances → AreAtMost MAX_TIME r.early → AreAtMost MAX_TIME r.tails
     → project.network.events ≤ MAX_EVENTS → (pos 0 ≤ℤ by) × (by ≤ℤ pos MAX_TIME) → IsShownOf project (shown_by r by)
 shown-fits project r by fits standing small_expected small_variances small_early small_tails few within = record {
@@ -57,7 +57,7 @@ shown-fits project r by fits standing small_expected small_variances small_early
       grind (arith, ints, get_or-map (λ tail. by -ℤ pos tail) r.tails e 0 (pos 0) below, small_tails e below, within.0, within.1)
 
 -- its times are those of a project with these expected times
-pub times-are : (project changed : Project) (r : SessionRegion) (by : ℤ) → IsFor project.network r → IsStanding project.network r → IsChangedTo project r changed
+pub times-are : (project changed : Project) (r : SessionRegion) (by : ℤ) → IsRegionFor project.network r → IsStanding project.network r → IsChangedTo project r changed
     → by ≡ end_to_meet project.heading.directed (slice_index r.early project.network.end) → IsTimes changed (shown_by r by).times
 times-are project changed r by fits standing is by_is = record {
   early = rw (is.network, is.expected) standing.early;
@@ -72,7 +72,7 @@ times-are project changed r by fits standing is by_is = record {
   path = rw (is.network, is.expected) standing.path;
 }
 
--- the report of a project by the parts that it tells
+-- the report of a project by its parts
 abbrev told : Project → Heading → Network → List (List ℕ) → List (List ℕ) → List ℕ → List ℕ → Times → List ℕ
 told base heading network events activities expected variances times =
     times_text
@@ -83,7 +83,7 @@ told-is : (base p : Project) (times : Times) → times_text p times ≡ told bas
 unfolding times_text
 told-is base p times = refl
 
--- what is told from there is the report of the project with these expected times
+-- the report made from there is that of the project with these expected times
 pub text-same : (project changed : Project) (r : SessionRegion) (by : ℤ) → IsChangedTo project r changed
     → times_text (as_shown project (shown_by r by)) (shown_by r by).times ≡ times_text changed (shown_by r by).times
 text-same project changed r by is =

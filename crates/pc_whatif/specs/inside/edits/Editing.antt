@@ -9,9 +9,9 @@ use Rattle.pc_crash.specs.Priced.{PricedNetwork}
 use Rattle.pc_crash.specs.Terms.{AreWithinLimits}
 use Rattle.pc_whatif.specs.declared.edits.TheConstants.{MAX_KEPT}
 use Rattle.pc_whatif.specs.declared.edits.ActTerm.{ActTerm}
-use Rattle.pc_whatif.specs.edits.Plans.{estimates_at}
+use Rattle.pc_whatif.specs.edits.Plans.{nth_estimates}
 use Rattle.pc_whatif.specs.inside.edits.Plans.{IsFitPlan}
-use Rattle.pc_whatif.specs.edits.Editing.{Editing, plan_of, net_trying}
+use Rattle.pc_whatif.specs.edits.Editing.{Editing, edited_plan, net_trying}
 
 -- what the edits are: the project as edited, and the term that is on trial for one of its activities, where one is
 pub record Edits : Type 0 where
@@ -35,7 +35,7 @@ pub record MayTry (net : PricedNetwork) (tried : ActTerm) : Type 0 where
 
 -- the numbers fit, now and in each plan that is kept, and no more plans are kept than may be
 pub record IsEditing (editing : Editing) : Type 0 where
-  pub fit : IsFitPlan editing.net.network editing.net.pieces (plan_of editing)
+  pub fit : IsFitPlan editing.net.network editing.net.pieces (edited_plan editing)
   pub kept_fit : All (IsFitPlan editing.net.network editing.net.pieces) editing.kept
   pub few : length editing.kept ≤ MAX_KEPT
   pub unit_days : editing.unit_days ≤ MAX_UNIT_DAYS
@@ -44,5 +44,5 @@ pub record IsEditing (editing : Editing) : Type 0 where
 pub record ChangesOnly (old new : Editing) (a : ℕ) : Type 0 where
   pub activity : a < length old.net.network.arcs
   pub net : new.net ≡ record old.net { terms = slice_set old.net.terms a (term_at new.net.terms a) }
-  pub estimates : new.estimates ≡ slice_set old.estimates a (estimates_at new.estimates a)
+  pub estimates : new.estimates ≡ slice_set old.estimates a (nth_estimates new.estimates a)
   pub unit_days : new.unit_days ≡ old.unit_days

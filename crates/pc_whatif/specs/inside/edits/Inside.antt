@@ -60,7 +60,7 @@ edits_from edits = record { editing = editing_in edits; trial = trial_in edits.a
 
 -- the numbers fit, now and in each plan that is kept; there is room for as many edits as may be kept, and those that are and the term that was
 -- put aside are of activities
-pub record IsWholeInside (edits : Inside) : Type 0 where
+pub record IsSoundEdits (edits : Inside) : Type 0 where
   pub editing : IsEditing (editing_in edits)
   pub room : edits.kept.capacity ≡ MAX_KEPT
   pub known : All (λ kept. kept.activity < length edits.net.network.arcs) edits.kept.items

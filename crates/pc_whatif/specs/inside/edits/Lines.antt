@@ -1,4 +1,4 @@
--- What a line may ask, and how each ask is spelled.
+-- What a line may request, and the text of each request.
 use Rattle.std.specs.Prelude.{◌≡◌, ℕ, ◌^◌, ◌<◌, ◌≤◌, List, [], ◌++◌, length, decimal, codes}
 use Rattle.pc_text.specs.Fields.{spaced, IsCode}
 use Rattle.pc_whatif.specs.declared.edits.ask.Ask.{Ask}
@@ -21,33 +21,33 @@ abbrev pub trial_text : Trial → List ℕ
 trial_text trial =
     codes "TRY" ++ spaced trial.act (spaced (decimal trial.normal) (spaced (decimal trial.crash) (spaced (decimal trial.slope) (spaced (decimal trial.length) []))))
 
--- the one spelling of an ask, without the end of the line
-abbrev pub spelling : Ask → List ℕ
-spelling (ask.Edit edit) = change_text edit.act edit.change
-spelling ask.Undo = codes "UNDO"
-spelling ask.Times = codes "TIMES"
-spelling ask.Curve = codes "CURVE"
-spelling (ask.Try trial) = trial_text trial
+-- the canonical text of a request, without the end of the line
+abbrev pub ask_text : Ask → List ℕ
+ask_text (ask.Edit edit) = change_text edit.act edit.change
+ask_text ask.Undo = codes "UNDO"
+ask_text ask.Times = codes "TIMES"
+ask_text ask.Curve = codes "CURVE"
+ask_text (ask.Try trial) = trial_text trial
 
 -- a number of at most 13 digits, as a deck has them
-abbrev pub IsSmall : ℕ → Type 0
-IsSmall n = n < 10 ^ 13
+abbrev pub HasAtMost13Digits : ℕ → Type 0
+HasAtMost13Digits n = n < 10 ^ 13
 
--- the numbers of a change can be spelled
-abbrev pub FitsChange : Change → Type 0
-FitsChange (Estimate new) = IsSmall new.optimistic × IsSmall new.likely × IsSmall new.pessimistic
-FitsChange (Normal n) = IsSmall n
-FitsChange (Crash n) = IsSmall n
-FitsChange (Slope n) = IsSmall n
+-- the numbers of a change can be written
+abbrev pub IsWritableChange : Change → Type 0
+IsWritableChange (Estimate new) = HasAtMost13Digits new.optimistic × HasAtMost13Digits new.likely × HasAtMost13Digits new.pessimistic
+IsWritableChange (Normal n) = HasAtMost13Digits n
+IsWritableChange (Crash n) = HasAtMost13Digits n
+IsWritableChange (Slope n) = HasAtMost13Digits n
 
--- what an ask says can be spelled: codes are codes, and numbers have at most 13 digits
-abbrev pub Fits : Ask → Type 0
-Fits (ask.Edit edit) = IsCode edit.act × FitsChange edit.change
-Fits (ask.Try trial) = IsCode trial.act × IsSmall trial.normal × IsSmall trial.crash × IsSmall trial.slope × IsSmall trial.length
-Fits other = Unit {0}
+-- a request can be written: its codes are codes, and its numbers have at most 13 digits
+abbrev pub IsWritableAsk : Ask → Type 0
+IsWritableAsk (ask.Edit edit) = IsCode edit.act × IsWritableChange edit.change
+IsWritableAsk (ask.Try trial) = IsCode trial.act × HasAtMost13Digits trial.normal × HasAtMost13Digits trial.crash × HasAtMost13Digits trial.slope × HasAtMost13Digits trial.length
+IsWritableAsk other = Unit {0}
 
--- the line asks this: it is the spelling of the ask, and not too long
+-- the line makes this request: it is the text of the request, and not too long
 pub record Asks (line : List ℕ) (a : Ask) : Type 0 where
-  pub fits : Fits a
-  pub spelled : line ≡ spelling a
+  pub fits : IsWritableAsk a
+  pub spelled : line ≡ ask_text a
   pub short : length line ≤ MAX_LINE

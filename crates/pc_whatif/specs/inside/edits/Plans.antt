@@ -8,7 +8,7 @@ use Rattle.pc_model.specs.Pieces.{ArePieces}
 use Rattle.pc_model.specs.Schedule.{AreTerms}
 use Rattle.pc_crash.specs.Terms.{AreWithinLimits}
 use Rattle.pc_project.specs.declared.activity.Estimates.{Estimates}
-use Rattle.pc_whatif.specs.edits.Plans.{Plan, estimates_at}
+use Rattle.pc_whatif.specs.edits.Plans.{Plan, nth_estimates}
 
 -- the estimates are in order, and none is above its limit
 pub record AreEstimates (e : Estimates) : Type 0 where
@@ -22,4 +22,4 @@ pub record IsFitPlan (net : Network) (further : List PieceRow) (plan : Plan) : T
   pub limits : AreWithinLimits plan.terms
   pub pieces : ArePieces plan.terms further
   pub estimates_each : length plan.estimates ≡ length net.arcs
-  pub estimates : (a : ℕ) → a < length net.arcs → AreEstimates (estimates_at plan.estimates a)
+  pub estimates : (a : ℕ) → a < length net.arcs → AreEstimates (nth_estimates plan.estimates a)

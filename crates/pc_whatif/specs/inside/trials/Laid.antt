@@ -40,18 +40,18 @@ no_region = record { capacity = 0; spans = [] }
 abbrev pub region_of : Inside → Cells
 region_of r = unwrap_or r.region no_region
 
--- what stands in the n-th of its spans
-abbrev pub list_of : Cells → ℕ → List ℕ
-list_of region n = span_at region.spans n
+-- the contents of its n-th span
+abbrev pub span_list : Cells → ℕ → List ℕ
+span_list region n = span_at region.spans n
 
 -- what a region keeps
 abbrev pub kept_in : Cells → ℕ → SessionRegion
 kept_in region path_len = record {
-  expected = list_of region 0;
-  variances = list_of region 1;
-  early = list_of region 2;
-  tails = list_of region 3;
-  path_cells = list_of region 4;
+  expected = span_list region 0;
+  variances = span_list region 1;
+  early = span_list region 2;
+  tails = span_list region 3;
+  path_cells = span_list region 4;
   path_len = path_len;
   free = free_of region;
 }
@@ -65,7 +65,7 @@ abbrev pub AreAtMost : ℕ → List ℕ → Type 0
 AreAtMost most xs = (i : ℕ) → i < length xs → slice_index xs i ≤ most
 
 -- the lists fit together, and no number is too great
-pub record IsWhole (r : SessionRegion) : Type 0 where
+pub record IsSoundRegion (r : SessionRegion) : Type 0 where
   pub variances : length r.variances ≡ length r.expected
   pub tails : length r.tails ≡ length r.early
   pub path_cells : length r.path_cells ≡ length r.early
@@ -84,21 +84,21 @@ pub record IsLaidIn (region : Cells) (spans : Spans) : Type 0 where
 pub record IsLaid (r : Inside) : Type 0 where
   pub here : r.region ≡ Some (region_of r)
   pub laid : IsLaidIn (region_of r) r.spans
-  pub whole : IsWhole (session_region_of r)
-  pub room : length r.room.items ≡ length (list_of (region_of r) 2)
+  pub whole : IsSoundRegion (session_region_of r)
+  pub room : length r.room.items ≡ length (span_list (region_of r) 2)
 
 -- Renewing
 
 -- the times in the new region are those of the expected times, and all else is as it was
 pub record AreRenewed (net : Network) (spans : Spans) (old new : Cells) (path_len : ℕ) : Type 0 where
   pub laid : IsLaidIn new spans
-  pub expected : list_of new 0 ≡ list_of old 0
-  pub variances : list_of new 1 ≡ list_of old 1
-  pub early : AreEarly net (list_of old 0) (list_of new 2)
-  pub tails : AreTails net (list_of old 0) (list_of new 3)
-  pub path : IsPickedWalk net (list_of old 0) (take path_len (list_of new 4))
-  pub path_cells : length (list_of new 4) ≡ net.events
+  pub expected : span_list new 0 ≡ span_list old 0
+  pub variances : span_list new 1 ≡ span_list old 1
+  pub early : AreEarly net (span_list old 0) (span_list new 2)
+  pub tails : AreTails net (span_list old 0) (span_list new 3)
+  pub path : IsPickedWalk net (span_list old 0) (take path_len (span_list new 4))
+  pub path_cells : length (span_list new 4) ≡ net.events
   pub short : path_len < net.events
   pub free : free_of new ≡ free_of old
-  pub small_early : AreAtMost MAX_TIME (list_of new 2)
-  pub small_tails : AreAtMost MAX_TIME (list_of new 3)
+  pub small_early : AreAtMost MAX_TIME (span_list new 2)
+  pub small_tails : AreAtMost MAX_TIME (span_list new 3)

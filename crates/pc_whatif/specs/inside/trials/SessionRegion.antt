@@ -26,14 +26,14 @@ abbrev pub path_in : SessionRegion → List ℕ
 path_in r = take r.path_len r.path_cells
 
 -- there is a place for each activity and event of the network
-pub record IsFor (net : Network) (r : SessionRegion) : Type 0 where
+pub record IsRegionFor (net : Network) (r : SessionRegion) : Type 0 where
   pub expected : length r.expected ≡ length net.arcs
   pub variances : length r.variances ≡ length net.arcs
   pub early : length r.early ≡ net.events
   pub tails : length r.tails ≡ net.events
   pub path_cells : length r.path_cells ≡ net.events
 
--- the times are those of the expected times that stand beside them
+-- the times are those of the expected times that are kept with them
 pub record IsStanding (net : Network) (r : SessionRegion) : Type 0 where
   pub early : AreEarly net r.expected r.early
   pub tails : AreTails net r.expected r.tails
@@ -45,7 +45,7 @@ pub record IsStandingOf (project : Project) (r : SessionRegion) : Type 0 where
   pub variances : r.variances ≡ project.variances
   pub standing : IsStanding project.network r
 
--- the expected time that estimates give, where a unit has so many days, and the variance of it
+-- the expected time that estimates give if a unit has this many days, and its variance
 abbrev pub expected_by : ℕ → Estimates → ℕ
 expected_by unit_days e = expected_time e.optimistic e.likely e.pessimistic unit_days
 
@@ -63,8 +63,8 @@ with_estimates r a e unit_days = record r {
 abbrev pub with_times : SessionRegion → List ℕ → List ℕ → List ℕ → ℕ → SessionRegion
 with_times r early tails path_cells path_len = record r { early = early; tails = tails; path_cells = path_cells; path_len = path_len }
 
--- the second project is called as the first is and has its network, and its expected times and variances are those that stand
--- in the region
+-- the second project has the name and the network of the first, and its expected times and variances are those in the
+-- region
 pub record IsChangedTo (project : Project) (r : SessionRegion) (changed : Project) : Type 0 where
   pub heading : changed.heading ≡ project.heading
   pub network : changed.network ≡ project.network

@@ -15,8 +15,8 @@ abbrev pub HasCells : PricedNetwork → Cells → Type 0
 HasCells net region = trial_cells net.network.events (length net.network.arcs) (length net.pieces) ≤ free_of region
 
 -- the same, in the region of a session
-abbrev pub HasRoom : PricedNetwork → SessionRegion → Type 0
-HasRoom net r = trial_cells net.network.events (length net.network.arcs) (length net.pieces) ≤ r.free
+abbrev pub HasTrialCells : PricedNetwork → SessionRegion → Type 0
+HasTrialCells net r = trial_cells net.network.events (length net.network.arcs) (length net.pieces) ≤ r.free
 
 -- how many looks a trial may take at most: four at each activity for each unit by which the slope can rise and the length come
 -- down

@@ -2,18 +2,18 @@ use Rattle.std.proofs.Common.{◌≡◌, sym, ap, subst, ◌∙◌, arith}
 use Rattle.std.proofs.lemmas.List.{get_or_read}
 use Rattle.std.specs.Vec.{with_items}
 use Rattle.pc_model.specs.Schedule.{term_at}
-use Rattle.pc_whatif.specs.edits.Editing.{activity_named, plan_of, undone}
+use Rattle.pc_whatif.specs.edits.Editing.{activity_named, edited_plan, undone}
 use Rattle.pc_whatif.specs.inside.edits.Editing.{Edits}
 use Rattle.pc_whatif.specs.inside.edits.Inside.{replaced}
-use Rattle.pc_whatif.specs.edits.Plans.{estimates_at}
-use Rattle.pc_whatif.specs.edits.Standing.{Stands, noted}
+use Rattle.pc_whatif.specs.edits.Plans.{nth_estimates}
+use Rattle.pc_whatif.specs.edits.Standing.{IsEditedBy, noted}
 use Rattle.pc_whatif.proofs.lemmas.edits.InsideLaws.{IsEdited, edited_fields}
 use Rattle.pc_whatif.proofs.lemmas.edits.PlanLaws.{no_estimates}
-use Rattle.pc_whatif.proofs.lemmas.edits.StandingLaws.{Stands-edited}
+use Rattle.pc_whatif.proofs.lemmas.edits.StandingLaws.{IsEditedBy-edited}
 use Rattle.pc_whatif.proofs.edits.Edits.apply.Goals as goal
 
 -- what is kept is what was there
-was : (c : goal.After-push_back) → c.replaced-was.result ≡ replaced c.args.edit.now.change (term_at c.self.inside.net.terms c.in_ok-a.a) (estimates_at c.self.inside.estimates.items c.in_ok-a.a)
+was : (c : goal.After-push_back) → c.replaced-was.result ≡ replaced c.args.edit.now.change (term_at c.self.inside.net.terms c.in_ok-a.a) (nth_estimates c.self.inside.estimates.items c.in_ok-a.a)
 was c =
     c.replaced-was.ensures
     ∙ (λ i. replaced c.args.edit.now.change (c.term.ensures i)
@@ -34,7 +34,7 @@ pub returns-clause-changed : goal.returns-clause-changed
 returns-clause-changed c = (made c).view
 
 pub returns-clause-undone : goal.returns-clause-undone
-returns-clause-undone c = ap (λ (e : Edits). plan_of (undone e.editing)) (made c).view ∙ (made c).back
+returns-clause-undone c = ap (λ (e : Edits). edited_plan (undone e.editing)) (made c).view ∙ (made c).back
 
 pub returns-clause-touched : goal.returns-clause-touched
 returns-clause-touched c = (made c).touched
@@ -42,6 +42,6 @@ returns-clause-touched c = (made c).touched
 pub returns-clause-standing : goal.returns-clause-standing
 returns-clause-standing c =
     λ project journal stands.
-    subst (λ (e : Edits). Stands project (noted journal c.args.edit.now) e.editing) (sym (made c).view)
-    (Stands-edited project journal c.args.self.now.editing c.args.edit.now c.in_ok-a.a
+    subst (λ (e : Edits). IsEditedBy project (noted journal c.args.edit.now) e.editing) (sym (made c).view)
+    (IsEditedBy-edited project journal c.args.self.now.editing c.args.edit.now c.in_ok-a.a
     (ap (λ (e : Edits). activity_named e.editing.net c.args.edit.now.act) (sym c.self.view_is) ∙ c.in_ok-a.ensures.named) stands)

@@ -2,9 +2,9 @@ use Rattle.std.proofs.Common.{◌≡◌, None, refl, sym, subst}
 use Rattle.pc_whatif.specs.declared.edits.Edits.TheInside.{Inside}
 use Rattle.pc_project.specs.shell.Priced.{priced_in}
 use Rattle.pc_project.proofs.lemmas.shell.PricedLaws.{priced_is}
-use Rattle.pc_whatif.specs.edits.Standing.{Stands, empty}
+use Rattle.pc_whatif.specs.edits.Standing.{IsEditedBy, empty}
 use Rattle.pc_whatif.proofs.lemmas.edits.BegunLaws.{begun_whole, editing_is}
-use Rattle.pc_whatif.proofs.lemmas.edits.StandingLaws.{Stands-begun}
+use Rattle.pc_whatif.proofs.lemmas.edits.StandingLaws.{IsEditedBy-begun}
 use Rattle.pc_whatif.proofs.edits.Edits.build.Goals as goal
 
 -- the priced network is the project's
@@ -24,6 +24,6 @@ invariant_of-result c =
 
 pub returns-clause-standing : goal.returns-clause-standing
 returns-clause-standing c =
-    subst (Stands c.args.project.now empty)
+    subst (IsEditedBy c.args.project.now empty)
     (sym (editing_is c.args.project.now c.facts.ensures.planned (fields c) (net_is c) c.in_ok-estimates_of.ensures c.unit_days.ensures.unit c.in_ok-with_capacity.ensures refl))
-    (Stands-begun c.args.project.now)
+    (IsEditedBy-begun c.args.project.now)

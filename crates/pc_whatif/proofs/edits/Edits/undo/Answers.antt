@@ -1,9 +1,9 @@
 use Rattle.std.proofs.Common.{sym, subst, ◌∙◌}
 use Rattle.std.specs.Vec.{with_items}
 use Rattle.pc_whatif.specs.inside.edits.Editing.{Edits}
-use Rattle.pc_whatif.specs.edits.Standing.{Stands, taken_back}
+use Rattle.pc_whatif.specs.edits.Standing.{IsEditedBy, taken_back}
 use Rattle.pc_whatif.proofs.lemmas.edits.InsideLaws.{IsUndone, undo_accepted, undo_fits, undo_some, undone_fields}
-use Rattle.pc_whatif.proofs.lemmas.edits.StandingLaws.{Stands-undone}
+use Rattle.pc_whatif.proofs.lemmas.edits.StandingLaws.{IsEditedBy-undone}
 use Rattle.pc_whatif.proofs.edits.Edits.undo.Goals.{After-put}
 use Rattle.pc_whatif.proofs.edits.Edits.undo.Goals as goal
 
@@ -33,7 +33,7 @@ returns-clause-touched c = (made (goal.at.returns-clause-touched c).After-put).t
 pub returns-clause-standing : goal.returns-clause-standing
 returns-clause-standing c =
     λ project journal stands.
-    subst (λ (e : Edits). Stands project (taken_back journal) e.editing) (sym (made (goal.at.returns-clause-standing c).After-put).view)
-    (Stands-undone project journal c.args.self.now.editing
+    subst (λ (e : Edits). IsEditedBy project (taken_back journal) e.editing) (sym (made (goal.at.returns-clause-standing c).After-put).view)
+    (IsEditedBy-undone project journal c.args.self.now.editing
     (undo_some c.self.inside c.args.self.now c.self.view_is c.self.invariant c.requires c.in-Some.kept
     (sym c.pop_back.ensures.value ∙ c.in-Some.is)) stands)

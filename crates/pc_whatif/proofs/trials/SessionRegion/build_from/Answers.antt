@@ -2,7 +2,7 @@ use Rattle.std.proofs.Common.{◌≡◌, ℕ, length, replicate, refl, sym, ◌�
 use Rattle.std.proofs.lemmas.List.{length-replicate}
 use Rattle.pc_cells.specs.Spans.{Cells}
 use Rattle.pc_cells.specs.inside.Spans.{span_at}
-use Rattle.pc_whatif.specs.inside.trials.SessionRegion.{IsFor}
+use Rattle.pc_whatif.specs.inside.trials.SessionRegion.{IsRegionFor}
 use Rattle.pc_whatif.specs.inside.trials.Laid.{IsLaidIn}
 use Rattle.pc_whatif.proofs.lemmas.trials.OpenLaws.{IsOpened, laid-2, is-opened}
 use Rattle.pc_flow.proofs.OpeningLaws.{some-activities}
@@ -54,7 +54,7 @@ renew-requires c =
     let is = opened_there at.After-write-2 (laid_there at.After-write) in
     let none : length (replicate {A = ℕ} events 0) ≡ events = length-replicate events 0 in
     let zeros = none ∙ c.events-events.ensures.events in
-    subst (IsFor c.args.net.now) (sym is.kept) (record {
+    subst (IsRegionFor c.args.net.now) (sym is.kept) (record {
       expected = c.requires.lengths.one_each;
       variances = c.requires.variance_each;
       early = zeros;

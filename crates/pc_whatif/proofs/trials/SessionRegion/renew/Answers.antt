@@ -1,6 +1,6 @@
 use Rattle.std.proofs.Common.{length, refl, ap, subst, arith}
 use Rattle.std.specs.Vec.{with_items}
-use Rattle.pc_whatif.specs.inside.trials.Laid.{IsWhole, kept_in}
+use Rattle.pc_whatif.specs.inside.trials.Laid.{IsSoundRegion, kept_in}
 use Rattle.pc_whatif.proofs.lemmas.trials.KeptLaws.{region-found, renewed-whole}
 use Rattle.pc_whatif.proofs.trials.SessionRegion.renew.Goals as goal
 
@@ -14,7 +14,7 @@ invariant_of-self c =
       here = refl;
       laid = renewed.laid;
       whole = renewed-whole c.args.net.now c.self.inside.spans old new c.self.inside.path_len c.renew_times-self-inside.result
-          (subst (λ region. IsWhole (kept_in region c.self.inside.path_len)) same c.self.invariant.whole) renewed;
+          (subst (λ region. IsSoundRegion (kept_in region c.self.inside.path_len)) same c.self.invariant.whole) renewed;
       room = omega (
         arith,
         (with_items c.self.inside.room c.renew_times-self-inside.new.room).ok.0,

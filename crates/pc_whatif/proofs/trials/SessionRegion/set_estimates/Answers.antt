@@ -1,5 +1,5 @@
 use Rattle.std.proofs.Common.{◌≡◌, length, refl, sym, ap, subst, ◌∙◌, arith}
-use Rattle.pc_whatif.specs.inside.trials.Laid.{IsLaidIn, IsWhole, kept_in, list_of, region_of}
+use Rattle.pc_whatif.specs.inside.trials.Laid.{IsLaidIn, IsSoundRegion, kept_in, span_list, region_of}
 use Rattle.pc_whatif.specs.inside.trials.SessionRegion.{SessionRegion, expected_by}
 use Rattle.pc_times.proofs.EstimateLaws.{variance_small}
 use Rattle.pc_whatif.proofs.lemmas.trials.KeptLaws.{with_numbers, AreSet, region-found, laid-set, laid-both, kept-both, early-both, whole-both}
@@ -26,15 +26,15 @@ invariant_of-self c =
     let x = c.expected_sixths-expected.result in
     let v = c.variance_36-variance.result in
     let same = found c in
-    let whole = subst (λ region. IsWhole (kept_in region c.self.inside.path_len)) same c.self.invariant.whole in
+    let whole = subst (λ region. IsSoundRegion (kept_in region c.self.inside.path_len)) same c.self.invariant.whole in
     record {
       here = refl;
       laid = laid-both c.self.inside.spans r0 c.set.new.self r2 c.args.a x v (are_set c);
       whole = whole-both c.self.inside.spans r0 c.set.new.self r2 c.args.a x v (are_set c) c.self.inside.path_len whole
-          (omega (arith, c.requires.activity, ap (λ r. length r.expected) c.self.view_is, ap (λ region. length (list_of region 0)) same))
+          (omega (arith, c.requires.activity, ap (λ r. length r.expected) c.self.view_is, ap (λ region. length (span_list region 0)) same))
           c.expected_sixths-expected.ensures.limit
           (omega (arith, c.variance_36-variance.ensures, variance_small c.args.estimates.now.optimistic c.args.estimates.now.pessimistic c.args.unit_days c.requires.estimates.short c.requires.unit));
-      room = c.self.invariant.room ∙ ap (λ region. length (list_of region 2)) same
+      room = c.self.invariant.room ∙ ap (λ region. length (span_list region 2)) same
           ∙ sym (early-both c.self.inside.spans r0 c.set.new.self r2 c.args.a x v (are_set c));
     }
 
