@@ -1,24 +1,26 @@
-"""Two hosts, each in a network namespace with a server of ssh, one of which dies half way."""
+"""Two hosts, each in a network namespace with a server of ssh, one of which is lost half way."""
 
 import os
 import shutil
 import signal
 import subprocess
 import time
-from collections.abc import Callable, Iterator
+from collections.abc import Callable, Iterator, Sequence
 from dataclasses import dataclass
 from pathlib import Path
 
 import pytest
 
 from page.certificates import TOP
-from pert_companion.portfolio.hosts import Hosts
+from pert_companion.portfolio.hosts import SILENCE, Hosts
 from pert_companion.portfolio.job import Job
 from pert_companion.portfolio.row import Row, row_of
 from pert_companion.programs.client import Programs
 
 PROGRAMS = Programs()
 COMMAND = TOP / "companion" / "bin" / "pert-portfolio"
+SHORT_SILENCE = 12
+"""Seconds, more than the pause between two signs of life."""
 NEEDED = ("parallel", "ssh", "ssh-keygen", "sshd", "ip")
 DECK = """PROJECT,P{number},S,T,2026-03-02,1,,Project {number}
 WBS,1,,Top
@@ -46,6 +48,10 @@ class Host:
     namespace: str
     address: str
     server: "subprocess.Popen[bytes]"
+
+    def unplug(self) -> None:
+        """Makes all that is sent to it or by it vanish; what runs on it goes on."""
+        system("ip", "-n", self.namespace, "link", "set", "eth", "down")
 
     def kill(self) -> None:
         """Kills everything that runs on it."""
@@ -128,23 +134,35 @@ def decks(folder: Path, count: int) -> list[Job]:
     return [Job(folder / f"p{number}.csv", None, f"p{number}.csv") for number in range(count)]
 
 
-def rows_by(hosts: list[Host], folder: Path, jobs: list[Job], die: Callable[[], None]) -> list[Row]:
-    """Returns the rows that hosts make, the last of which dies when it has made some of them."""
+@dataclass(frozen=True)
+class Found:
+    """What two hosts did of which the last one was lost half way."""
+
+    rows: Sequence[Row]
+    left_out: Sequence[str]
+    seconds: float
+    """From the loss to the last row."""
+
+
+def rows_by(
+    hosts: list[Host], folder: Path, jobs: list[Job], lose: Callable[[], None], silence: int
+) -> Found:
+    """Returns the rows that hosts make, the last of which is lost when it has made some of them."""
     logins = folder / "hosts"
     logins.write_text("".join(f"1/root@{host.address}\n" for host in hosts))
     met = folder / "met"
     remote = f"ip netns identify >>{met}; {COMMAND} --bin {Path(PROGRAMS.find('pert')).parent}"
-    asked = Hosts(logins, remote)
+    asked = Hosts(logins, remote, silence)
     rows: dict[int, Row] = {}
-    is_dead = False
+    lost_at = None
     for number, row in asked.rows(list(enumerate(jobs))):
         rows[number] = row
-        if not is_dead and met.read_text().split().count(hosts[-1].namespace) == 2:
-            is_dead = True
-            die()
-    assert is_dead and hosts[0].namespace in met.read_text()
-    assert [line.partition(":")[0] for line in asked.left_out] == [f"root@{hosts[-1].address}"]
-    return [rows[number] for number in range(len(jobs))]
+        if lost_at is None and met.read_text().split().count(hosts[-1].namespace) == 2:
+            lost_at = time.monotonic()
+            lose()
+    assert lost_at is not None and hosts[0].namespace in met.read_text()
+    seconds = time.monotonic() - lost_at
+    return Found([rows[number] for number in range(len(jobs))], asked.left_out, seconds)
 
 
 def test_the_other_host_makes_the_rows_of_one_that_is_killed_half_way(
@@ -152,5 +170,18 @@ def test_the_other_host_makes_the_rows_of_one_that_is_killed_half_way(
 ) -> None:
     """It alone is left out and named; each row is the one that is made here."""
     jobs = decks(tmp_path, 48)
-    rows = rows_by(hosts, tmp_path, jobs, hosts[-1].kill)
-    assert rows == [row_of(PROGRAMS, job) for job in jobs]
+    found = rows_by(hosts, tmp_path, jobs, hosts[-1].kill, SILENCE)
+    assert [line.partition(":")[0] for line in found.left_out] == [f"root@{hosts[-1].address}"]
+    assert found.rows == [row_of(PROGRAMS, job) for job in jobs]
+
+
+def test_the_other_host_makes_the_rows_of_one_that_is_unplugged_half_way(
+    hosts: list[Host], tmp_path: Path
+) -> None:
+    """It is left out when it was silent for long enough, once and not for each of its decks."""
+    jobs = decks(tmp_path, 48)
+    found = rows_by(hosts, tmp_path, jobs, hosts[-1].unplug, SHORT_SILENCE)
+    fault = f"was silent for {SHORT_SILENCE} seconds"
+    assert found.left_out == [f"root@{hosts[-1].address}: {fault}"]
+    assert found.rows == [row_of(PROGRAMS, job) for job in jobs]
+    assert found.seconds < 60

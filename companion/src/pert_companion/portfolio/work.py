@@ -11,7 +11,7 @@ from concurrent.futures import Future, ProcessPoolExecutor, as_completed
 from concurrent.futures.process import BrokenProcessPool
 from multiprocessing import active_children
 from pathlib import Path
-from threading import Thread
+from threading import Event, Lock, Thread
 from types import FrameType
 
 from pert_companion.model.errors import UsageError
@@ -25,6 +25,9 @@ from pert_companion.programs.client import Programs
 
 AT_ONCE = 16
 """Decks that are read one by one when a process has crashed, to find the one that did it."""
+
+PAUSE = 5.0
+"""The seconds between two signs of life of a host, a part of `hosts.SILENCE`."""
 
 ROLES = ("deck", "previous", "baseline")
 """What the decks of a job are to its row."""
@@ -169,17 +172,51 @@ def _stop(_signal: int, _frame: FrameType | None) -> None:
     raise SystemExit
 
 
-def serve(programs: Programs, lines: Iterable[bytes]) -> None:
-    """Reads decks as lines, and writes the row of each with its number: the work of a host.
+class Answering:
+    """What a host writes: rows, and an empty line now and then for as long as it works.
 
-    An empty line comes before each row, which ends a line that another host began and broke off.
+    An empty line comes before each row too, which ends a line that another host began and broke
+    off.
     """
-    with tempfile.TemporaryDirectory() as name:
+
+    def __init__(self, pause: float = PAUSE) -> None:
+        """Takes the seconds between two empty lines."""
+        self._pause = pause
+        self._ended = Event()
+        self._lock = Lock()
+        self._thread = Thread(target=self._repeat, daemon=True)
+
+    def __enter__(self) -> "Answering":
+        """Begins to write empty lines."""
+        self._thread.start()
+        return self
+
+    def __exit__(self, *_: object) -> None:
+        """Writes no more of them."""
+        self._ended.set()
+        self._thread.join()
+
+    def write(self, text: str) -> None:
+        """Writes a text as one."""
+        with self._lock:
+            sys.stdout.write(text)
+            sys.stdout.flush()
+
+    def _repeat(self) -> None:
+        while not self._ended.wait(self._pause):
+            try:
+                self.write("\n")
+            except OSError:  # nobody reads: the next row says so to the main thread
+                return
+
+
+def serve(programs: Programs, lines: Iterable[bytes]) -> None:
+    """Reads decks as lines, and writes the row of each with its number: the work of a host."""
+    with tempfile.TemporaryDirectory() as name, Answering() as answering:
         folder = Path(name)
         jobs = [_placed(line, folder) for line in lines if line.strip()]
         for number, row in _here(programs, jobs):
-            sys.stdout.write(f"\n{number} {row_text(row)}\n")
-            sys.stdout.flush()
+            answering.write(f"\n{number} {row_text(row)}\n")
 
 
 def _placed(line: bytes, folder: Path) -> tuple[int, Job]:
