@@ -10,7 +10,6 @@ from pert_companion.analysis.options import (
     Mark,
     Option,
     Reason,
-    bridge,
     chosen_option,
     options,
     options_at,
@@ -116,16 +115,3 @@ def test_each_length_is_one_option(house: ProjectState) -> None:
     found = options_at(house.rest, [Mark(30, Reason.TARGET), Mark(30, Reason.CHEAPEST)])
     assert [(it.length, len(it.marks)) for it in found] == [(30, 2)]
     assert chosen_option(house.rest, 30).marks == (Mark(30, Reason.CHOSEN),)
-
-
-def test_the_bridge_adds_up_to_the_estimate_and_to_the_option() -> None:
-    state = state_of(parse_deck(house_with_terms(), "house.csv"), PROGRAMS)
-    option = with_reason(options(state), Reason.SHORTEST)
-    steps = bridge(state, option)
-    tasks, spent, packages, latest, work, time, whole = (step.amount for step in steps)
-    assert latest == tasks + spent + packages == state.plan.summary["1"].latest
-    assert packages == state.plan.summary["1.4"].latest
-    assert whole == latest + work + time
-    assert (work, time) == (option.work_against_today, option.time)
-    assert [step.name for step in steps if step.is_sum] == ["latest estimate", "in all"]
-    assert bridge(replace(state, deck=replace(state.deck, accounts=())), option) == ()

@@ -8,6 +8,7 @@ from typing import Any
 
 from page.browser import Browser, Page
 from page.certificates import HOUSE, PROGRAMS, bench
+from pert_companion.cli.opening import with_tables
 from pert_companion.model.cards import ActivityCard
 from pert_companion.model.deck import Deck, parse_deck
 from pert_companion.page.gathering import Gathered, gather
@@ -56,7 +57,8 @@ def gathered_of(
 ) -> Gathered:
     """Returns what a page of a deck shows."""
     others = [None if path is None else open_state(path, PROGRAMS) for path in (baseline, previous)]
-    return gather(Source(Wishes(**wishes), open_state(deck, PROGRAMS), *others), lambda text: None)
+    state = with_tables(open_state(deck, PROGRAMS))
+    return gather(Source(Wishes(**wishes), state, *others), lambda text: None)
 
 
 def write_page(deck: Path, page: Path, **wishes: Any) -> Gathered:

@@ -54,6 +54,21 @@ def test_the_bridge_follows_the_chosen_length(browser: Browser, tmp_path: Path) 
     assert bridge_of(page) == [12600, 0, 1000, 13600, 1090, 2310, 17000]
 
 
+def test_the_reserve_is_the_last_line_of_the_bridge(browser: Browser, tmp_path: Path) -> None:
+    """Of 200 in reserve, 50 went to a package; 150 more at each length."""
+    deck = plan_without_status().replace(b"\nEND\n", b"\n" + TERMS + b"END\n")
+    (tmp_path / "deck.csv").write_bytes(deck)
+    (tmp_path / "packages.csv").write_text("item,technique,budget\nMR,reserve,200\n")
+    (tmp_path / "changes.csv").write_text(
+        "date,from,to,amount,reason,approved\n2024-01-10,reserve,1.4,50,Permits,Ada\n"
+    )
+    write_page(tmp_path / "deck.csv", tmp_path / "page.html")
+    page = open_drawn(browser, tmp_path / "page.html")
+    assert bridge_of(page) == [12600, 0, 1000, 13600, 590, 2700, 16890, 150, 17040]
+    moves(page, range(27, 28))
+    assert bridge_of(page) == [12600, 0, 1000, 13600, 1090, 2310, 17000, 150, 17150]
+
+
 def test_dates_by_several_calendars_are_those_of_the_schedule(
     browser: Browser, tmp_path: Path
 ) -> None:

@@ -207,7 +207,7 @@ def earned_value(current: ProjectState, baseline: ProjectState) -> EarnedValue:
     measurer = _Measurer(current, baseline)
     measured = measurer.packages()
     packages = tuple(_packages(current, measured, measurer.time))
-    packages += tuple(_budgets_apart(current))
+    packages += tuple(budgets_alone(current))
     total = total_of(package.figures for package in packages if package.is_measured)
     shares = {code: done.share for code, done in measurer.done.items()}
     finish = last_finish(current, shares)
@@ -447,7 +447,7 @@ def _packages(
         yield Package(item.code, item.title, figures, scope, rule.technique, rule.manager)
 
 
-def _budgets_apart(current: ProjectState) -> Iterator[Package]:
+def budgets_alone(current: ProjectState) -> Iterator[Package]:
     """Yields undistributed budget and reserve as they are at the data date."""
     scopes = {
         Technique.UNDISTRIBUTED: Scope.UNDISTRIBUTED,

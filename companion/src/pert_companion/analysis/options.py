@@ -10,7 +10,6 @@ from dataclasses import dataclass
 from datetime import date
 from enum import Enum
 
-from pert_companion.model import deck as decks
 from pert_companion.model.amounts import measure_of
 from pert_companion.model.cards import TermsCard
 from pert_companion.model.deck import Deck
@@ -90,17 +89,6 @@ class TimePrice:
     def total(self) -> int:
         """Returns the sum, in which the bonus is below 0."""
         return self.overhead - self.bonus + self.penalty
-
-
-@dataclass(frozen=True)
-class Step:
-    """A line of a bridge between two amounts."""
-
-    name: str
-    amount: int
-    is_sum: bool = False
-    key: str = ""
-    """What depends on the length: `work`, `time` or `whole`."""
 
 
 def time_price(terms: TermsCard, length: int) -> TimePrice:
@@ -201,28 +189,3 @@ def _option(work: Work, length: int, marks: Sequence[Mark]) -> Option:
         step=step,
         next=total_cost(work, length - step) - total if step else None,
     )
-
-
-def bridge(state: ProjectState, option: Option) -> tuple[Step, ...]:
-    """Returns how the cost of the work becomes the latest estimate, and that what an option costs.
-
-    Each sum is that of the lines since the one before. It is empty for a deck without accounts.
-    """
-    if not state.deck.accounts:
-        return ()
-    summary, today = state.plan.summary, state.rest.curve[0].cost
-    with_tasks = {card.item for card in state.deck.work}
-    packages = [item for item in decks.leaves(state.deck.items) if item.code in summary]
-    tasks = sum(summary[item.code].latest for item in packages if item.code in with_tasks)
-    latest = summary[state.plan.top].latest
-    steps = [
-        Step("the tasks at their normal costs", today),
-        Step("what was spent and re-estimated beyond that", tasks - today),
-        Step("packages without tasks", latest - tasks),
-        Step("latest estimate", latest, is_sum=True),
-        Step("the shorter work", option.work_against_today, key="work"),
-    ]
-    if option.time is not None:
-        steps.append(Step("the price of time", option.time, key="time"))
-    whole = latest + option.work_against_today + (option.time or 0)
-    return (*steps, Step("in all", whole, is_sum=True, key="whole"))

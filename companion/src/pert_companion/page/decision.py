@@ -3,7 +3,8 @@
 from collections.abc import Sequence
 from dataclasses import dataclass
 
-from pert_companion.analysis.options import Option, Reason, Step, bridge
+from pert_companion.analysis.estimate_bridge import Step, estimate_bridge
+from pert_companion.analysis.options import Option, Reason
 from pert_companion.analysis.sureness import percent_text
 from pert_companion.page.gathering import Gathered
 from pert_companion.page.view import Line, Row, Table, plain, signed, strong, title
@@ -196,7 +197,7 @@ def bridge_table(gathered: Gathered, words: Words) -> Table | None:
 
     The script draws the rows that have a key again when another length is chosen.
     """
-    steps = bridge(gathered.state, gathered.chosen)
+    steps = estimate_bridge(gathered.state, gathered.chosen)
     if not steps:
         return None
     rows = tuple(bridge_row(step, words) for step in steps)

@@ -498,7 +498,13 @@
     function drawBridge(work, total) {
         if (view.latest === null) return;
         const more = work - workCost(curve.longest);
-        const steps = { work: signedDigits(more), time: signedDigits(total - work), whole: digits(BigInt(view.latest) + more + total - work) };
+        const whole = BigInt(view.latest) + BigInt(more + total - work);
+        const steps = {
+            work: signedDigits(more),
+            time: signedDigits(total - work),
+            whole: digits(whole),
+            covered: digits(whole + BigInt(view.uncharged)), // with the budgets that no account has
+        };
         for (const [key, text] of Object.entries(steps)) setText($(`bridge-${key}`)?.cells[1] ?? null, text);
     }
 

@@ -5,6 +5,7 @@ from dataclasses import dataclass
 from markupsafe import Markup
 
 from pert_companion.analysis.forecast import WHY_DIFFERENT, end_of_sixths
+from pert_companion.analysis.estimate_bridge import uncharged_budgets
 from pert_companion.analysis.latest import contract_minutes, latest_of
 from pert_companion.analysis.sureness import percent_text
 from pert_companion.model.deck import Deck, checksum
@@ -247,6 +248,7 @@ def view_data(
         "length": gathered.length,
         "has_choice": gathered.has_choice,
         "latest": None if top is None else str(top.latest),
+        "uncharged": str(sum(each.figures.bac for each in uncharged_budgets(state))),
         "chances": [[str(it), percent_text(chance)] for it, chance in gathered.chances.items()],
         "calendar": {
             "first": state.rest.clock.first_day.isoformat(),
