@@ -76,6 +76,14 @@ class Figures:
         """Returns what came after earlier figures of the same scope; BAC is that of today."""
         return Figures(self.bac, self.pv - before.pv, self.ev - before.ev, self.ac - before.ac)
 
+    def performance(self) -> tuple[int, int, int, int, int]:
+        """Returns PV, EV, AC, SV and CV."""
+        return self.pv, self.ev, self.ac, self.sv, self.cv
+
+    def amounts(self) -> tuple[int, ...]:
+        """Returns BAC, PV, EV, AC, SV and CV."""
+        return self.bac, *self.performance()
+
     @property
     def sv(self) -> int:
         """Returns EV - PV: the work done beyond what was planned."""

@@ -19,6 +19,7 @@ from typing import Any, get_type_hints
 
 from pert_companion.model import cards, source
 from pert_companion.model.errors import InputError
+from pert_companion.model.lines import csv_bytes
 
 MOST_BYTES = 67_108_864
 MOST_DIGITS = 13
@@ -93,10 +94,7 @@ class Deck:
 
     @cached_property
     def _text(self) -> bytes:
-        text = io.StringIO(newline="")
-        writer = csv.writer(text, lineterminator="\n")
-        writer.writerows(self._rows())
-        return text.getvalue().encode()
+        return csv_bytes(self._rows())
 
     def _rows(self) -> Iterator[Sequence[object]]:
         """Yields the rows of the cards; a date is written as ISO 8601 has it."""

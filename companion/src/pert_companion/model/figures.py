@@ -45,6 +45,16 @@ def money_text(amount: Fraction | int | None, scale: int) -> str:
     return f"{sign}{whole}.{part:0{digits}d}"
 
 
+def ratio_cell(ratio: Fraction | None, places: int = 3) -> str:
+    """Returns a ratio as `ratio_text` has it; an empty text if there is none."""
+    return "" if ratio is None else ratio_text(ratio, places)
+
+
+def money_cell(amount: Fraction | int | None, scale: int) -> str:
+    """Returns an amount as `money_text` has it; an empty text if there is none."""
+    return "" if amount is None else money_text(amount, scale)
+
+
 def currency_text(amount: Decimal) -> str:
     """Returns an amount of the currency, with two decimals at least where it has any."""
     if amount == amount.to_integral_value():

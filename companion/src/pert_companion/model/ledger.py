@@ -8,7 +8,7 @@ amount is in the currency, a credit is negative. The ledger is kept next to the 
 import csv
 import io
 from collections import Counter
-from collections.abc import Iterable, Mapping
+from collections.abc import Iterable, Iterator, Mapping
 from dataclasses import dataclass, field, replace
 from datetime import date
 from decimal import Decimal, InvalidOperation
@@ -16,6 +16,7 @@ from itertools import chain
 from pathlib import Path
 
 from pert_companion.model.errors import InputError
+from pert_companion.model.lines import csv_bytes
 from pert_companion.model.source import read_bytes, shown_name
 from pert_companion.model.strict import parse_day
 
@@ -192,21 +193,21 @@ def read_ledger(path: Path) -> Ledger:
 
 def to_bytes(ledger: Ledger) -> bytes:
     """Returns a ledger as CSV in UTF-8: named headings, vouchers, then estimates."""
+    return csv_bytes(_rows(ledger))
+
+
+def _rows(ledger: Ledger) -> Iterator[list[str]]:
     columns = chain.from_iterable(voucher.others for voucher in ledger.vouchers)
     others = dict.fromkeys(name for name, _ in columns)
-    text = io.StringIO(newline="")
-    writer = csv.writer(text, lineterminator="\n")
-    writer.writerow([*_COLUMNS, *map(_guarded, others)])
+    yield [*_COLUMNS, *map(_guarded, others)]
     blank = [""] * len(others)
     for name, heading in ledger.headings:
         cells = [_HEADING, "", name, "", "", heading, "", "", ""]
-        writer.writerow([*map(_guarded, cells), *blank])
+        yield [*map(_guarded, cells), *blank]
     for voucher in ledger.vouchers:
-        writer.writerow(_voucher_row(voucher, ledger.currency, others))
+        yield _voucher_row(voucher, ledger.currency, others)
     for estimate in ledger.to_go:
-        row = _row(_TO_GO, estimate, ("", ""), ledger.currency)
-        writer.writerow([*row, *blank])
-    return text.getvalue().encode()
+        yield [*_row(_TO_GO, estimate, ("", ""), ledger.currency), *blank]
 
 
 def _voucher_row(voucher: Voucher, currency: str, others: Mapping[str, None]) -> list[str]:

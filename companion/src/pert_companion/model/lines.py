@@ -1,6 +1,9 @@
-"""Makes any text safe to print on one line, or to write into XML."""
+"""Makes any text safe to print on one line or to write into XML, and rows into CSV."""
 
+import csv
+import io
 import re
+from collections.abc import Iterable, Sequence
 
 _NOT_IN_XML = re.compile("[^\t\n\r\x20-\ud7ff\ue000-\ufffd\U00010000-\U0010ffff]")
 
@@ -31,3 +34,10 @@ def xml_text(text: str) -> str:
 def not_in_xml(text: str) -> list[str]:
     """Returns the characters of a text that XML 1.0 cannot hold, such as `U+FFFF`, each once."""
     return [f"U+{ord(char):04X}" for char in dict.fromkeys(_NOT_IN_XML.findall(text))]
+
+
+def csv_bytes(rows: Iterable[Sequence[object]]) -> bytes:
+    """Returns rows as CSV in UTF-8; each ends with a line feed."""
+    text = io.StringIO(newline="")
+    csv.writer(text, lineterminator="\n").writerows(rows)
+    return text.getvalue().encode()

@@ -1,10 +1,9 @@
 """The rows of several projects as CSV, for a spreadsheet."""
 
-import csv
-import io
 from collections.abc import Sequence
 
 from pert_companion.model.figures import days_text, money_text
+from pert_companion.model.lines import csv_bytes
 from pert_companion.model.output import FileKind
 from pert_companion.page.words import shown
 from pert_companion.portfolio.row import Row
@@ -40,15 +39,11 @@ def table_csv(rows: Sequence[Row], stale_days: int) -> bytes:
     Amounts are in the currency of each deck, lengths in days.
     """
     fresh = freshness(rows, stale_days)
-    text = io.StringIO(newline="")
-    writer = csv.DictWriter(text, list(_cells(Row(""))) + ["alarms"], lineterminator="\n")
-    writer.writeheader()
+    lines = [[*_cells(Row("")), "alarms"]]
     for row in rows:
         found = "; ".join(alarm.value for alarm in alarms(row, fresh))
-        cells: Cells = _cells(row)
-        cells["alarms"] = found
-        writer.writerow({name: _text(value) for name, value in cells.items()})
-    return text.getvalue().encode()
+        lines.append([_text(value) for value in (*_cells(row).values(), found)])
+    return csv_bytes(lines)
 
 
 def _cells(row: Row) -> Cells:

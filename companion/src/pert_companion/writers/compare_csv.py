@@ -1,12 +1,11 @@
 """Writes the history of a project as CSV, one row for each figure or difference."""
 
-import csv
-import io
-from collections.abc import Iterator
+from collections.abc import Iterator, Sequence
 
 from pert_companion.analysis.compare import Comparison, CurveSide, History, StateFigures
 from pert_companion.analysis.earned_value import EarnedValue
-from pert_companion.model.figures import days_text, money_text, ratio_text
+from pert_companion.model.figures import days_text, money_cell, money_text, ratio_cell
+from pert_companion.model.lines import csv_bytes
 from pert_companion.writers.formula import plain_text
 
 HEADINGS = ("From", "To", "Part", "Code", "Name", "What", "Old", "New")
@@ -20,17 +19,17 @@ def to_csv(history: History) -> bytes:
 
     Finishes are the last day of work, durations days, amounts in the currency.
     """
-    text = io.StringIO(newline="")
-    writer = csv.writer(text, lineterminator="\n")
-    writer.writerow(HEADINGS)
+    return csv_bytes([HEADINGS, *_cells(history)])
+
+
+def _cells(history: History) -> Iterator[Sequence[str]]:
     for state in history.states:
         for what, value in _figures(state, history.money_scale):
-            writer.writerow(("", plain_text(state.name), "state", "", "", what, "", value))
+            yield "", plain_text(state.name), "state", "", "", what, "", value
     for comparison in history.comparisons:
         names = plain_text(comparison.old.name), plain_text(comparison.new.name)
         for part, code, name, what, old, new in _rows(comparison, history.money_scale):
-            writer.writerow((*names, part, code, plain_text(name), what, _cell(old), _cell(new)))
-    return text.getvalue().encode()
+            yield *names, part, code, plain_text(name), what, _cell(old), _cell(new)
 
 
 def _cell(text: str) -> str:
@@ -46,8 +45,7 @@ def _figures(state: StateFigures, scale: int) -> Iterator[tuple[str, str]]:
     yield "days left", days_text(state.left_minutes, state.day_minutes)
     if state.directed is not None:
         yield "directed end", str(state.directed)
-        price = state.recovery_cost
-        yield "cost of keeping it", "" if price is None else money_text(price, scale)
+        yield "cost of keeping it", money_cell(state.recovery_cost, scale)
     yield "budget", money_text(state.budget, scale)
     yield "spent", money_text(state.actual, scale)
     yield "to go", money_text(state.to_go, scale)
@@ -67,9 +65,8 @@ def _earned(earned: EarnedValue, scale: int, by: str) -> Iterator[tuple[str, str
     yield f"actual cost{by}", money_text(total.ac, scale)
     ratios = (("SPI", total.spi), ("CPI", total.cpi), ("TCPI", total.tcpi))
     for name, ratio in (*ratios, ("SPI(t)", earned.spi_of_time)):
-        yield f"{name}{by}", "" if ratio is None else ratio_text(ratio)
-    eac = total.eac_by_cpi
-    yield f"EAC{by}", "" if eac is None else money_text(eac, scale)
+        yield f"{name}{by}", ratio_cell(ratio)
+    yield f"EAC{by}", money_cell(total.eac_by_cpi, scale)
 
 
 def _rows(comparison: Comparison, scale: int) -> Iterator[Row]:
@@ -112,6 +109,4 @@ def _cost(side: CurveSide | None, scale: int) -> str:
 
 
 def _next_day(side: CurveSide | None, scale: int) -> str:
-    if side is None or side.next_day_cost is None:
-        return ""
-    return money_text(side.next_day_cost, scale)
+    return "" if side is None else money_cell(side.next_day_cost, scale)

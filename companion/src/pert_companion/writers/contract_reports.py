@@ -14,12 +14,20 @@ from decimal import Decimal
 
 from openpyxl import Workbook
 
-from pert_companion.analysis.earned_value import Figures, Scope
+from pert_companion.analysis.earned_value import Scope
 from pert_companion.analysis.performance import MEASURED, Line, Performance
 from pert_companion.analysis.time_phased import Month, end_of_month
 from pert_companion.analysis.variances import Variance
 from pert_companion.model.registers import BudgetChange
-from pert_companion.writers.sheets import CellValue, in_currency, new_sheet, put_row
+from pert_companion.writers.earned_headings import VARIANCES
+from pert_companion.writers.performance_xlsx import performance_cells
+from pert_companion.writers.sheets import (
+    CellValue,
+    amount_cells,
+    in_currency,
+    new_sheet,
+    put_row,
+)
 
 FORECAST_MONTHS = 6
 _ONE_DAY = timedelta(days=1)
@@ -79,17 +87,9 @@ def _format_1(book: Workbook, report: ContractReport) -> None:
 
 
 def _cells(line: Line, scale: int) -> Iterator[CellValue]:
-    yield from _performance_cells(line.period, scale)
-    yield from _performance_cells(line.figures, scale)
-    yield from (in_currency(line.figures.bac, scale), in_currency(line.latest, scale))
-    yield in_currency(line.variance_at_completion, scale)
-
-
-def _performance_cells(figures: Figures | None, scale: int) -> list[CellValue]:
-    if figures is None:
-        return [None] * len(_PARTS)
-    amounts = (figures.pv, figures.ev, figures.ac, figures.sv, figures.cv)
-    return [in_currency(amount, scale) for amount in amounts]
+    yield from performance_cells(line.period, scale)
+    yield from performance_cells(line.figures, scale)
+    yield from amount_cells((line.figures.bac, line.latest, line.variance_at_completion), scale)
 
 
 def _baseline_rows(report: ContractReport) -> Iterator[Sequence[CellValue]]:
@@ -132,7 +132,7 @@ def _format_3(book: Workbook, report: ContractReport) -> None:
     outside.update(each.code for each in earned.packages if each.scope is Scope.RESERVE)
     changed = sum((_signed(change, outside) for change in report.changes), Decimal(0))
     put_row(sheet, 2, ("Changes of the baseline in the period", *blank, changed))
-    cells = (in_currency(amount, scale) for amount in amounts)
+    cells = amount_cells(amounts, scale)
     put_row(sheet, 3, ("Baseline at the end of the period", *cells))
     for row, (name, scope) in enumerate(_APART, 4):
         put_row(sheet, row, (name, *blank, in_currency(earned.of(scope).bac, scale)))
@@ -176,17 +176,7 @@ def _planned_at(totals: Mapping[date, int], close: date, otherwise: int) -> int:
 
 def _format_5(book: Workbook, report: ContractReport) -> None:
     """Adds a row for each variance over the threshold, with its explanation or a blank for it."""
-    headings = (
-        "Item",
-        "Title",
-        "Manager",
-        "Figure",
-        "Amount",
-        "Percent",
-        "Cause",
-        "Action",
-    )
-    sheet = new_sheet(book, "Format 5", headings)
+    sheet = new_sheet(book, "Format 5", ("Item", *VARIANCES[1:]))
     for row, each in enumerate(report.variances, 2):
         percent = None if each.percent is None else Decimal(round(each.percent * 10)) / 10
         said = each.explanation

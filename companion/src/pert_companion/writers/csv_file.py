@@ -1,10 +1,8 @@
 """Writes a schedule as CSV, one row for each real task, for a spreadsheet or a script."""
 
-import csv
-import io
-
 from pert_companion.analysis.schedule import Schedule, ScheduledTask
 from pert_companion.model.figures import days_text, money_text
+from pert_companion.model.lines import csv_bytes
 from pert_companion.model.output import FileKind
 from pert_companion.writers.formula import plain_text
 
@@ -37,12 +35,7 @@ SCHEDULE_TABLE = FileKind("a table of a schedule", "Row,Code,Id,Outline,")
 
 def to_csv(schedule: Schedule) -> bytes:
     """Returns the schedule as CSV in UTF-8. Dates are days of work, the finish the last of them."""
-    text = io.StringIO(newline="")
-    writer = csv.writer(text, lineterminator="\n")
-    writer.writerow(HEADINGS)
-    for task in schedule.tasks:
-        writer.writerow(_cells(task, schedule))
-    return text.getvalue().encode()
+    return csv_bytes([HEADINGS, *(_cells(task, schedule) for task in schedule.tasks)])
 
 
 def _cells(task: ScheduledTask, schedule: Schedule) -> list[str]:

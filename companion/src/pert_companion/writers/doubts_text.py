@@ -1,11 +1,10 @@
 """Writes what of a state is hard to believe: text and CSV."""
 
-import csv
-import io
 from collections.abc import Sequence
 
 from pert_companion.analysis.plausibility import Doubt
-from pert_companion.model.figures import NOTHING, money_text
+from pert_companion.model.figures import NOTHING, money_cell
+from pert_companion.model.lines import csv_bytes
 from pert_companion.writers.aligned import aligned
 from pert_companion.writers.formula import plain_text
 
@@ -33,12 +32,10 @@ def _row(doubt: Doubt) -> tuple[str, ...]:
 
 def to_csv(doubts: Sequence[Doubt], scale: int) -> bytes:
     """Returns a row for each doubt as CSV in UTF-8; amounts are in the currency."""
-    text = io.StringIO(newline="")
-    writer = csv.writer(text, lineterminator="\n")
-    writer.writerow(CSV_HEADINGS)
-    for doubt in doubts:
-        row = "" if doubt.row is None else str(doubt.row)
-        amount = "" if doubt.amount is None else money_text(doubt.amount, scale)
-        texts = (doubt.code, row, doubt.name, doubt.figure, doubt.effect)
-        writer.writerow((doubt.kind.value, *map(plain_text, texts), amount))
-    return text.getvalue().encode()
+    return csv_bytes([CSV_HEADINGS, *(_csv_cells(doubt, scale) for doubt in doubts)])
+
+
+def _csv_cells(doubt: Doubt, scale: int) -> tuple[str, ...]:
+    row = "" if doubt.row is None else str(doubt.row)
+    texts = (doubt.code, row, doubt.name, doubt.figure, doubt.effect)
+    return doubt.kind.value, *map(plain_text, texts), money_cell(doubt.amount, scale)

@@ -1,39 +1,19 @@
 """Writes earned value by package, each ratio next to the numbers that it divides."""
 
-import csv
-import io
 from collections.abc import Iterator
-from fractions import Fraction
 
 from pert_companion.analysis.earned_value import EarnedValue, Package, Scope
-from pert_companion.model.figures import money_text, ratio_text
+from pert_companion.model.figures import money_cell, money_text, ratio_cell, ratio_text
+from pert_companion.model.lines import csv_bytes
 from pert_companion.writers.aligned import aligned
+from pert_companion.writers.earned_headings import AMOUNTS, RATIOS
 from pert_companion.writers.formula import plain_text
 
 HEADINGS = ("PACKAGE", "BAC", "PV", "EV", "AC", "SPI", "CPI", "TITLE")
 CSV_HEADINGS = (
-    (
-        "Package",
-        "Title",
-        "Scope",
-        "Technique",
-        "Manager",
-        "BAC",
-        "PV",
-        "EV",
-        "AC",
-        "SV",
-        "CV",
-    )
-    + (
-        "SPI",
-        "CPI",
-        "EAC",
-        "EAC as planned",
-        "EAC by CPI and SPI",
-        "VAC",
-    )
-    + ("TCPI", "SPI(t)")
+    *("Package", "Title", "Scope", "Technique", "Manager"),
+    *(*AMOUNTS, *RATIOS),
+    *("EAC", "EAC as planned", "EAC by CPI and SPI", "VAC", "TCPI", "SPI(t)"),
 )
 
 
@@ -131,14 +111,10 @@ def _ratios(earned: EarnedValue, day_minutes: int, scale: int) -> Iterator[str]:
 
 def to_csv(earned: EarnedValue, scale: int = 1) -> bytes:
     """Returns a row for each package and the total as CSV in UTF-8; what is unknown is empty."""
-    text = io.StringIO(newline="")
-    writer = csv.writer(text, lineterminator="\n")
-    writer.writerow(CSV_HEADINGS)
-    for package in earned.packages:
-        writer.writerow([*_csv_cells(package, scale), ""])
+    rows = [[*_csv_cells(package, scale), ""] for package in earned.packages]
     total = Package("TOTAL", "", earned.total)
-    writer.writerow([*_csv_cells(total, scale), _ratio(earned.spi_of_time)])
-    return text.getvalue().encode()
+    rows.append([*_csv_cells(total, scale), ratio_cell(earned.spi_of_time)])
+    return csv_bytes([CSV_HEADINGS, *rows])
 
 
 def _csv_cells(package: Package, scale: int) -> Iterator[str]:
@@ -152,25 +128,14 @@ def _csv_cells(package: Package, scale: int) -> Iterator[str]:
     if package.scope is Scope.UNMEASURED:
         yield from ("", "", "", money_text(figures.ac, scale), *[""] * 9)
         return
-    for amount in (
-        figures.bac,
-        figures.pv,
-        figures.ev,
-        figures.ac,
-        figures.sv,
-        figures.cv,
-    ):
+    for amount in figures.amounts():
         yield money_text(amount, scale)
-    yield from (_ratio(figures.spi), _ratio(figures.cpi))
+    yield from (ratio_cell(figures.spi), ratio_cell(figures.cpi))
     for forecast in (
         figures.eac_by_cpi,
         figures.eac_by_plan,
         figures.eac_by_both,
         figures.vac,
     ):
-        yield "" if forecast is None else money_text(forecast, scale)
-    yield _ratio(figures.tcpi)
-
-
-def _ratio(ratio: Fraction | None) -> str:
-    return "" if ratio is None else ratio_text(ratio)
+        yield money_cell(forecast, scale)
+    yield ratio_cell(figures.tcpi)

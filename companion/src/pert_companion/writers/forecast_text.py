@@ -1,12 +1,11 @@
 """Writes a forecast as a table for people, and as CSV."""
 
-import csv
-import io
 from collections.abc import Sequence
 from datetime import date
 
 from pert_companion.analysis.forecast import Forecast, ForecastTask
 from pert_companion.model.figures import NOTHING, days_text, signed_days
+from pert_companion.model.lines import csv_bytes
 from pert_companion.writers.aligned import aligned
 from pert_companion.writers.formula import plain_text
 
@@ -115,12 +114,8 @@ def _day(day: date | None) -> str:
 
 def to_csv(forecast: Forecast, tasks: Sequence[ForecastTask]) -> bytes:
     """Returns a row for each of the tasks as CSV in UTF-8; finishes are the last day of work."""
-    text = io.StringIO(newline="")
-    writer = csv.writer(text, lineterminator="\n")
-    writer.writerow(CSV_HEADINGS)
-    for task in tasks:
-        writer.writerow(_csv_cells(task, forecast.day_minutes))
-    return text.getvalue().encode()
+    rows = [_csv_cells(task, forecast.day_minutes) for task in tasks]
+    return csv_bytes([CSV_HEADINGS, *rows])
 
 
 def _csv_cells(task: ForecastTask, day_minutes: int) -> list[str]:

@@ -1,12 +1,11 @@
 """Writes money over time: running sums by day, as a table or CSV."""
 
-import csv
-import io
 from collections.abc import Iterator, Sequence
 from datetime import date
 
 from pert_companion.analysis.money import MoneyOverTime, MoneyPoint
 from pert_companion.model.figures import NOTHING, money_text
+from pert_companion.model.lines import csv_bytes
 from pert_companion.writers.aligned import aligned
 
 HEADINGS = ("DAY", "PLANNED", "SPENT", "FORECAST")
@@ -25,12 +24,9 @@ def to_text(money: MoneyOverTime, heading: str) -> str:
 
 def to_csv(money: MoneyOverTime) -> bytes:
     """Returns a row for each day on which a line has a point as CSV, empty where it has none."""
-    text = io.StringIO(newline="")
-    writer = csv.writer(text, lineterminator="\n")
-    writer.writerow([heading.capitalize() for heading in HEADINGS])
-    for day, amounts in _rows(money):
-        writer.writerow((str(day), *amounts))
-    return text.getvalue().encode()
+    headings = [heading.capitalize() for heading in HEADINGS]
+    rows = [(str(day), *amounts) for day, amounts in _rows(money)]
+    return csv_bytes([headings, *rows])
 
 
 def _rows(money: MoneyOverTime) -> Iterator[tuple[date, list[str]]]:

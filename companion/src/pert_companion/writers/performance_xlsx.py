@@ -20,28 +20,16 @@ from pert_companion.analysis.earned_value import Figures
 from pert_companion.analysis.performance import Line, Performance
 from pert_companion.analysis.time_phased import Month
 from pert_companion.model.registers import BudgetChange
-from pert_companion.writers.sheets import CellValue, in_currency, new_sheet, put_row
+from pert_companion.writers import earned_headings as headings
+from pert_companion.writers.sheets import CellValue, amount_cells, new_sheet, put_row
 
 HEADINGS = (
-    (
-        "Code",
-        "Title",
-        "Level",
-        "Manager",
-        "Scope",
-        "BAC",
-        "PV",
-        "EV",
-        "AC",
-        "SV",
-        "CV",
-        "SPI",
-    )
-    + ("CPI", "EAC", "VAC", "TCPI", "Latest estimate", "BAC less latest")
-    + ("Period PV", "Period EV", "Period AC", "Period SV", "Period CV")
-    + ("Earned schedule", "Actual time", "SV(t)", "SPI(t)")
+    *(*headings.LINE, *headings.FIGURES),
+    *("Latest estimate", "BAC less latest"),
+    *(f"Period {name}" for name in headings.PERFORMANCE),
+    *headings.TIMES,
 )
-"""The headings of a line; times are working days, and of the project and of totals alone."""
+"""The headings of a line."""
 _CHART_COLUMNS = (7, 8, 9)
 """PV, EV and AC among the columns, from 1."""
 
@@ -86,39 +74,23 @@ def line_cells(line: Line, scale: int) -> Iterator[CellValue]:
     """Yields the cells of a line, in the order of the headings."""
     figures = line.figures
     yield from (line.code, line.title, line.level or None, line.manager, line.scope)
-    for amount in (
-        figures.bac,
-        figures.pv,
-        figures.ev,
-        figures.ac,
-        figures.sv,
-        figures.cv,
-    ):
-        yield in_currency(amount, scale)
+    yield from amount_cells(figures.amounts(), scale)
     yield from (_ratio(figures.spi), _ratio(figures.cpi))
-    yield from (
-        in_currency(figures.eac_by_cpi, scale),
-        in_currency(figures.vac, scale),
-        _ratio(figures.tcpi),
-    )
-    yield from (
-        in_currency(line.latest, scale),
-        in_currency(line.variance_at_completion, scale),
-    )
-    yield from _period_cells(line.period, scale)
+    yield from amount_cells((figures.eac_by_cpi, figures.vac), scale)
+    yield _ratio(figures.tcpi)
+    yield from amount_cells((line.latest, line.variance_at_completion), scale)
+    yield from performance_cells(line.period, scale)
     if line.time is not None:
         time = line.time
         for ratio in (time.earned, time.actual, time.variance, time.spi):
             yield _ratio(ratio)
 
 
-def _period_cells(period: Figures | None, scale: int) -> Iterator[CellValue]:
-    """Yields the figures since the state before; None without one."""
-    if period is None:
-        yield from [None] * 5
-        return
-    for amount in (period.pv, period.ev, period.ac, period.sv, period.cv):
-        yield in_currency(amount, scale)
+def performance_cells(figures: Figures | None, scale: int) -> list[CellValue]:
+    """Returns PV, EV, AC, SV and CV in the currency; all None without figures."""
+    if figures is None:
+        return [None] * len(headings.PERFORMANCE)
+    return amount_cells(figures.performance(), scale)
 
 
 def _lines_sheet(book: Workbook, title: str, lines: Iterable[Line], scale: int) -> Worksheet:
@@ -149,19 +121,16 @@ def _show_axes(chart: BarChart | LineChart) -> None:
 
 def _months_sheet(book: Workbook, months: Sequence[Month], scale: int) -> None:
     """Adds a row for each account and month, and the totals that the chart shows."""
-    headings = ("Account", "Close", "PV", "EV", "AC", "Reported PV", "Reported EV")
-    sheet = new_sheet(book, "Time-phased", headings)
+    sheet = new_sheet(book, "Time-phased", headings.MONTHS)
     row = 2
     for month in months:
         listed = (month.pv, month.ev, month.ac, month.reported_pv, month.reported_ev)
-        amounts = (in_currency(amount, scale) for amount in listed)
-        put_row(sheet, row, (month.account, month.close, *amounts))
+        put_row(sheet, row, (month.account, month.close, *amount_cells(listed, scale)))
         row += 1
     totals = list(_totals(months))
     first = row
     for close, pv, ev, ac in totals:
-        amounts = (in_currency(amount, scale) for amount in (pv, ev, ac))
-        put_row(sheet, row, ("TOTAL", close, *amounts))
+        put_row(sheet, row, ("TOTAL", close, *amount_cells((pv, ev, ac), scale)))
         row += 1
     if totals:
         _add_lines(sheet, first, row - 1)
@@ -198,8 +167,7 @@ def _add_lines(sheet: Worksheet, first: int, last: int) -> None:
 
 
 def _changes_sheet(book: Workbook, changes: Iterable[BudgetChange]) -> None:
-    headings = ("Date", "From", "To", "Amount", "Reason", "Approved by")
-    sheet = new_sheet(book, "Changes", headings)
+    sheet = new_sheet(book, "Changes", ("Date", "From", "To", "Amount", "Reason", "Approved by"))
     for row, change in enumerate(changes, 2):
         places = (change.source or "outside", change.target or "outside")
         cells = (change.day, *places, change.amount, change.reason, change.approved)

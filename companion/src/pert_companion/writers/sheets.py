@@ -40,6 +40,11 @@ def in_currency(amount: int | Fraction | None, scale: int) -> Decimal | int | No
     return int(exact) if exact.denominator == 1 else Decimal(exact.numerator) / exact.denominator
 
 
+def amount_cells(amounts: Iterable[int | Fraction | None], scale: int) -> list[CellValue]:
+    """Returns amounts of the deck in the currency."""
+    return [in_currency(amount, scale) for amount in amounts]
+
+
 def new_sheet(book: Workbook, title: str, headings: Sequence[str]) -> Worksheet:
     """Returns a new sheet with a frozen row of headings."""
     sheet = book.create_sheet(title)
