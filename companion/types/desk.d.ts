@@ -28,6 +28,7 @@
 //   GET  /api/projects/{project}/options      Options: certain lengths with their chances
 //   GET  /api/projects/{project}/version      VersionAnswer: ask every few seconds
 //   POST /api/projects/{project}/edits        EditRequest -> EditAnswer
+//   POST /api/projects/{project}/tasks        AddTask -> EditAnswer
 //   POST /api/projects/{project}/undo         Versioned -> EditAnswer
 //   POST /api/projects/{project}/redo         Versioned -> EditAnswer
 //   GET  /api/projects/{project}/changes      Changes since the project was opened
@@ -361,8 +362,8 @@ interface WorkRow {
     resources: string[];
     /** The fields that can be edited here. */
     editable: Field[];
-    /** Why others cannot, or empty. */
-    fixed: string;
+    /** Why others cannot. */
+    fixed: Partial<Record<Field, string>>;
 }
 
 interface Link {
@@ -429,9 +430,17 @@ interface EditRequest extends Versioned {
     edits: Edit[];
 }
 
+interface AddTask extends Versioned {
+    name: string;
+    /** The code of the task that it follows in the table: it is in the same group and package. */
+    after: string;
+}
+
 type Edit =
     /** A figure of a task; `value` as people write it, an empty text takes it away. */
     | { kind: "task"; task: string; field: Field; value: string }
+    /** A task is removed with its links. */
+    | { kind: "task"; task: string; field: "remove"; value: "" }
     /** The data date: the close of this day. */
     | { kind: "data-date"; day: Day }
     /** The price of time; an empty text is none. */
@@ -448,8 +457,9 @@ interface EditAnswer {
     changes: Change[];
     /** The rows that changed, complete. */
     rows: WorkRow[];
-    /** Null if terms, data date or links changed: ask for the project again. */
-    curve: Curve | null;
+    /** Whether there are other tasks than before, or in another order: ask for the project again. */
+    rows_are_others: boolean;
+    curve: Curve;
     /** At the chosen length, or at the nearest that there still is. */
     length: Length;
     /** Ask for the schedule of this version to redraw dates, floats and bars. */

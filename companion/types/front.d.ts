@@ -28,8 +28,10 @@ interface GridWishes {
     /** What is said at a cell, such as why an edit was refused. */
     note?: (row: any, key: string) => string;
     edit?: (row: any, column: GridColumn, text: string) => void;
+    /** Why a cell cannot be edited, or an empty text. */
+    why?: (row: any, key: string) => string;
     /** What Enter does at a cell that cannot be edited. */
-    open?: (row: any) => void;
+    open?: (row: any, column: GridColumn) => void;
 }
 
 /** A row of a table of tasks (rows.js). */

@@ -21,9 +21,10 @@ def folder_page(browser: Browser, desk: DeskProcess, width: int = 1280, height: 
 
 
 def project_page(page: Page, name: str) -> Page:
-    """Opens a project from the page of the folder, in the same tab."""
-    rows = "[...document.querySelectorAll('#projects tbody a')]"
-    path = page.run(f"{rows}.find((link) => link.textContent === '{name}').pathname")
+    """Opens the project of a deck from the page of the folder, in the same tab."""
+    heads = "[...document.querySelectorAll('#projects tbody th')]"
+    has_name = f"(head) => head.querySelector('small').textContent.startsWith('{name}.csv')"
+    path = page.run(f"{heads}.find({has_name}).querySelector('a').pathname")
     go(page, path)
     return page
 

@@ -101,6 +101,10 @@ class Asked:
         found: str = next(row["id"] for row in rows if row["file"] == file)
         return found
 
+    def version(self, project: str) -> int:
+        """Returns the version of a project."""
+        return int(self.get(f"projects/{project}/version")["version"])
+
     def edit(self, project: str, version: int, *edits: Json, status: int = 200) -> Json:
         """Returns the answer to edits."""
         return self.post(

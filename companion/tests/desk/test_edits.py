@@ -105,7 +105,7 @@ def test_links_are_after_cards() -> None:
     """The tasks that are named come before; the others do not any more."""
     deck = parse_deck(edited(TASKS, "DIG.links=CLEAR, SURVEY"), "deck.csv")
     assert sorted(each.before for each in deck.afters if each.task == "DIG") == ["CLEAR", "SURVEY"]
-    with pytest.raises(InputError, match="no task"):
+    with pytest.raises(InputError, match="without a side file has links from finish to start"):
         edited(TASKS, "DIG.links=CLEARSS+2d")
 
 

@@ -39,6 +39,10 @@ def test_the_folder_has_its_projects_and_planners_files(desk: DeskThread, tmp_pa
     assert [row["file"] for row in found["projects"]] == ["house.csv", "tasks.csv"]
     assert [file["name"] for file in found["files"]] == ["garden.xml"]
     assert all(row["row"] is None for row in found["projects"])
+    assert [row["title"] for row in found["projects"]] == [
+        "House, two floors",
+        "A house in 22 tasks",
+    ]
     assert found["sums"] is None
     row = desk.get(f"projects/{desk.project('house.csv')}/row")["row"]
     assert row["fault"] == "" and len(row["cells"]) == len(row["heads"]) - 1
@@ -131,6 +135,63 @@ def test_an_edit_that_makes_no_sense_is_refused(
     assert why in error["message"], error
     assert (error["task"], error["field"]) == (task, field)
     assert desk.get(f"projects/{project}/version")["version"] == 1
+
+
+def test_tasks_are_added_linked_and_removed(desk: DeskThread, tmp_path: Path) -> None:
+    """Each is a step with its command, which does the same; undo takes it back."""
+    project = desk.imported(GARDEN)
+    before = (tmp_path / "garden.csv").read_bytes()
+    added = desk.post(
+        f"projects/{project}/tasks", {"version": 1, "name": "Lay the drain", "after": "T3"}
+    )
+    assert added["rows_are_others"]
+    (new,) = (each for each in added["changes"] if each["after"] == "new")
+    code = new["task"]
+    assert code == "Lay-drain"
+    linked = desk.edit(project, 2, task_edit(code, "links", "3SS+1d"))
+    assert not linked["rows_are_others"]
+    rows = rows_of(desk.get(f"projects/{project}"))
+    assert list(rows)[:3] == ["T2", "T3", code]
+    assert (rows[code]["name"], rows[code]["normal"]) == ("Lay the drain", "1")
+    assert rows[code]["links_text"] == "T3SS+1d" and rows[code]["editable"][0] == "name"
+    desk.edit(project, 3, task_edit("T5", "remove", ""))
+    steps = desk.get(f"projects/{project}/history")["steps"]
+    assert [step["text"] for step in steps] == [
+        f"{code}.new=T3, {code}.name=Lay the drain",
+        f"{code}.links=3SS+1d",
+        "T5.remove=",
+    ]
+    for _ in steps:
+        desk.post(f"projects/{project}/undo", {"version": desk.version(project)})
+    desk.post(f"projects/{project}/save", {"version": desk.version(project)})
+    assert (tmp_path / "garden.csv").read_bytes() == before
+
+
+def test_what_is_fixed_is_not_offered_and_says_why(desk: DeskThread, tmp_path: Path) -> None:
+    """A cost that several accounts share is in the deck; percent needs a side file."""
+    deck = tmp_path / "tasks.csv"
+    text = deck.read_text()
+    (account,) = (line for line in text.splitlines() if line.startswith("ACCT,GROUND,"))
+    fields = account.split(",")
+    parts = [fields[:3] + ["100", ""], ["ACCT", "OTHER", fields[2], str(int(fields[3]) - 100), ""]]
+    deck.write_text(text.replace(account, "\n".join(map(",".join, parts))))
+    rows = rows_of(desk.get(f"projects/{desk.project('tasks.csv')}"))
+    assert "2 accounts" in rows["DIG"]["fixed"]["cost"]
+    assert "side file" in rows["DIG"]["fixed"]["percent"]
+    assert not {"cost", "percent"} & set(rows["DIG"]["editable"])
+    assert {"normal", "links", "actual_start"} <= set(rows["DIG"]["editable"])
+
+
+def test_the_data_date_of_a_change_is_the_evening(desk: DeskThread) -> None:
+    """As everywhere at the desk; the deck has the morning after it."""
+    project = desk.imported(GARDEN)
+    answer = desk.edit(project, 1, {"kind": "data-date", "day": "2026-04-10"})
+    (change,) = (each for each in answer["changes"] if each["field"] == "data date")
+    assert (change["before"], change["after"]) == ("", "2026-04-10")
+    deck = desk.imported(EXAMPLES / "sheet.csv")
+    answer = desk.edit(deck, 1, {"kind": "data-date", "day": "2024-04-10"})
+    (change,) = (each for each in answer["changes"] if each["field"] == "data date")
+    assert change["after"] == "2024-04-10"
 
 
 def test_undo_and_redo_have_no_limit(desk: DeskThread) -> None:

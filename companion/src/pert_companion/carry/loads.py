@@ -115,7 +115,12 @@ def _scale_of(resource: Resource, quantities: Sequence[Decimal]) -> _Scale:
 
 def shares(node: Node, network: Network, amount: int) -> list[tuple[str, int]]:
     """Returns an amount shared among a task's parts by their durations; the first has the rest."""
-    parts = network.of[node].parts
-    later = [amount * part.normal // (node.normal or 1) for part in parts[1:]]
+    return shared([(part.code, part.normal) for part in network.of[node].parts], amount)
+
+
+def shared(parts: Sequence[tuple[str, int]], amount: int) -> list[tuple[str, int]]:
+    """Returns an amount shared among parts, each with its units, by these; the first has the rest."""
+    total = sum(units for _, units in parts) or 1
+    later = [amount * units // total for _, units in parts[1:]]
     found = [amount - sum(later), *later]
-    return [(part.code, share) for part, share in zip(parts, found)]
+    return [(code, share) for (code, _), share in zip(parts, found)]

@@ -24,12 +24,16 @@ def in_order(nodes: Sequence[Node]) -> list[Node]:
         order = list(sorter.static_order())
     except CycleError as error:
         circle: list[Node] = error.args[1][:-1]
-        names = ", ".join(f"{node.name!r} ({node.where})" for node in circle[:MAX_NAMES])
+        names = ", ".join(map(_named, circle[:MAX_NAMES]))
         more = f" and {len(circle) - MAX_NAMES} more" if len(circle) > MAX_NAMES else ""
         raise InputError(f"these tasks are linked in a circle: {names}{more}") from None
     for index, node in enumerate(order):
         node.index = index
     return order
+
+
+def _named(node: Node) -> str:
+    return f"{node.name!r} ({node.where})" if node.where else repr(node.name)
 
 
 def find_early_dates(order: Sequence[Node], calendar: Calendar, origin: int) -> None:

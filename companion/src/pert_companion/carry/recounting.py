@@ -33,9 +33,19 @@ def recounted(deck: Deck, side: SideFile, dates: Recount) -> tuple[Deck, SideFil
     it may.
     """
     try:
-        return _Maker(deck, side, dates).made()
+        return made_again(deck, side, dates)
     except InputError:
         return None
+
+
+def made_again(deck: Deck, side: SideFile, dates: Recount) -> tuple[Deck, SideFile]:
+    """Returns a deck of a plan with a logic, and its side file, made of that logic again.
+
+    The deck has no status, and the loads of the parts that it still has. Raises `InputError` that
+    says why if a link has no equivalent in units of these dates, tasks are linked in a circle, or
+    the deck would be more than it may.
+    """
+    return _Maker(deck, side, dates).made()
 
 
 class _Maker:
@@ -49,8 +59,8 @@ class _Maker:
         self.nodes: dict[str, Node] = {}
         self.codes = Codes()
 
-    def made(self) -> tuple[Deck, SideFile] | None:
-        """Returns the deck and its side file, or None if there is none."""
+    def made(self) -> tuple[Deck, SideFile]:
+        """Returns the deck and its side file."""
         for task in self.side.tasks:
             self.nodes[task.code] = self._node(task)
         self._tie()
@@ -58,8 +68,9 @@ class _Maker:
         for place, node in enumerate(nodes):
             node.place = place
             self.codes.take(node.code)
-        if resolve(in_order(nodes)):
-            return None
+        losses = resolve(in_order(nodes))
+        if losses:
+            raise InputError(losses[0].why)
         calendar, unit = self.side.calendar, self.side.unit_minutes
         network = Network(self.codes, unit_name(unit, calendar), unit, calendar)
         network.build(nodes, self.side.start)

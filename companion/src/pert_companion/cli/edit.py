@@ -1,4 +1,4 @@
-"""`pert-edit`: changes figures of a deck and its side file together."""
+"""`pert-edit`: changes tasks, links and figures of a deck and its side file together."""
 
 import argparse
 from pathlib import Path
@@ -20,13 +20,16 @@ NAME = "pert-edit"
 EXAMPLES = """\
   pert-edit wing.csv DIG.normal=4 -o wing.csv --overwrite      4 days instead of 5
   pert-edit wing.csv DIG.shortest=2 DIG.price=350 -o new.csv   it can be shortened to 2 days
-  pert-edit wing.csv POUR.links=DIG,FORM -o new.csv            it comes after these two
+  pert-edit wing.csv POUR.links='DIG, 12SS+2d' -o new.csv      it comes after these two
+  pert-edit wing.csv FORM.new=DIG FORM.normal=3 -o new.csv     a new task after DIG in the table
+  pert-edit wing.csv FORM.remove= -o new.csv                   the task and its links go
   pert-edit wing.csv data-date=2026-04-30 DIG.actual-start=2026-04-02 DIG.percent=50 -o april.csv
   pert-edit wing.csv overhead=4000 contract=2026-08-11 penalty=2500 -o new.csv
   pert-edit wing.csv DIG.normal=4                              what would change
 
 Fields of a task, durations in days and the price that of a day less: name, normal, shortest, price,
-cost, optimistic, likely, pessimistic, links, percent, actual-start, actual-finish, remaining.
+cost, optimistic, likely, pessimistic, links, new, remove, percent, actual-start, actual-finish,
+remaining. Links name tasks by code or row, with a kind and a lag in days: DIG, 12SS+2d, DIGFF-1d.
 Fields of the project: data-date, overhead, bonus, penalty (of a working day), contract.
 """
 
@@ -35,8 +38,8 @@ def parser() -> CommandParser:
     """Returns the parser of the command's words."""
     command = CommandParser(
         NAME,
-        "Changes figures of a deck and its side file, so that they fit each other. The desk"
-        " (pert-desk) shows such a command for each of its steps.",
+        "Changes tasks, links and figures of a deck and its side file, so that they fit each other."
+        " The desk (pert-desk) shows such a command for each of its steps.",
         EXAMPLES,
     )
     command.add_argument("deck", type=Path, help="the deck, with its side file and ledger")

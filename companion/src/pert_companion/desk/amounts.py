@@ -42,7 +42,7 @@ class Amounts:
 
     def price(self, slope: int) -> str:
         """Returns what a day less costs, from what a unit less costs."""
-        return _decimal(Fraction(slope) * self.day_units / self.money_scale)
+        return decimal_text(Fraction(slope) * self.day_units / self.money_scale)
 
     def read_units(self, text: str) -> int:
         """Returns the units of a number of days. Raises `InputError` if there are none."""
@@ -68,7 +68,7 @@ class Amounts:
         wanted = read_number(text, "money")
         exact = Fraction(wanted) * self.money_scale / self.day_units
         near = round(exact)
-        if near == exact or self.price(near) == _decimal(Fraction(wanted)):
+        if near == exact or self.price(near) == decimal_text(Fraction(wanted)):
             return near
         below = int(exact)
         raise InputError(
@@ -115,7 +115,7 @@ def read_day(text: str) -> date | None:
     return found
 
 
-def _decimal(number: Fraction) -> str:
+def decimal_text(number: Fraction) -> str:
     """Returns a number with at most two decimals."""
     hundredths = round(number * 100)
     whole, part = divmod(abs(hundredths), 100)

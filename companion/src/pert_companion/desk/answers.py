@@ -1,7 +1,6 @@
 """The answers of a project to requests: complete, after an edit, about what changed."""
 
 from collections.abc import Iterable
-from datetime import date, timedelta
 from time import monotonic
 
 from pert_companion.desk.amounts import amounts_of
@@ -13,6 +12,7 @@ from pert_companion.desk.views import (
     Json,
     Rows,
     curve_json,
+    data_date,
     day_json,
     length_json,
     nearest_length,
@@ -63,15 +63,6 @@ def marks_json(project: OpenProject) -> dict[str, object]:
     }
 
 
-def data_date(books: Books) -> date | None:
-    """Returns the evening that progress is as of; None if there is none."""
-    if books.side.data_date is not None:
-        return books.side.data_date
-    if books.deck.as_of is None or books.deck.as_of <= books.deck.project.start_date:
-        return None
-    return books.deck.as_of - timedelta(days=1)
-
-
 def _source(project: OpenProject) -> Json | None:
     """Returns the planner's file that the project came from."""
     side = project.books.side
@@ -101,11 +92,16 @@ def edit_answer(project: OpenProject, before: Books, units: int | None, begun: f
         **marks_json(project),
         "changes": changes_list(changes_between(before, after)),
         "rows": changed,
+        "rows_are_others": _codes(before) != _codes(after),
         "curve": curve_json(state),
         "length": length_json(state, length, project.version),
         "schedule_is_old": True,
         "took": round((monotonic() - begun) * 1000),
     }
+
+
+def _codes(books: Books) -> list[str]:
+    return [task.code for task in books.side.tasks]
 
 
 def changes_list(changes: Iterable[Change]) -> list[Json]:

@@ -7,7 +7,7 @@ from difflib import unified_diff
 from pert_companion.desk.project_edits import PRICES, contract_day
 from pert_companion.desk.amounts import amounts_of
 from pert_companion.desk.saving import files_of
-from pert_companion.desk.views import Json, Rows
+from pert_companion.desk.views import Json, Rows, data_date
 from pert_companion.importing.month_end import Books
 from pert_companion.model.sidefile import SideTask
 
@@ -92,7 +92,7 @@ def _project_texts(books: Books) -> dict[str, str]:
     found = {
         "title": books.deck.project.title,
         "first day": books.deck.project.start_date.isoformat(),
-        "data date": _text(books.side.data_date or books.deck.as_of),
+        "data date": _text(data_date(books)),
         "contract date": _text(contract_day(books.deck, books.side)),
         "vouchers": str(len(books.ledger.vouchers)),
         "spent": amounts.money(sum(card.amount for card in books.deck.charges)),

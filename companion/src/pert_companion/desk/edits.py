@@ -10,12 +10,11 @@ from dataclasses import dataclass, replace
 
 from pert_companion.carry.charges import with_ledger
 from pert_companion.carry.reporting import as_of_close
-from pert_companion.desk import figures, project_edits, status_edits
+from pert_companion.desk import figures, plan_edits, project_edits, status_edits
 from pert_companion.desk.amounts import read_day
 from pert_companion.importing.month_end import Books
 from pert_companion.model.errors import InputError, UsageError
 from pert_companion.model.fitting import fitted_to
-from pert_companion.model.sidefile import SideFile, SideTask
 from pert_companion.state.implied import implied_side_file
 
 DATA_DATE = "data-date"
@@ -47,25 +46,21 @@ def edit_of(word: str) -> Edit:
     return Edit(field, value, task)
 
 
-TASK_FIELDS = (*figures.FIELDS, *status_edits.FIELDS)
+TASK_FIELDS = (*figures.FIELDS, *plan_edits.FIELDS, *status_edits.FIELDS)
 PROJECT_FIELDS = (DATA_DATE, *project_edits.FIELDS)
 
 
 def with_edits(books: Books, edits: Sequence[Edit]) -> Books:
     """Returns a deck with its side file after some edits, in the order of a month's end.
 
-    First the data date, then figures and links, then the progress of tasks, then money from the
-    ledger. Raises `InputError` with the first edit that makes no sense; whether the programs accept
-    the deck is asked by the caller.
+    First the data date, then tasks with their figures and links, then the progress of tasks, then
+    money from the ledger. Raises `InputError` with the first edit that makes no sense; whether the
+    programs accept the deck is asked by the caller.
     """
-    tasks = {task.code: task for task in books.side.tasks}
-    for edit in edits:
-        if edit.task and edit.task not in tasks:
-            raise InputError(f"there is no task {edit.task[:40]!r}")
     dated = [edit for edit in edits if edit.field == DATA_DATE]
     for edit in dated:
         books = _at_data_date(books, edit)
-    books = _with_figures(books, edits)
+    books = _with_plan(books, edits)
     books = _with_status(books, edits)
     return _rebooked(books) if dated else books
 
@@ -79,11 +74,14 @@ def _at_data_date(books: Books, edit: Edit) -> Books:
     return _fitted(replace(books, deck=deck, side=side))
 
 
-def _with_figures(books: Books, edits: Iterable[Edit]) -> Books:
-    """Returns the deck with the figures of tasks and of the project that edits change."""
+def _with_plan(books: Books, edits: Iterable[Edit]) -> Books:
+    """Returns the deck with the tasks, links and figures that edits change."""
     for edit in edits:
         if edit.field in figures.FIELDS:
-            books = _fitted(figures.changed(books, _task(books.side, edit), edit.field, edit.value))
+            task = plan_edits.task_of(books, edit.task)
+            books = _fitted(figures.changed(books, task, edit.field, edit.value))
+        elif edit.field in plan_edits.FIELDS:
+            books = _fitted(plan_edits.changed(books, edit.task, edit.field, edit.value))
         elif edit.field in project_edits.FIELDS:
             books = _fitted(project_edits.changed(books, edit.field, edit.value))
     return books
@@ -94,12 +92,9 @@ def _with_status(books: Books, edits: Iterable[Edit]) -> Books:
     rows: dict[str, dict[str, str]] = {}
     for edit in edits:
         if edit.field in status_edits.FIELDS:
+            plan_edits.task_of(books, edit.task)
             rows.setdefault(edit.task, {})[edit.field] = edit.value
     return _fitted(status_edits.changed(books, rows)) if rows else books
-
-
-def _task(side: SideFile, edit: Edit) -> SideTask:
-    return next(task for task in side.tasks if task.code == edit.task)
 
 
 def _fitted(books: Books) -> Books:

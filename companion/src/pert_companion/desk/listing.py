@@ -4,6 +4,8 @@ A name is made of the file's name, so that an address holds after a restart; it 
 list of the folder, and never turned into a path.
 """
 
+import csv
+import io
 from collections.abc import Iterator
 from hashlib import sha256
 from pathlib import Path
@@ -15,6 +17,8 @@ PLANNER_ENDINGS = (".xml", ".xer", ".xlsx", ".csv", ".txt", ".gan", ".planner", 
 """The endings of files that may be planners' files."""
 HIDDEN = ".pert-desk"
 """The folder of the desk in the user's folder: journals, and what was there before each save."""
+_TITLE = 7
+"""The place of the title in a PROJECT card."""
 MOST_FILES = 2000
 """Files of the folder that are looked at."""
 
@@ -45,6 +49,14 @@ def found_in(paths: list[Path], name: str, what: str) -> Path:
         if name_of(path) == name:
             return path
     raise MissingError(f"there is no such {what} in the folder; was it renamed or removed?")
+
+
+def title_of(deck: Path) -> str:
+    """Returns the title of a project by the first card of its deck; without one the file's name."""
+    with deck.open("rb") as file:
+        beginning = file.read(1 << 12).decode("utf-8", "replace").lstrip("\ufeff")
+    card: list[str] = next(csv.reader(io.StringIO(beginning, newline="")), [])
+    return card[_TITLE] if len(card) > _TITLE and card[_TITLE] else deck.stem
 
 
 def free_name(folder: Path, name: str, ending: str) -> Path:

@@ -17,9 +17,12 @@ from pert_companion.model.sidefile import SideTask
 FIELDS = ("percent", "actual-start", "actual-finish", "remaining")
 
 
-def editable_status(books: Books) -> tuple[str, ...]:
-    """Returns the fields of progress that a deck keeps."""
-    return FIELDS if books.has_side_file else ("actual-start", "actual-finish")
+def fixed_status(books: Books) -> dict[str, str]:
+    """Returns why fields of progress cannot be changed in a deck, by field."""
+    if books.has_side_file:
+        return {}
+    why = "only a side file keeps percent and remaining durations (pert-days --calendar)"
+    return dict.fromkeys(("percent", "remaining"), why)
 
 
 def changed(books: Books, rows: Mapping[str, Mapping[str, str]]) -> Books:

@@ -3,9 +3,12 @@
 Amounts and times are texts of decimal numbers, dates those of ISO 8601; the browser only sets them.
 """
 
+from collections import Counter
 from collections.abc import Iterator, Mapping
 from datetime import date
+from fractions import Fraction
 
+from pert_companion.analysis.actuals import ONE_DAY
 from pert_companion.analysis.contract import Contract, contract_of, held_dates
 from pert_companion.analysis.options import (
     Option,
@@ -19,10 +22,13 @@ from pert_companion.analysis.schedule import ScheduledTask
 from pert_companion.analysis.lengths import choice_of
 from pert_companion.analysis.scheduling import rest_schedule
 from pert_companion.analysis.sureness import NOTHING_KNOWN, Sureness, percent_text, sureness
-from pert_companion.desk.amounts import Amounts, amounts_of
-from pert_companion.desk.figures import cards_of, editable_figures, further_units, why_fixed
+from pert_companion.desk.amounts import Amounts, amounts_of, decimal_text
+from pert_companion.desk import own_time, plan_edits
+from pert_companion.desk.figures import FIELDS, cards_of, further_units
 from pert_companion.desk.project_edits import contract_day
-from pert_companion.desk.status_edits import actual_days, editable_status, status_days
+from pert_companion.desk.remaking import tie_text, ties_of
+from pert_companion.desk.status_edits import FIELDS as STATUS
+from pert_companion.desk.status_edits import actual_days, fixed_status, status_days
 from pert_companion.importing.month_end import Books
 from pert_companion.model.cards import ActivityCard, TaskCard
 from pert_companion.model.predecessors import LinkSearch, RealLink
@@ -34,11 +40,22 @@ from pert_companion.state.remaining import State
 from pert_companion.state.work import Work
 
 Json = dict[str, object]
+EDITED = (*FIELDS, plan_edits.LINKS, *STATUS)
+"""The fields of a row that may be edited."""
 
 
 def day_json(day: date | None) -> str | None:
     """Returns a day as JSON has it."""
     return None if day is None else day.isoformat()
+
+
+def data_date(books: Books) -> date | None:
+    """Returns the evening that progress is as of; None if there is none."""
+    if books.side.data_date is not None:
+        return books.side.data_date
+    if books.deck.as_of is None or books.deck.as_of <= books.deck.project.start_date:
+        return None
+    return books.deck.as_of - ONE_DAY
 
 
 def nearest_length(work: Work, units: int | None) -> int:
@@ -59,6 +76,8 @@ class Rows:
         self.books = books
         self.amounts = amounts_of(books.side)
         self.links = LinkSearch(books.deck, books.side)
+        self.ties = ties_of(books)
+        self.items_with_accounts = Counter(account.item for account in books.deck.accounts)
         self.cards = cards_of(books.deck)
         self.states = states
         self.days = status_days(books.deck)
@@ -89,10 +108,8 @@ class Rows:
             "name": task.name or task.code,
             "level": len(task.outline),
             "links": [_link_json(link, amounts) for link in links],
-            "links_text": ", ".join(link.text(self._unit) for link in links),
-            "normal": amounts.days(card.normal + further),
-            "shortest": amounts.days(card.crash + further),
-            "price": amounts.price(card.slope),
+            "links_text": ", ".join(self._link_texts(task)),
+            **self._durations(task, card, further),
             "cost": amounts.money(sum(self.cards[part].cost for part in task.parts)),
             **self._estimates(card, further),
             "percent": "" if task.percent is None else f"{task.percent.normalize():f}",
@@ -104,13 +121,29 @@ class Rows:
             "deadline": day_json(task.deadline),
             "resources": self.resources.get(task.code, []),
             "editable": [name.replace("-", "_") for name in self._editable(task)],
-            "fixed": why_fixed(self.books, task),
+            "fixed": {name.replace("-", "_"): why for name, why in self._fixed(task).items()},
         }
 
-    @property
-    def _unit(self) -> str:
-        is_days = self.amounts.measure.unit_minutes == self.amounts.measure.day_minutes
-        return "d" if is_days else "u"
+    def _link_texts(self, task: SideTask) -> Iterator[str]:
+        """Yields the links of a task as they are edited."""
+        for tie in self.ties.to(task):
+            if tie.day is None:
+                yield tie_text(tie, self.books.side)
+
+    def _durations(self, task: SideTask, card: TaskCard | ActivityCard, further: int) -> Json:
+        """Returns how long a task takes in days of work of its calendar, and what a day costs."""
+        amounts = self.amounts
+        if task.own is None:
+            return {
+                "normal": amounts.days(card.normal + further),
+                "shortest": amounts.days(card.crash + further),
+                "price": amounts.price(card.slope),
+            }
+        return {
+            "normal": amounts.minutes(task.minutes),
+            "shortest": amounts.minutes(own_time.shortest_minutes(task)),
+            "price": decimal_text(Fraction(own_time.day_price(self.books.side, task))),
+        }
 
     def _estimates(self, card: TaskCard | ActivityCard, further: int) -> Json:
         days = self.amounts.days
@@ -124,11 +157,24 @@ class Rows:
         found = {self.states.get(part, State.WAITING) for part in task.parts}
         return found.pop() if len(found) == 1 else State.BEGUN
 
-    def _editable(self, task: SideTask) -> tuple[str, ...]:
-        fields = editable_figures(self.books, task)
-        if self.cards[task.code].crash == self.cards[task.code].normal:
-            fields = tuple(field for field in fields if field != "price")
-        return (*fields, *editable_status(self.books))
+    def _editable(self, task: SideTask) -> list[str]:
+        fixed = self._fixed(task)
+        return [field for field in EDITED if field not in fixed]
+
+    def _fixed(self, task: SideTask) -> dict[str, str]:
+        """Returns why fields of a task cannot be edited, by field."""
+        found = dict(own_time.fixed_fields(task))
+        found.update(fixed_status(self.books))
+        card = self.cards[task.code]
+        accounts = self.items_with_accounts[card.item]
+        if accounts > 1:
+            found["cost"] = f"its package {card.item} has {accounts} accounts: change their budgets"
+        if card.crash == card.normal:
+            found["price"] = "it cannot be shortened: give it a shortest duration first"
+        why = plan_edits.why_links_are_fixed(self.books)
+        if why:
+            found[plan_edits.LINKS] = why
+        return found
 
 
 def states_of(state: ProjectState) -> dict[str, State]:

@@ -14,19 +14,18 @@ from pert_companion.desk import answers, bookings, handing, imports, states, vie
 from pert_companion.desk.amounts import read_day
 from pert_companion.desk.changes import changes_between
 from pert_companion.desk.desk import Desk
-from pert_companion.desk.edits import Edit
+from pert_companion.desk.edits import TASK_FIELDS, Edit
 from pert_companion.desk.errors import (
     ConflictError,
     DeskError,
     OutsideError,
     desk_error,
 )
-from pert_companion.desk.figures import FIELDS as FIGURES
-from pert_companion.desk.listing import decks_of, name_of, planner_files
+from pert_companion.desk.listing import decks_of, name_of, planner_files, title_of
+from pert_companion.desk.plan_edits import NEW, new_code
 from pert_companion.desk.project_edits import FIELDS as PROJECT_FIELDS
 from pert_companion.desk.projects import OpenProject, Step
 from pert_companion.desk.requests import Body, Dropped
-from pert_companion.desk.status_edits import FIELDS as STATUS
 from pert_companion.desk.views import Json
 from pert_companion.importing.month_end import Books
 from pert_companion.model.errors import CompanionError
@@ -59,7 +58,7 @@ def project_page(desk: Desk, request: Request) -> Json:
     """Returns what the template of a project's page shows."""
     key = request.path_params["project"]
     path = desk.deck(key)
-    return {"template": "project.html", "project": key, "title": path.stem}
+    return {"template": "project.html", "project": key, "title": title_of(path)}
 
 
 def report_page(desk: Desk, request: Request) -> bytes:
@@ -102,7 +101,7 @@ def _folder_row(desk: Desk, path: Any, row: Json | None) -> Json:
     return {
         "id": name_of(path),
         "file": path.name,
-        "title": path.stem,
+        "title": title_of(path),
         "row": row,
         "unsaved": desk.unsaved(path),
         "source": desk.rows.source_of(path),
@@ -273,9 +272,20 @@ def _edit(body: Body) -> Edit:
     name = body.text("field").replace("_", "-")
     if kind == "terms" and name in (*PROJECT_FIELDS, "target"):
         return Edit("contract" if name == "target" else name, value)
-    if kind == "task" and name in (*FIGURES, *STATUS) and body.text("task"):
+    if kind == "task" and name in TASK_FIELDS and body.text("task"):
         return Edit(name, value, body.text("task"))
     raise DeskError("there is no such edit")
+
+
+def add_task(desk: Desk, request: Request, body: Body) -> Json:
+    """Adds a task after another one; its code is made of its name."""
+    name, after = body.text("name"), body.text("after")
+
+    def add(found: OpenProject) -> Step:
+        code = new_code(found.books, name)
+        return found.edit([Edit(NEW, after, code), Edit("name", name, code)])
+
+    return _changed(desk, request, body, add)
 
 
 def undo(desk: Desk, request: Request, body: Body) -> Json:
@@ -421,6 +431,7 @@ JSON_WORK: tuple[tuple[str, str, Callable[[Desk, Request, Body], Json]], ...] = 
     ("GET", "projects/{project}/options", options),
     ("GET", "projects/{project}/version", version),
     ("POST", "projects/{project}/edits", edit),
+    ("POST", "projects/{project}/tasks", add_task),
     ("POST", "projects/{project}/undo", undo),
     ("POST", "projects/{project}/redo", redo),
     ("GET", "projects/{project}/changes", changes),

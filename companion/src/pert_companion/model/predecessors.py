@@ -58,13 +58,9 @@ def first_day_waits(deck: Deck, side: SideFile) -> dict[str, FirstDayWait]:
     search = LinkSearch(deck, side)
     found = {}
     for task in side.tasks:
-        begins = [code for code in _cards(task) if code != task.finish_moment]
-        start = max(search.first_day_lag(code, task.code) for code in begins)
-        finish = 0
-        if task.finish_moment is not None:
-            finish = search.first_day_lag(task.finish_moment, task.code)
-        if start or finish:
-            found[task.code] = FirstDayWait(start, finish)
+        wait = search.first_day_wait(task)
+        if wait != FirstDayWait():
+            found[task.code] = wait
     return found
 
 
@@ -95,6 +91,14 @@ class LinkSearch:
                 key = (end.task, kind)
                 found[key] = max(found.get(key, lag), lag)
         return [RealLink(code, task.code, kind, lag) for (code, kind), lag in found.items()]
+
+    def first_day_wait(self, task: SideTask) -> FirstDayWait:
+        """Returns how long after the first day of the project a task may start, and may finish."""
+        begins = [code for code in _cards(task) if code != task.finish_moment]
+        start = max(self.first_day_lag(code, task.code) for code in begins)
+        if task.finish_moment is None:
+            return FirstDayWait(start)
+        return FirstDayWait(start, self.first_day_lag(task.finish_moment, task.code))
 
     def first_day_lag(self, card: str, owner: str) -> int:
         """Returns the longest walk of waits from the project's start to a card, in units."""

@@ -134,6 +134,8 @@ export class Grid {
         if (column.text !== undefined) made.append(column.text(row));
         column.draw?.(row, made);
         if (this.wishes.note?.(row, column.key)) made.setAttribute("aria-invalid", "true");
+        const why = this.wishes.why?.(row, column.key);
+        if (why) made.title = why;
         return made;
     }
 
@@ -212,7 +214,7 @@ export class Grid {
     /** Edits the cell with the keyboard, or opens its row if it cannot be edited. */
     act() {
         if (this.rows.length === 0) return;
-        if (!this.open(null)) this.wishes.open?.(this.rows[this.at.row]);
+        if (!this.open(null)) this.wishes.open?.(this.rows[this.at.row], this.columns[this.at.column]);
     }
 
     // Opens an editor with a text, or with what the cell has. Returns whether the cell can be edited.

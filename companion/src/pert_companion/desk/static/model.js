@@ -1,6 +1,6 @@
 // A project as this tab shows it. What is changed goes to the server one by one, each with the version that the answer before had. What cannot be sent
 // waits, also when the tab is loaded again: nothing is lost because the server ended or another tab was faster.
-// Its events are `project` (all is new), `rows`, `length`, `schedule`, `steps` (something waits, or was done) and `trouble`.
+// Its events are `project` (all is new), `rows`, `length`, `schedule`, `added` (a task), `steps` (something waits, or was done) and `trouble`.
 import { Gone, Refused, get, latest, post } from "./api.js";
 
 const RETRY = 2000; // milliseconds until a server that did not answer is asked again
@@ -157,6 +157,17 @@ export class Desk extends EventTarget {
         this.add({ path: `/${name}`, body: {}, text: name });
     }
 
+    /** Adds a task after another one in the table. @param {string} name @param {WorkRow} after */
+    addTask(name, after) {
+        this.add({ path: "/tasks", body: { name, after: after.code }, text: `new task ${name}` });
+    }
+
+    /** Removes a task with its links. @param {WorkRow} task */
+    removeTask(task) {
+        const edit = { kind: "task", task: task.code, field: "remove", value: "" };
+        this.add({ path: "/edits", body: { edits: [edit] }, text: `remove ${task.name}` });
+    }
+
     /** Lets a step follow those that wait. @param {DeskStep} step */
     add(step) {
         this.steps.push(step);
@@ -212,8 +223,10 @@ export class Desk extends EventTarget {
         if (answer.changes === undefined) return;
         this.said = saidOf(answer.changes);
         const isOfProject = answer.changes.some(({ task }) => task === ""); // the data date or the price of time
-        if (answer.curve === null || isOfProject) {
+        if (isOfProject || answer.rows_are_others) {
             await this.load();
+            const added = answer.changes.find(({ field, after }) => field === "task" && after === "new");
+            if (added !== undefined) this.dispatchEvent(new CustomEvent("added", { detail: added.task }));
             return;
         }
         const rows = new Map(answer.rows.map((row) => [row.code, row]));

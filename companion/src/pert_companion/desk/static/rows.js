@@ -52,7 +52,7 @@ export function nameColumn(fold) {
             cell.classList.add(`level${Math.min(row.level, 8)}`);
             if (row.task === null) cell.append(foldButton(row, fold));
             cell.append(title(row.name));
-            const notes = [row.task?.code, row.dated?.note, row.task?.fixed].filter((text) => text);
+            const notes = [row.task?.code, row.dated?.note].filter((text) => text);
             cell.title = [row.name, ...notes].join("\n");
             if (row.task?.state === "finished" || row.task?.state === "begun") cell.append(element("span", { class: "state" }, ` ${row.task.state}`));
         },

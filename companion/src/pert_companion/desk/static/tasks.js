@@ -5,7 +5,7 @@ import { Bars, dateColumns, nameColumn, rowClass, rowsOf } from "./rows.js";
 
 /** @type {EditedColumn[]} */
 const FIELDS = [
-    ["links", "After", "The tasks that come before, as DIG or DIGSS+2d", 118, "text"],
+    ["links", "After", "The tasks that come before by row or code, as 12, DIG or 12SS+2d", 118, "text"],
     ["normal", "Normal", "Normal duration in days", 70, "number"],
     ["shortest", "Shortest", "Shortest duration in days", 74, "number"],
     ["price", "A day less", "What the first day less costs", 84, "number"],
@@ -61,8 +61,13 @@ class Rows {
             rowClass,
             cellClass: (row, key) => this.cellClass(row, key),
             note: (row, key) => this.noteOf(row, key),
+            why: ({ task }, key) => task?.fixed[key] ?? "",
             edit: (row, column, text) => desk.edit(row.task, /** @type {Field} */ (column.key), text),
-            open: (row) => (row.task === null ? this.fold(row.key) : open?.(row.key)),
+            open: (row, column) => {
+                if (row.task === null) this.fold(row.key);
+                else if (row.task.fixed[column.key]) desk.say(`${row.name}: ${row.task.fixed[column.key]}.`);
+                else open?.(row.key);
+            },
         });
     }
 
@@ -112,13 +117,44 @@ export class Tasks extends Rows {
         this.setColumns();
         $("columns").addEventListener("change", () => this.setColumns());
         for (const id of ["find", "only"]) $(id).addEventListener("input", () => this.filter());
+        $("add-task").addEventListener("click", () => this.add());
+        $("new-task").addEventListener("keydown", (event) => event.key === "Enter" && this.add());
+        $("remove-task").addEventListener("click", () => this.remove());
+        this.grid.host.addEventListener("keydown", (event) => this.press(event));
+        desk.addEventListener("added", (/** @type {CustomEvent} */ event) => this.find(event.detail));
+    }
+
+    press(event) {
+        if (event.target !== this.grid.host || event.altKey || event.metaKey) return;
+        if (event.key === "Insert") $("new-task").focus();
+        else if (event.key === "Delete" && event.ctrlKey) this.remove();
+        else return;
+        event.preventDefault();
+    }
+
+    // Adds a task after the row with the keyboard; after the first task of a group.
+    add() {
+        const name = $("new-task").value.trim();
+        const after = this.grid.rows.slice(this.grid.at.row).find(({ task }) => task !== null);
+        if (name === "") $("new-task").focus();
+        if (name === "" || after === undefined) return;
+        $("new-task").value = "";
+        this.desk.addTask(name, after.task);
+    }
+
+    // Removes the task of the row with the keyboard.
+    remove() {
+        const { task } = this.grid.rows[this.grid.at.row] ?? { task: null };
+        if (task === null) this.desk.say("Go to a task first: groups are those of their tasks.");
+        else this.desk.removeTask(task);
     }
 
     setColumns() {
         const keys = SETS[$("columns").value];
         const fields = FIELDS.filter(([key]) => keys.includes(key)).map((field) => this.fieldColumn(field));
         const number = { key: "row", head: "Row", width: 48, kind: "number", text: ({ task }) => (task?.row === null || task === null ? "" : String(task.row)) };
-        this.grid.setColumns([nameColumn((key) => this.fold(key)), number, ...fields, ...dateColumns(), this.bars.column(200, 2)]);
+        const code = { key: "code", head: "Code", hint: "What links call the task", width: 84, text: ({ task }) => task?.code ?? "" };
+        this.grid.setColumns([nameColumn((key) => this.fold(key)), number, code, ...fields, ...dateColumns(), this.bars.column(200, 2)]);
         this.draw();
     }
 
