@@ -16,7 +16,7 @@ PREFIX ?= /usr/local
 PLACE ?= $(PREFIX)
 MINUTES ?= 30
 PROGRAMS := pert pert_check pert_whatif
-# What is installed is listed, so that no stray file is: tests/docs/files compares the list with what git tracks.
+# What is installed is listed, so that no stray file is: tests/docs/files.sh compares the list with what git tracks.
 INSTALLED := $(shell cat tools/installed 2>/dev/null)
 # The second checker is installed, with its manual page, if `make recheck` has built it.
 RECHECK := $(notdir $(wildcard bin/pert-recheck))
@@ -32,7 +32,7 @@ PACKAGE := $(shell cd companion/src 2>/dev/null && find pert_companion -type f !
 
 VERSION := $(shell cat VERSION)
 # What the programs are built from; no program needs the crates of tests.
-SOURCES := crates.txt VERSION Makefile tools/prove $(wildcard tools/proving/*.py) \
+SOURCES := crates.txt VERSION Makefile tools/prove.py $(wildcard tools/proving/*.py) \
 	$(shell find crates \( -path '*/out' -o -path 'crates/*_tests' \) -prune -o -type f \( -name '*.rt' -o -name '*.antt' \) -print)
 ROOT := $(DESTDIR)$(PREFIX)
 LIBRARY := $(ROOT)/lib/pert-companion
@@ -46,7 +46,7 @@ MENU := share/applications
 ICONS := share/icons/hicolor/scalable/apps
 
 all: programs
-	@tools/first-run
+	@tools/first-run.sh
 
 programs: $(PROGRAMS:%=bin/%)
 
@@ -57,8 +57,8 @@ out/built: $(SOURCES)
 	@if [ -e $@ ]; then echo "make: $(firstword $?)$(if $(word 2,$?), and $(words $(wordlist 2,$(words $?),$?)) more files are, is) newer than the programs:" \
 		"proving what changed, and building them again"; else echo "make: the programs are not built yet: proving and building them"; fi
 	@rm -f out/built $(PROGRAMS:%=bin/%)
-	@command -v python3 >/dev/null || { echo "make: there is no 'python3' on the path, in which rt and tools/prove are written" >&2; exit 1; }
-	@tools/prove $(PROGRAMS)
+	@command -v python3 >/dev/null || { echo "make: there is no 'python3' on the path, in which rt and tools/prove.py are written" >&2; exit 1; }
+	@tools/prove.py $(PROGRAMS)
 	@mkdir -p bin
 	@for program in $(PROGRAMS); do cp "crates/$$program/out/$$program" "bin/$$program" || exit 1; done
 	@touch $@
@@ -68,12 +68,12 @@ out/built: $(SOURCES)
 FORM ?= times
 DECK ?= examples/shed.csv
 try:
-	@tools/try $(FORM) <"$(DECK)"
+	@tools/try.py $(FORM) <"$(DECK)"
 
 # The second checker needs Coq and OCaml, and nothing of the kit.
 recheck: bin/pert-recheck
 bin/pert-recheck: $(wildcard coq/*)
-	@coq/build
+	@coq/build.sh
 	@mkdir -p bin
 	@cp out/recheck/pert-recheck $@
 
@@ -81,11 +81,11 @@ check:
 	.ci/run
 
 reading:
-	@tools/reading-list out/reading
+	@tools/reading-list.py out/reading
 	@echo "written: out/reading/headline.md and out/reading/rest.md"
 
 # A page as it is installed, for readers who have no sources
-SHOWN = tools/installed-page
+SHOWN = tools/installed-page.py
 AT = '$(subst ','\'',$(PLACE)/share/doc/pert)'
 
 # A prefix with one of these characters would not get through the commands below.
@@ -101,7 +101,7 @@ install: placed programs
 	for file in $(PACKAGE); do install -m 644 "companion/src/$$file" "$(LIBRARY)/$$file" || exit 1; done
 	for page in $(SECTION1); do $(SHOWN) "docs/man/$$page" $(AT) >"$(MAN)/man1/$$page" || exit 1; done
 	for page in $(PAGES); do $(SHOWN) "$$page" $(AT) >"$(DOC)/$$page" || exit 1; done
-	tools/deck-page "$(DOC)/docs/deck.md" | sed 's/@VERSION@/$(VERSION)/' >"$(MAN)/man5/pert-deck.5"
+	tools/deck-page.awk "$(DOC)/docs/deck.md" | sed 's/@VERSION@/$(VERSION)/' >"$(MAN)/man5/pert-deck.5"
 	for picture in $(PICTURES); do install -m 644 "$$picture" "$(DOC)/docs" || exit 1; done
 	install -d "$(DOC)/docs/json"
 	for schema in $(SCHEMAS); do install -m 644 "$$schema" "$(DOC)/docs/json" || exit 1; done
@@ -115,7 +115,7 @@ install: placed programs
 	install -d "$(ROOT)/$(MENU)" "$(ROOT)/$(ICONS)"
 	install -m 644 companion/pert-desk.desktop "$(ROOT)/$(MENU)"
 	install -m 644 companion/src/pert_companion/desk/static/icon.svg "$(ROOT)/$(ICONS)/pert-desk.svg"
-	@[ ! -d crates/pert_cli ] || { umask 022 && tools/reading-list "$(DOC)/reading"; }
+	@[ ! -d crates/pert_cli ] || { umask 022 && tools/reading-list.py "$(DOC)/reading"; }
 
 # Folders go too if nothing else is in them.
 uninstall: placed
@@ -142,10 +142,10 @@ dist: programs recheck
 
 # The packages of debian/, which any Debian builds with `dpkg-buildpackage -b` from a folder in which `make programs recheck` was run
 deb: programs recheck
-	@tools/deb
+	@tools/deb.sh
 
 soak:
-	tests/soak $(MINUTES) $(SEED)
+	tests/soak.sh $(MINUTES) $(SEED)
 
 clean:
 	rm -rf bin out crates/*/out

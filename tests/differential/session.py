@@ -1,6 +1,6 @@
 #!/usr/bin/env python3
 """What a what-if session answers, computed plainly and slowly: the model for
-tests/differential/sessions and tests/hostile/sessions.
+tests/differential/sessions.py and tests/hostile/sessions.py.
 
     tests/differential/session.py DECK <LINES     answers as `pert_whatif DECK` does, for decks with a few activities
 
@@ -273,7 +273,7 @@ def plain_times(text: str) -> str:
 
 
 def main() -> None:
-    """Replaces the program, as far as tests/hostile/sessions needs it."""
+    """Replaces the program, as far as tests/hostile/sessions.py needs it."""
     if len(sys.argv) != 2:
         sys.stderr.write("usage: pert_whatif DECK\n")
         sys.exit(2)

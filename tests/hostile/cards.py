@@ -1,4 +1,4 @@
-"""Decks with so many cards of a kind: those that tests/hostile/limits and growth try.
+"""Decks with so many cards of a kind: those that tests/hostile/limits.py and growth try.
 
 The numbers are those of docs/deck.md.
 """

@@ -29,7 +29,7 @@ def write_deck(words: str, deck: str) -> None:
     """Writes the deck that `large-deck` has for these words."""
     with open(deck, "wb") as out:
         subprocess.run(
-            [sys.executable, str(HERE / "large-deck"), *words.split()], stdout=out, check=True
+            [sys.executable, str(HERE / "large-deck.py"), *words.split()], stdout=out, check=True
         )
 
 

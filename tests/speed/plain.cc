@@ -4,7 +4,7 @@
 //                               and numbers, writes them to OUT through one buffer, and prints the processor time of the writing alone
 //
 // The text that it writes is compared with the one that it read. The pass is the function `line_ends` and the writing `write_lines`, so that
-// `tests/speed/run --floor` counts the instructions of each alone.
+// `tests/speed/run.py --floor` counts the instructions of each alone.
 #include <algorithm>
 #include <charconv>
 #include <cstdint>

@@ -2,7 +2,7 @@
 
 from command_files.commands import Command, Word
 
-HEAD = "Completion of the companion's commands; tools/command-files writes this file."
+HEAD = "Completion of the companion's commands; tools/command-files.py writes this file."
 
 
 def bash(commands: list[Command]) -> str:

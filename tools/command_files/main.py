@@ -1,4 +1,4 @@
-"""The command tools/command-files."""
+"""The command tools/command-files.py."""
 
 import importlib.util
 import re
@@ -14,8 +14,8 @@ USAGE = """\
 Writes the manual pages of the companion's commands, the section FORMS of pert's, and completion of
 the commands and the programs.
 
-    tools/command-files             writes docs/man/pert-*.1, docs/man/pert.1 and tools/completion/
-    tools/command-files --check     names each file that is not as it would be written
+    tools/command-files.py             writes docs/man/pert-*.1, docs/man/pert.1 and tools/completion/
+    tools/command-files.py --check     names each file that is not as it would be written
 
 The status is 0, 1 if a file is not up to date, or 2 for wrong words.
 """
@@ -53,7 +53,7 @@ def run(top: Path, words: list[str]) -> int:
         print(USAGE, end="")
         return 0
     if words not in ([], ["--check"]):
-        print("command-files: usage: tools/command-files [--check]", file=sys.stderr)
+        print("command-files: usage: tools/command-files.py [--check]", file=sys.stderr)
         return 2
     missing = [name for name in LIBRARIES if importlib.util.find_spec(name) is None]
     if missing:
@@ -79,6 +79,6 @@ def check(top: Path, texts: dict[Path, str]) -> int:
         if not path.exists() or path.read_text(encoding="utf-8") != text:
             wrong.add(path)
     for path in sorted(wrong):
-        print(f"FAILED command-files: {path.relative_to(top)}: run tools/command-files")
+        print(f"FAILED command-files: {path.relative_to(top)}: run tools/command-files.py")
     print(f"command-files: {len(texts)} files, {len(wrong)} failed")
     return 1 if wrong else 0

@@ -3,7 +3,7 @@
 from command_files.completion import quoted
 from command_files.forms import Form
 
-HEAD = "Completion of the programs; tools/command-files writes this file."
+HEAD = "Completion of the programs; tools/command-files.py writes this file."
 PROGRAMS = ("pert", "pert_check", "pert_whatif", "pert-recheck")
 
 

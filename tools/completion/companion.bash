@@ -1,4 +1,4 @@
-# Completion of the companion's commands; tools/command-files writes this file.
+# Completion of the companion's commands; tools/command-files.py writes this file.
 _pert_companion() {
     local options='' choices='' value=''
     case ${1##*/} in

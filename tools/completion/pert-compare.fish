@@ -1,4 +1,4 @@
-# Completion of the companion's commands; tools/command-files writes this file.
+# Completion of the companion's commands; tools/command-files.py writes this file.
 complete -c pert-compare -s h -l help -d 'show this help message and exit'
 complete -c pert-compare -l version -d 'show program\'s version number and exit'
 complete -c pert-compare -l baseline -r -F -d 'the plan to measure by (default: the first state); further ones replaced it'

@@ -1,4 +1,4 @@
-# Completion of the companion's commands; tools/command-files writes this file.
+# Completion of the companion's commands; tools/command-files.py writes this file.
 complete -c pert-days -s h -l help -d 'show this help message and exit'
 complete -c pert-days -l version -d 'show program\'s version number and exit'
 complete -c pert-days -l back -d 'write the report on standard input with real days'

@@ -1,4 +1,4 @@
-# Completion of the companion's commands; tools/command-files writes this file.
+# Completion of the companion's commands; tools/command-files.py writes this file.
 complete -c pert-ledger -s h -l help -d 'show this help message and exit'
 complete -c pert-ledger -l version -d 'show program\'s version number and exit'
 complete -c pert-ledger -s o -l output -r -F -d 'the deck to write, with its side file and ledger; - is standard output'

@@ -1,4 +1,4 @@
-# Completion of the companion's commands; tools/command-files writes this file.
+# Completion of the companion's commands; tools/command-files.py writes this file.
 complete -c pert-schedule -s h -l help -d 'show this help message and exit'
 complete -c pert-schedule -l version -d 'show program\'s version number and exit'
 complete -c pert-schedule -l length -x -d 'cheapest for so many days, as 82.5'

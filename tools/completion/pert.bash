@@ -1,4 +1,4 @@
-# Completion of the programs; tools/command-files writes this file.
+# Completion of the programs; tools/command-files.py writes this file.
 _pert() {
     if [ "$COMP_CWORD" -eq 1 ]; then
         mapfile -t COMPREPLY < <(compgen -W 'check normal times summary value curve certify point outlook bench migrate optimum arrows load' -- "$2")

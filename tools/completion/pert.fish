@@ -1,4 +1,4 @@
-# Completion of the programs; tools/command-files writes this file.
+# Completion of the programs; tools/command-files.py writes this file.
 complete -c pert -n __fish_use_subcommand -f -a check -d 'whether the deck is accepted, and its counts'
 complete -c pert -n __fish_use_subcommand -f -a normal -d 'the schedule with every normal duration'
 complete -c pert -n __fish_use_subcommand -f -a times -d 'expected times, slack and the critical path'

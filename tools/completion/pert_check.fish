@@ -1,2 +1,2 @@
-# Completion of the programs; tools/command-files writes this file.
+# Completion of the programs; tools/command-files.py writes this file.
 complete -c pert_check -F

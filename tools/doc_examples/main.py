@@ -1,4 +1,4 @@
-"""The command `tests/docs/examples`."""
+"""The command `tests/docs/examples.py`."""
 
 import re
 from dataclasses import dataclass
@@ -6,7 +6,7 @@ from pathlib import Path
 
 USAGE = """Compares each example in a doc comment with the function of a test crate that it names.
 
-    tests/docs/examples
+    tests/docs/examples.py
 
 A `# Examples` section of a .rt file has lines between two fences and then names the function
 that has the same lines as its body. That function is in src/examples.rt of a test crate, and a test

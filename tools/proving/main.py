@@ -1,7 +1,7 @@
 """Proves the programs named on the command line, with all crates below them, and builds them.
 
-    tools/prove PROGRAM..      leaves each program at crates/PROGRAM/out/PROGRAM, built by this run,
-                               or leaves nothing there
+    tools/prove.py PROGRAM..   leaves each program at crates/PROGRAM/out/PROGRAM, built by this
+                               run, or leaves nothing there
 
 `rt` first proves the library with the most crates below it, and these, side by side. It runs in
 the library's folder, so that it reads no crate of tests. Then come the other libraries, one by one:

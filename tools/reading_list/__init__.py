@@ -1,1 +1,1 @@
-"""Prints the definitions behind the top calls. `tools/reading-list` is the command."""
+"""Prints the definitions behind the top calls. `tools/reading-list.py` is the command."""

@@ -1,7 +1,7 @@
 """Prints the definitions that a reader of the top contracts needs, each once, in reading order.
 
-tools/reading-list [FOLDER]   writes FOLDER/headline.md and FOLDER/rest.md (default: out/reading)
-tools/reading-list --check    writes nothing; prints the counts, and fails if
+tools/reading-list.py [FOLDER]   writes FOLDER/headline.md and FOLDER/rest.md (default: out/reading)
+tools/reading-list.py --check    writes nothing; prints the counts, and fails if
   - a definition is in specs/ that belongs in specs/inside/, or the other way round
   - a name is used and no page defines it, or two constants or types of a crate have one name
   - a word of the language or of the kit's libraries has no line in tools/library-words.txt

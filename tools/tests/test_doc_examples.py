@@ -1,4 +1,4 @@
-"""Tests of tests/docs/examples, on a small repository that is made for each."""
+"""Tests of tests/docs/examples.py, on a small repository that is made for each."""
 
 from pathlib import Path
 

@@ -53,7 +53,7 @@ def test_a_crate_that_is_not_proved_and_why() -> None:
 
 
 def test_lines_about_a_trial_are_taken_from_what_the_program_prints() -> None:
-    loader = SourceFileLoader("trial", str(TOOLS / "try"))
+    loader = SourceFileLoader("trial", str(TOOLS / "try.py"))
     spec = spec_from_loader("trial", loader)
     assert spec
     trial = module_from_spec(spec)

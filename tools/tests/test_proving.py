@@ -1,4 +1,4 @@
-"""Tests of tools/prove: its crates, the line, and whole runs with a false `rt`."""
+"""Tests of tools/prove.py: its crates, the line, and whole runs with a false `rt`."""
 
 import io
 import os
@@ -151,7 +151,7 @@ def made_room(tmp_path: Path) -> Path:
 
 
 def prove(room: Path, *programs: str, **more: str) -> subprocess.CompletedProcess[str]:
-    """Runs tools/prove in the repository, with the false `rt` first on the path."""
+    """Runs tools/prove.py in the repository, with the false `rt` first on the path."""
     path = f"{room / 'bin'}:{os.environ['PATH']}"
     given = {
         "PATH": path,

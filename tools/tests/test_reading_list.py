@@ -1,4 +1,4 @@
-"""Tests of tools/reading-list, on a small repository that is made for each."""
+"""Tests of tools/reading-list.py, on a small repository that is made for each."""
 
 from pathlib import Path
 
@@ -420,7 +420,7 @@ def test_usage(top: Path, capsys: pytest.CaptureFixture[str]) -> None:
     assert run(top, ["--help"]) == 0
     assert run(top, ["a", "b"]) == 2
     assert run(top, ["--what"]) == 2
-    assert capsys.readouterr().err.count("tools/reading-list --check") == 3
+    assert capsys.readouterr().err.count("tools/reading-list.py --check") == 3
 
 
 def test_clauses_end_at_the_brace_that_closes_them(top: Path) -> None:

@@ -1,4 +1,4 @@
-"""Sees that the steps of tests/soak in tests/hostile fail, each for a program with one fault.
+"""Sees that the steps of tests/soak.sh in tests/hostile fail, each for a program with one fault.
 
 The programs are stubs: they answer as far as a step needs, with the fault that their name says.
 """
@@ -105,7 +105,7 @@ def stubs(folder: Path, fault: str, answer: str, kind: str = "", most: int = 0) 
 def step(name: str, *words: str) -> tuple[int, str]:
     """Runs a step, and returns its status and what it prints."""
     done = subprocess.run(
-        [sys.executable, os.path.join(TOP, "tests", "hostile", name), *words],
+        [sys.executable, os.path.join(TOP, "tests", "hostile", f"{name}.py"), *words],
         stdout=subprocess.PIPE,
         stderr=subprocess.STDOUT,
         text=True,

@@ -26,7 +26,7 @@ PROGRAMS = Programs()
 @cache
 def bench(activities: int) -> bytes:
     """Returns the deck of the benchmark with so many activities."""
-    command = ["python3", str(TOP / "tests" / "speed" / "large-deck"), "bench", str(activities)]
+    command = ["python3", str(TOP / "tests" / "speed" / "large-deck.py"), "bench", str(activities)]
     return subprocess.run(command, capture_output=True, check=True).stdout
 
 

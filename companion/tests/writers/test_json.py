@@ -109,7 +109,7 @@ def test_a_document_is_valid_by_its_own_schema() -> None:
 
 
 def test_the_schemas_of_the_documents_are_up_to_date() -> None:
-    """tools/json-schemas writes them."""
+    """tools/json-schemas.py writes them."""
     assert sorted(path.name for path in SCHEMAS.iterdir()) == sorted(schemas())
     for name, schema in schemas().items():
         assert json.loads((SCHEMAS / name).read_text()) == json.loads(json.dumps(schema)), name
