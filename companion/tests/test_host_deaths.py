@@ -19,7 +19,7 @@ from pert_companion.programs.client import Programs
 
 PROGRAMS = Programs()
 COMMAND = TOP / "companion" / "bin" / "pert-portfolio"
-SHORT_SILENCE = 12
+SHORT_SILENCE = 30
 """Seconds, more than the pause between two signs of life."""
 NEEDED = ("parallel", "ssh", "ssh-keygen", "sshd", "ip")
 DECK = """PROJECT,P{number},S,T,2026-03-02,1,,Project {number}
@@ -157,7 +157,7 @@ def rows_by(
     lost_at = None
     for number, row in asked.rows(list(enumerate(jobs))):
         rows[number] = row
-        if lost_at is None and met.read_text().split().count(hosts[-1].namespace) == 2:
+        if lost_at is None and met.read_text().split().count(hosts[-1].namespace) >= 2:
             lost_at = time.monotonic()
             lose()
     assert lost_at is not None and hosts[0].namespace in met.read_text()
@@ -184,4 +184,4 @@ def test_the_other_host_makes_the_rows_of_one_that_is_unplugged_half_way(
     fault = f"was silent for {SHORT_SILENCE} seconds"
     assert found.left_out == [f"root@{hosts[-1].address}: {fault}"]
     assert found.rows == [row_of(PROGRAMS, job) for job in jobs]
-    assert found.seconds < 60
+    assert found.seconds < 240

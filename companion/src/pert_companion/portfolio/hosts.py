@@ -28,7 +28,7 @@ from pert_companion.portfolio.stored import row_from
 MOST_BYTES = 1024 * 1024
 TOGETHER = 4
 """The decks that go to a host in one connection."""
-SILENCE = 30
+SILENCE = 60
 """The seconds after which a host that sends nothing is left out."""
 SSH = "ssh -o BatchMode=yes -o ConnectTimeout=20"
 """Asks for no password."""
@@ -154,7 +154,8 @@ class _Round:
         words += ["--joblog", str(folder / "log"), "--tagstring", "{#}"]
         words += ["--pipepart", "--arg-file", str(folder / "decks")]
         words += ["--block", "1", "--recend", r"\n\n", "--line-buffer", "--halt", "soon,fail=1"]
-        return [*words, f"{self._command} --worker"]
+        # The first sign of life comes before a worker that takes long to begin.
+        return [*words, f"echo; {self._command} --worker"]
 
     def _read(self, running: "subprocess.Popen[bytes]") -> Answers:
         """Yields the rows that hosts write."""
