@@ -66,8 +66,8 @@ def test_a_page_has_the_ledger_and_the_tables(
     page = tmp_path / "february.html"
     text = pump_page(EXAMPLES / "pump", page)
     assert "· as of 28 Feb 2026<" in text and "1 Mar 2026<" not in text
-    assert "Level of effort in BAC, earned as planned</dt><dd>31,800.00<" in text
-    assert "Management reserve, in no baseline</dt><dd>15,000.00<" in text
+    assert "Level of effort</a></dt><dd>31,800.00<" in text
+    assert "Management reserve</a></dt><dd>15,000.00<" in text
     assert "Credits since the last report" in text and "Credit note: tipping" in text
     assert "of the time before it changed" not in text
     capsys.readouterr()

@@ -79,7 +79,7 @@ def choice(gathered: Gathered, words: Words) -> Choice:
     """Returns the figures of the length that is chosen at first."""
     rest = gathered.state.rest
     option = chosen_option(rest, gathered.length)
-    costs = [("cost", "Work", plain(words.money(option.work)))]
+    costs = [("cost", "Cost of the work", plain(words.money(option.work)))]
     if rest.deck.terms is not None:
         price = time_price(rest.deck.terms, option.length)
         costs.append(("overhead", "Overhead", plain(words.money(price.overhead))))

@@ -171,6 +171,7 @@ def gather(source: Source, progress: Progress) -> Gathered:
     lengths = {length, rest.longest, *(option.length for option in listed)}
     answer, certificate = _certified(state, lengths, progress)
     progress("simulating")
+    sure = sureness(rest)
     period = _period(state)
     return Gathered(
         source=source,
@@ -182,8 +183,8 @@ def gather(source: Source, progress: Progress) -> Gathered:
         planned=planned_tasks(state, baseline),
         contract=contract,
         options=listed,
-        sureness=sureness(rest),
-        chances=_chances(state, [length, *(option.length for option in listed)]),
+        sureness=sure,
+        chances=_chances(state, [length, *(option.length for option in listed)], sure),
         load=_load(state, period),
         period=period,
         earned=earned_value(state, plan) if state.has_begun else None,
@@ -217,11 +218,18 @@ def _certified(
     return answer, compactor.text()
 
 
-def _chances(state: ProjectState, lengths: Iterable[int]) -> dict[int, Fraction]:
-    """Returns the chances of schedules of these lengths to end by their last days."""
+def _chances(
+    state: ProjectState, lengths: Iterable[int], today: Sureness | None
+) -> dict[int, Fraction]:
+    """Returns the chances of schedules of these lengths to end by their last days.
+
+    `today` is how sure the longest one is, in which nothing is shortened.
+    """
     found = {}
     for length in dict.fromkeys(lengths):
-        sure = sureness(state.rest, state.rest.point(length).durations, has_drivers=False)
+        sure = today
+        if length < state.rest.longest:
+            sure = sureness(state.rest, state.rest.point(length).durations, has_drivers=False)
         if sure is not None:
             end = state.rest.clock.end(length)
             found[length] = sure.runs.chance_of(length) if end is None else sure.chance_by(end)

@@ -142,19 +142,19 @@ def ratio_text(ratio: Fraction | None) -> str:
 def earned_forecasts(earned: EarnedValue, words: Words) -> tuple[tuple[str, str], ...]:
     """Returns what the ratios say about the end, as names and texts."""
     total, money = earned.total, words.money
-    found = [("BAC, budget at completion", money(round(total.bac)))]
+    found = [("Budget at completion (BAC)", money(round(total.bac)))]
     for name, amount in (
-        ("EAC if the rest costs what was planned", total.eac_by_plan),
-        ("EAC if the rest costs as the work so far (BAC / CPI)", total.eac_by_cpi),
-        ("EAC if cost and time go on as they did", total.eac_by_both),
+        ("EAC at planned cost", total.eac_by_plan),
+        ("EAC at the CPI so far", total.eac_by_cpi),
+        ("EAC at CPI and SPI so far", total.eac_by_both),
     ):
         found.append((name, "\u2013" if amount is None else money(round(amount))))
-    found.append(("TCPI, the CPI that the rest needs", ratio_text(total.tcpi)))
+    found.append(("TCPI", ratio_text(total.tcpi)))
     measure = words.measure
     tenths = round(earned.schedule_variance * 10 * measure.unit_minutes / measure.day_minutes)
     sign = "\u2212" if tenths < 0 else ""
     text = f"{sign}{abs(tenths) // 10}.{abs(tenths) % 10} {words.day}s"
-    found.append(("SV(t), earned schedule less time passed", text))
+    found.append(("SV(t)", text))
     found.append(("SPI(t)", ratio_text(earned.spi_of_time)))
     return (*found, *budgets_apart(earned, words))
 
@@ -163,17 +163,17 @@ def budgets_apart(earned: EarnedValue, words: Words) -> Iterator[tuple[str, str]
     """Yields what the total is made of, and the budgets that are not in it, where there are any."""
     effort = earned.of(Scope.EFFORT)
     if effort.bac:
-        yield "Level of effort in BAC, earned as planned", words.money(effort.bac)
+        yield "Level of effort", words.money(effort.bac)
     undistributed = earned.of(Scope.UNDISTRIBUTED).bac
     if undistributed:
-        yield "Undistributed budget, not in BAC", words.money(undistributed)
+        yield "Undistributed budget", words.money(undistributed)
     if earned.changed:
-        yield "Changes since the baseline, not in BAC", words.money(earned.changed)
+        yield "Changes since the baseline", words.money(earned.changed)
     if undistributed or earned.changed:
-        yield "Budget of the baseline with both", words.money(earned.baseline_budget)
+        yield "Performance measurement baseline", words.money(earned.baseline_budget)
     reserve = earned.of(Scope.RESERVE).bac
     if reserve:
-        yield "Management reserve, in no baseline", words.money(reserve)
+        yield "Management reserve", words.money(reserve)
 
 
 def money_chart(gathered: Gathered, words: Words) -> Chart | None:
