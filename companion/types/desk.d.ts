@@ -248,6 +248,8 @@ interface Project {
     data_date: Day | null;
     has_begun: boolean;
     has_side_file: boolean;
+    /** Why tasks cannot be added or removed, nor links changed; or empty. */
+    tasks_fixed: string;
     first_day: Day;
     /** The planner's file, and whether it is in the folder; null for a deck written by hand. */
     source: { name: string; format: string; is_here: boolean; planner: string } | null;

@@ -22,6 +22,7 @@ KEYS = {
     "ArrowRight": 39,
     "ArrowDown": 40,
     "Delete": 46,
+    "Insert": 45,
     "F2": 113,
 }
 """Keys without a text, with the codes that a keyboard has for them."""

@@ -32,6 +32,10 @@ from desk.opened import (
 from desk.serving import DeskProcess
 from page.browser import CHROMIUM, Browser, Page
 from page.layout import faults_of_structure
+from pert_companion.desk.edits import edit_of, with_edits
+from pert_companion.desk.projects import books_of
+from pert_companion.desk.saving import files_of, read_files
+from pert_companion.model.deck import read_deck
 from running import EXAMPLES, HOUSE
 
 pytestmark = pytest.mark.skipif(CHROMIUM is None, reason="chromium is missing")
@@ -221,7 +225,7 @@ def test_keyboard_alone(browser: Browser, desk: DeskProcess) -> None:
     """From the folder to a changed, saved plan at a chosen length, without a mouse."""
     page = folder_page(browser, desk)
     page.run("document.body.focus()")
-    tab_to(page, "document.activeElement.textContent === 'house'")
+    tab_to(page, "document.activeElement.textContent === 'House, two floors'")
     press(page, "Enter")
     page.wait("location.pathname.startsWith('/projects/')")
     page.wait("document.documentElement?.classList.contains('live') === true")
@@ -269,6 +273,67 @@ def test_second_tab_is_told(browser: Browser, desk: DeskProcess) -> None:
     go_to(second, "Paint", "Normal")
     assert cell(second)[1] == "7"
     assert complaints(first) == complaints(second) == []
+
+
+@pytest.mark.parametrize("choice", ["Take that file, with my edits on top", "Stay with mine"])
+def test_a_file_that_somebody_else_changed(
+    browser: Browser, desk: DeskProcess, tmp_path: Path, choice: str
+) -> None:
+    """The page tells it by itself, with the difference; no edit is lost, on either side."""
+    page, deck = house(browser, desk), tmp_path / "plans" / "house.csv"
+    set_cell(page, "Roof", "Cost", "1234")
+    theirs = edited(deck, "WALLS.normal=9")
+    deck.write_bytes(theirs)
+    page.wait("!document.getElementById('trouble').hidden")
+    assert "Somebody else changed the file." in page.text("#trouble")
+    assert "normal duration" in page.text("#trouble details")
+    assert "+ACT,WALLS" in page.run("document.querySelector('#trouble .diff').textContent")
+    buttons = "[...document.querySelectorAll('#trouble button')]"
+    page.run(f"{buttons}.find((it) => it.textContent === '{choice}').click()")
+    page.wait("document.getElementById('trouble').hidden")
+    has_settled(page)
+    set_cell(page, "Paint", "Cost", "777")
+    press(page, "s", CONTROL)
+    page.wait("document.getElementById('saved').textContent === 'saved'")
+    costs = {card.code: card.cost for card in read_deck(deck).activities}
+    normals = {card.code: card.normal for card in read_deck(deck).activities}
+    assert (costs["ROOF"], costs["PAINT"]) == (1234, 777)
+    assert (normals["WALLS"] == 9) == choice.startswith("Take")
+    kept = tmp_path / "plans" / ".pert-desk" / "before" / "house"
+    assert any(file.read_bytes() == theirs for file in kept.glob("*.csv"))
+    assert complaints(page) == []
+
+
+def edited(deck: Path, word: str) -> bytes:
+    """Returns the deck of a file after an edit by the package."""
+    books = with_edits(books_of(read_files(deck), deck), [edit_of(word)])
+    return files_of(books).deck
+
+
+def test_a_task_is_added_linked_and_removed_by_keyboard(browser: Browser, tmp_path: Path) -> None:
+    """Insert names it, its links are written by row; Ctrl+Delete removes it, and undo brings it."""
+    with DeskProcess(copied(tmp_path / "plans", [])) as desk:
+        desk.enter()
+        desk.imported(EXAMPLES / "garden.xml")
+    with DeskProcess(tmp_path / "plans") as desk:
+        page = project_page(folder_page(browser, desk), "garden")
+        go_to(page, "Pour the slab", "Task")
+        press(page, "Insert")
+        assert focused(page) == "new-task"
+        write(page, "Lay the drain")
+        press(page, "Enter")
+        page.wait("document.querySelector('#tasks .at')?.textContent === 'Lay the drain'")
+        assert focused(page) == "tasks"
+        set_cell(page, "Lay the drain", "After", "3SS+2d")
+        go_to(page, "Lay the drain", "After")
+        assert cell(page)[1] == "T3SS+2d"
+        press(page, "Delete", CONTROL)
+        page.wait("document.getElementById('shown').textContent === '7 tasks'")
+        press(page, "z", CONTROL)
+        page.wait("document.getElementById('shown').textContent === '8 tasks'")
+        go_to(page, "Lay the drain", "After")
+        assert cell(page)[1] == "T3SS+2d"
+        assert complaints(page) == []
 
 
 def set_cell_or_wait(page: Page, task: str, column: str, text: str) -> None:

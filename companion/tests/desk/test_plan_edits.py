@@ -28,6 +28,7 @@ from pert_companion.model.plan import Crash, Group, Lag, Link, LinkKind, Plan, T
 from running import EXAMPLES
 
 DAY = 480
+Outline = tuple[Task | Group, ...]
 FOUR = tuple(Task(name, f"row {name}", name, 4 * DAY) for name in ("Dig", "Pour", "Walls", "Roof"))
 KINDS = ("FS", "SS", "FF", "SF")
 
@@ -41,7 +42,7 @@ def books_of_plan(plan: Plan, unit: str = "auto") -> Books:
     return Books(carried.deck, carried.side, True, Ledger(), False)
 
 
-def plan_of(*links: Link, tasks: tuple[Task | Group, ...] = FOUR) -> Plan:
+def plan_of(*links: Link, tasks: Outline = FOUR) -> Plan:
     """Returns a plan of four tasks of 4 days."""
     return Plan("Chain", FIRST_DAY, Calendar(), tasks, links)
 
@@ -111,7 +112,7 @@ def test_links_name_tasks_by_row_too() -> None:
 @settings(max_examples=example_count(60))
 @given(plans(ALL_FEATURES))
 def test_an_unchanged_deck_is_made_again(plan: Plan) -> None:
-    """The deck that is made of the ties of a deck is the same, with loads, statuses and side file."""
+    """The deck that is made of the ties of a deck is the same, and its side file."""
     try:
         before = books_of_plan(plan, "60")
     except InputError:
@@ -124,8 +125,8 @@ def test_an_unchanged_deck_is_made_again(plan: Plan) -> None:
 
 
 def test_a_new_task_is_that_of_an_import() -> None:
-    """It takes a day, follows another one in the table and is in its group; the rest is as it was."""
-    tasks = (Group("g", "", "Ground"), *(replace(each, parent="g") for each in FOUR))
+    """It takes a day, follows another one in the table and is in its group."""
+    tasks: Outline = (Group("g", "", "Ground"), *(replace(each, parent="g") for each in FOUR))
     links = link("Dig", "Pour"), link("Pour", "Walls", "SS", 2)
     before = books_of_plan(plan_of(*links, tasks=tasks))
     new = Task("NEW", "", "New task", DAY, "g")
@@ -166,7 +167,12 @@ def test_the_last_task_stays() -> None:
 
 def test_the_end_of_a_group_goes_with_its_last_task() -> None:
     """What waited for the group waits for nothing then."""
-    tasks = (FOUR[0], Group("g", "", "Ground"), replace(FOUR[1], parent="g"), *FOUR[2:])
+    tasks: Outline = (
+        FOUR[0],
+        Group("g", "", "Ground"),
+        replace(FOUR[1], parent="g"),
+        *FOUR[2:],
+    )
     before = books_of_plan(plan_of(link("Dig", "Pour"), link("g", "Walls"), tasks=tasks))
     after = edited(before, "Pour.remove=")
     assert after.deck.afters == () and len(after.deck.tasks) == 3
@@ -233,11 +239,15 @@ LEADS = {Feature.LEADS, Feature.ELAPSED_LAGS, Feature.SHARE_LAGS, Feature.GROUP_
 SOME = st.tuples(st.integers(0, 11), st.sampled_from(KINDS), st.integers(0, 4))
 
 
+def _place(wanted: tuple[int, str, int]) -> int:
+    return wanted[0]
+
+
 @settings(max_examples=example_count(60))
 @given(
     plans(ALL_FEATURES - LEADS),
     st.integers(0, 11),
-    st.lists(SOME, max_size=3, unique_by=lambda each: each[0]),
+    st.lists(SOME, max_size=3, unique_by=_place),
 )
 def test_links_of_a_task_are_those_of_an_import(
     plan: Plan, place: int, wanted: list[tuple[int, str, int]]

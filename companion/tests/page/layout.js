@@ -1,6 +1,7 @@
 // What is wrong with the layout of the page in the window, each once: overlaps, cut texts, contrast.
 (() => {
     const ROUNDING = 1;         // pixels by which boxes of letters may touch
+    const SCROLLED = ".wide, .rows, .network";
     const found = [];
     const add = (what, text) => found.push(`${what}: ${text.trim().slice(0, 60)}`);
 
@@ -25,7 +26,7 @@
     // ---- Overlaps: boxes of letters are as high as the line, so the middle of each counts
     const lines = texts.flatMap(({ node, rects }) => rects.map((rect) => {
         const margin = rect.height * 0.22;
-        return { node, left: rect.left, right: rect.right, top: rect.top + margin, bottom: rect.bottom - margin };
+        return { node, left: rect.left, right: Math.min(rect.right, endOf(node)), top: rect.top + margin, bottom: rect.bottom - margin };
     }));
     lines.sort((a, b) => a.top - b.top);
     lines.forEach((one, at) => {
@@ -38,12 +39,27 @@
         }
     });
 
+    // Returns where a text ends that is cut with an ellipsis.
+    function endOf(node) {
+        const box = node.parentElement.closest(".entry > div") ?? node.parentElement;
+        return getComputedStyle(box).textOverflow === "ellipsis" ? box.getBoundingClientRect().right : Infinity;
+    }
+
     // Whether a line is outside the part of a scrolled region that is seen.
-    function isScrolledAway({ node, left, right }) {
-        const region = node.parentElement.closest(".wide");
+    function isScrolledAway({ node, left, right, top, bottom }) {
+        const region = node.parentElement.closest(SCROLLED);
         if (region === null) return false;
         const box = region.getBoundingClientRect();
-        return right > box.right || left < box.left;
+        return right > box.right || left < box.left || bottom > box.bottom || top < box.top || isUnderFixed(node, region, left, top);
+    }
+
+    // Whether a text of a table is under the head or the column of names, which stay where they are.
+    function isUnderFixed(node, region, left, top) {
+        const fixed = node.parentElement.closest(".entry-heads, .entry > .name");
+        if (fixed !== null || !region.matches(".rows")) return false;
+        const head = region.querySelector(".entry-heads").getBoundingClientRect();
+        const name = region.querySelector(".entry-heads .name").getBoundingClientRect();
+        return top < head.bottom || left < name.right;
     }
 
     // ---- Touching texts: words of two elements with no space between them
@@ -62,18 +78,18 @@
     for (const { node, rects, element } of texts) {
         for (let box = element; box !== null && box !== document.documentElement; box = box.parentElement) {
             const style = getComputedStyle(box);
-            if (box.matches(".wide")) { // what is beyond its end cannot be scrolled to
+            if (box.matches(SCROLLED)) { // what is beyond its end cannot be scrolled to
                 const { left } = box.getBoundingClientRect();
                 const last = left - box.scrollLeft + box.scrollWidth;
                 if (rects.some((rect) => rect.left < left - box.scrollLeft - ROUNDING || rect.right > last + ROUNDING)) add("cut", node.data);
                 break;
             }
-            const isClipped = style.overflowX === "hidden" || style.overflowX === "clip";
+            const isClipped = style.textOverflow !== "ellipsis" && (style.overflowX === "hidden" || style.overflowX === "clip");
             if (!isClipped || box === document.body) continue;
             const { left, right } = box.getBoundingClientRect();
             if (rects.some((rect) => rect.left < left - ROUNDING || rect.right > right + ROUNDING)) add("cut", node.data);
         }
-        if (element.closest(".wide") === null && rects.some((rect) => rect.left < -ROUNDING || rect.right > innerWidth + ROUNDING))
+        if (element.closest(SCROLLED) === null && rects.some((rect) => rect.left < -ROUNDING || rect.right > innerWidth + ROUNDING))
             add("outside the window", node.data);
     }
 

@@ -29,12 +29,12 @@ def problems_opened(page: Page) -> list[str]:
     return problems(page)
 
 
-def problems_printed(page: Page) -> list[str]:
-    """Returns what is wrong with the layout on paper."""
+def problems_printed(page: Page, width: int = PAPER) -> list[str]:
+    """Returns what is wrong with the layout on paper of a width in pixels."""
     page.call("Emulation.setEmulatedMedia", media="print")
     page.call(
         "Emulation.setDeviceMetricsOverride",
-        width=PAPER,
+        width=width,
         height=1000,
         deviceScaleFactor=1,
         mobile=False,

@@ -119,7 +119,7 @@ def shares(node: Node, network: Network, amount: int) -> list[tuple[str, int]]:
 
 
 def shared(parts: Sequence[tuple[str, int]], amount: int) -> list[tuple[str, int]]:
-    """Returns an amount shared among parts, each with its units, by these; the first has the rest."""
+    """Returns an amount shared among parts by their units; the first has the rest."""
     total = sum(units for _, units in parts) or 1
     later = [amount * units // total for _, units in parts[1:]]
     found = [amount - sum(later), *later]

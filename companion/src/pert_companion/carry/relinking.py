@@ -62,7 +62,7 @@ class DeckTies:
 
 
 def remade(deck: Deck, side: SideFile, logic: Logic, dates: Recount) -> tuple[Deck, SideFile]:
-    """Returns the deck with its side file, made of a changed logic at the dates of normal durations.
+    """Returns the deck with its side file, made of a changed logic at its normal dates.
 
     Status cards stay with the cards that are still there, in the order of the work. Raises
     `InputError` that says why if a deck cannot hold a link.

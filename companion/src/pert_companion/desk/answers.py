@@ -6,6 +6,7 @@ from time import monotonic
 from pert_companion.desk.amounts import amounts_of
 from pert_companion.desk.changes import Change, changed_codes, changes_between, diff_between
 from pert_companion.desk.listing import name_of, planner_files
+from pert_companion.desk.plan_edits import why_links_are_fixed
 from pert_companion.desk.projects import OpenProject, Step, books_of
 from pert_companion.desk.saving import read_files
 from pert_companion.desk.views import (
@@ -40,6 +41,7 @@ def project_json(project: OpenProject, units: int | None) -> Json:
         "data_date": day_json(data_date(books)),
         "has_begun": state.has_begun,
         "has_side_file": books.has_side_file,
+        "tasks_fixed": why_links_are_fixed(books),
         "first_day": day_json(state.rest.clock.first_day),
         "source": _source(project),
         "step": amounts_of(books.side).measure.words(1),

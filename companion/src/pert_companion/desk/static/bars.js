@@ -4,6 +4,7 @@ import { DAY, dayText, drawing } from "./dom.js";
 const WEEKS = [1, 2, 4]; // between ticks
 const MONTHS = [1, 2, 3, 6, 12, 24, 60, 120];
 const APART = 64; // pixels between ticks
+const LETTER = 9; // pixels of a letter, and of the space around a label
 
 export class Axis {
     /**
@@ -43,7 +44,11 @@ export class Axis {
 /** Draws the axis into a heading. @param {Axis} axis */
 export function drawAxis(head, axis, asOf) {
     const svg = drawing("svg", { class: "axis", width: "100%", height: 24, "aria-hidden": "true" });
-    for (const { day, label } of axis.ticks(head.clientWidth || 300)) svg.append(drawing("text", { x: `${axis.at(day)}%`, y: 20 }, label));
+    const width = head.clientWidth || 300;
+    for (const { day, label } of axis.ticks(width)) {
+        const left = (axis.at(day) / 100) * width;
+        if (left + LETTER * label.length <= width) svg.append(drawing("text", { x: `${axis.at(day)}%`, y: 20 }, label));
+    }
     if (asOf) svg.append(drawing("line", { class: "today", x1: `${axis.at(asOf)}%`, x2: `${axis.at(asOf)}%`, y1: 0, y2: 24 }));
     head.replaceChildren(svg);
 }

@@ -9,6 +9,7 @@ import { element, onFrame } from "./dom.js";
 
 const ROW = 30; // pixels, as desk.css has it
 const MARGIN = 8; // rows above and below those in view
+const SHEET = 1000; // pixels of a sheet of paper that lies, between its margins
 const STEPS = { ArrowUp: [-1, 0], ArrowDown: [1, 0], ArrowLeft: [0, -1], ArrowRight: [0, 1], PageUp: [-15, 0], PageDown: [15, 0] };
 let grids = 0;
 
@@ -53,7 +54,9 @@ export class Grid {
         this.host.setAttribute("aria-colcount", String(columns.length));
         const tracks = columns.map(({ width, grow }) => (grow ? `minmax(${width}px, ${grow}fr)` : `${width}px`));
         this.host.style.setProperty("--columns", tracks.join(" "));
-        this.host.style.setProperty("--least", `${columns.reduce((sum, { width }) => sum + width, 0)}px`);
+        const least = columns.reduce((sum, { width }) => sum + width, 0);
+        this.host.style.setProperty("--least", `${least}px`);
+        this.host.style.setProperty("--shrink", String(Math.min(1, SHEET / least)));
         this.redraw();
     }
 
@@ -134,8 +137,8 @@ export class Grid {
         if (column.text !== undefined) made.append(column.text(row));
         column.draw?.(row, made);
         if (this.wishes.note?.(row, column.key)) made.setAttribute("aria-invalid", "true");
-        const why = this.wishes.why?.(row, column.key);
-        if (why) made.title = why;
+        const hint = this.wishes.why?.(row, column.key) || (column.kind === "text" ? made.textContent : "");
+        if (hint) made.title = hint;
         return made;
     }
 

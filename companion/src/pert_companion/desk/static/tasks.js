@@ -121,6 +121,10 @@ export class Tasks extends Rows {
         $("new-task").addEventListener("keydown", (event) => event.key === "Enter" && this.add());
         $("remove-task").addEventListener("click", () => this.remove());
         this.grid.host.addEventListener("keydown", (event) => this.press(event));
+        for (const id of ["new-task", "add-task", "remove-task"]) {
+            $(id).disabled = desk.project.tasks_fixed !== "";
+            if ($(id).disabled) $(id).title = desk.project.tasks_fixed;
+        }
         desk.addEventListener("added", (/** @type {CustomEvent} */ event) => this.find(event.detail));
     }
 
@@ -153,7 +157,7 @@ export class Tasks extends Rows {
         const keys = SETS[$("columns").value];
         const fields = FIELDS.filter(([key]) => keys.includes(key)).map((field) => this.fieldColumn(field));
         const number = { key: "row", head: "Row", width: 48, kind: "number", text: ({ task }) => (task?.row === null || task === null ? "" : String(task.row)) };
-        const code = { key: "code", head: "Code", hint: "What links call the task", width: 84, text: ({ task }) => task?.code ?? "" };
+        const code = { key: "code", head: "Code", hint: "What links call the task", width: 116, text: ({ task }) => task?.code ?? "" };
         this.grid.setColumns([nameColumn((key) => this.fold(key)), number, code, ...fields, ...dateColumns(), this.bars.column(200, 2)]);
         this.draw();
     }
