@@ -250,6 +250,12 @@ def xlsx_bytes(plan: Plan, form: Form, look: str = "level") -> bytes:
     free.append(["First", "Last", "Name"])
     for exception in plan.calendar.exceptions:
         free.append([exception.first, exception.last, exception.name])
+    limited = [resource for resource in plan.resources if resource.capacity is not None]
+    if limited:
+        people = book.create_sheet("Ressourcen" if form.german else "Resources")
+        people.append(["Name", "Max. Units"])
+        for resource in limited:
+            people.append([resource.name, resource.capacity])
     data = io.BytesIO()
     book.save(data)
     return data.getvalue()

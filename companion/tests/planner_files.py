@@ -243,7 +243,7 @@ def _mspdi_resources(plan: Plan) -> str:
         resources += (
             f"<Resource><UID>{number}</UID>{tag('Name', resource.name)}"
             f"{tag('Type', kinds[resource.kind])}{tag('MaterialLabel', label)}"
-            f"{tag('StandardRate', resource.rate)}</Resource>"
+            f"{tag('MaxUnits', resource.capacity)}{tag('StandardRate', resource.rate)}</Resource>"
         )
     by_uid = {resource.uid: resource for resource in plan.resources}
     assignments = ""
@@ -394,6 +394,16 @@ def _p6_resources(plan: Plan) -> list[dict[str, object]]:
     ]
 
 
+def _p6_rates(plan: Plan) -> list[dict[str, object]]:
+    """Returns how much of each resource there is, of those that are limited."""
+    found: list[dict[str, object]] = []
+    for number, resource in enumerate(plan.resources, 100):
+        if resource.capacity is not None:
+            row = {"rsrc_id": number, "max_qty_per_hr": resource.capacity}
+            found.append({**row, "start_date": "2026-01-01 00:00"})
+    return found
+
+
 def _p6_assignments(plan: Plan) -> list[dict[str, object]]:
     numbers = {resource.uid: number for number, resource in enumerate(plan.resources, 100)}
     kinds = {resource.uid: resource.kind for resource in plan.resources}
@@ -491,6 +501,7 @@ def xer_bytes(plan: Plan, codes: bool = False, encoding: str = "utf-8") -> bytes
         _xer_table("SCHEDOPTIONS", [options] if plan.calendars else []),
         _xer_table("PROJWBS", groups),
         _xer_table("RSRC", _p6_resources(plan)),
+        _xer_table("RSRCRATE", _p6_rates(plan)),
         _xer_table("TASK", [_p6_task(task, codes, plan) for task in tasks]),
         _xer_table("TASKPRED", _xer_links(plan)),
         _xer_table("TASKRSRC", _p6_assignments(plan)),
@@ -613,6 +624,12 @@ def _pmxml_resources(plan: Plan) -> str:
         found += (
             f"<Resource>{tag('ObjectId', row['rsrc_id'])}{tag('Name', row['rsrc_name'])}"
             f"{tag('ResourceType', kind)}{tag('UnitOfMeasureObjectId', row['unit_id'])}</Resource>"
+        )
+    for rate in _p6_rates(plan):
+        found += (
+            f"<ResourceRate>{tag('ResourceObjectId', rate['rsrc_id'])}"
+            f"{tag('MaxUnitsPerTime', rate['max_qty_per_hr'])}"
+            f"{tag('EffectiveDate', '2026-01-01T00:00:00')}</ResourceRate>"
         )
     units = {resource.unit for resource in plan.resources if resource.unit != "h"}
     for unit in sorted(units):

@@ -11,6 +11,7 @@ from hypothesis import given, settings
 from hypothesis import strategies as st
 
 from pert_companion.model.calendar import STANDARD_DAY, Calendar, CalendarException
+from pert_companion.model.capacities import Capacity
 from pert_companion.model.errors import InputError
 from pert_companion.model.plan import Baseline, Constraint, ConstraintKind
 from pert_companion.model.sidefile import (
@@ -222,3 +223,18 @@ def test_any_value_is_read_or_refused(field: str, value: object) -> None:
         from_json(changed(**{field: value}), "wing.json")
     except InputError as error:
         assert str(error).startswith("wing.json: ")
+
+
+def test_capacities() -> None:
+    """They are written and read back; one without units, or with a wrong mark, is a line."""
+    capacities = (
+        Capacity("CREW", "Crew", Decimal("2.5"), 60),
+        Capacity("SAND", "Sand, washed", Decimal(4), 1000, True),
+    )
+    side = replace(SIDE, capacities=capacities)
+    assert from_json(to_json(side), "wing.json") == side
+    assert "capacities" not in json.loads(to_json(SIDE))
+    entry = json.loads(to_json(side))["capacities"][0]
+    for field, value in (("units", "-1"), ("units", None), ("hourly", 0), ("said", 1)):
+        with pytest.raises(InputError, match=rf"^wing\.json: capacities\[0\]\.{field}: "):
+            from_json(changed(capacities=[{**entry, field: value}]), "wing.json")

@@ -55,7 +55,7 @@ _pert_companion() {
         esac
         ;;
     pert-import)
-        options='-h --help --version -o --output --overwrite --accept --strict --differences --unit --cents --no-progress --with --contract --overhead --bonus --penalty --crash-sheet --with-crash --overtime --name --start --as-of --calendar --holidays --crash-field --crash-cost-field --column --sheet --decimal --encoding --day-first --month-first --day-hours --week-hours --month-days --json --bin'
+        options='-h --help --version -o --output --overwrite --accept --strict --differences --unit --cents --no-progress --with --contract --overhead --bonus --penalty --capacity --crash-sheet --with-crash --overtime --name --start --as-of --calendar --holidays --crash-field --crash-cost-field --column --sheet --decimal --encoding --day-first --month-first --day-hours --week-hours --month-days --json --bin'
         case $3 in
         -o | --output) value='file' ;;
         --with) value='file' ;;
@@ -65,7 +65,7 @@ _pert_companion() {
         --decimal) choices='. ,' ;;
         --month-days) choices='1 2 3 4 5 6 7 8 9 10 11 12 13 14 15 16 17 18 19 20 21 22 23 24 25 26 27 28 29 30 31' ;;
         --bin) value='file' ;;
-        --accept | --unit | --contract | --overhead | --bonus | --penalty | --overtime | --name | --start | --as-of | --calendar | --crash-field | --crash-cost-field | --column | --sheet | --encoding | --day-hours | --week-hours) value='none' ;;
+        --accept | --unit | --contract | --overhead | --bonus | --penalty | --capacity | --overtime | --name | --start | --as-of | --calendar | --crash-field | --crash-cost-field | --column | --sheet | --encoding | --day-hours | --week-hours) value='none' ;;
         esac
         ;;
     pert-ledger)
@@ -113,7 +113,7 @@ _pert_companion() {
         esac
         ;;
     pert-schedule)
-        options='-h --help --version --length --by --optimum --normal --bin --plan --gantt --critical --next --resource --order --chance --csv --json --forecast --baseline --left'
+        options='-h --help --version --length --by --optimum --normal --bin --plan --gantt --critical --next --resource --order --load --chance --csv --json --forecast --baseline --left'
         case $3 in
         --bin) value='file' ;;
         --order) choices='start plan' ;;

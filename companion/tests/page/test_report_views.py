@@ -25,6 +25,7 @@ from pert_companion.page import changed, charts, checks, chooser, decision, firs
 from pert_companion.page.bridges import account_moves
 from pert_companion.page.doubts import doubts_table
 from pert_companion.page.gathering import Gathered
+from pert_companion.page.load import load_view
 from pert_companion.page.report import page_of
 from pert_companion.page.view import Line, signed
 from pert_companion.page.words import Words, day_text, number_text, plural, shown, words_of
@@ -412,8 +413,9 @@ def test_money_tables_add_up(house: Gathered) -> None:
     chart = money.money_chart(house, DAYS)
     assert chart is not None
     assert [series.name for series in chart.series] == ["planned", "earned", "spent", "forecast"]
-    load = money.load(house, DAYS)
+    load = load_view(house, DAYS)
     assert load is not None and load.left_out == 0 and len(load.charts) == 5
+    assert load.above is None and load.lead.startswith("What is still to be spent")
 
 
 def test_the_lines_of_money_are_of_the_packages_of_earned_value(house: Gathered) -> None:
@@ -436,8 +438,11 @@ def test_the_lines_of_money_are_of_the_packages_of_earned_value(house: Gathered)
 def test_the_load_of_a_running_project_is_what_is_to_go(house: Gathered) -> None:
     """Nothing of the finished site is spent again: 10,800 are to go for tasks, 1.4 apart."""
     assert house.load is not None
-    assert sum(house.load.items["1"].values()) == 11800 - 800
-    assert house.load.items["1.1.1"] == {}
+    assert sum(house.load.costs) == 11800 - 800
+    labour = house.load.resources[0]
+    assert (labour.code, labour.capacity) == ("LABOUR", None)
+    left = {card.activity: card.quantity for card in house.state.rest.deck.loads}
+    assert "SITE" not in left and house.load.rest_of == date(2024, 3, 18)
 
 
 def test_the_contract_date_is_that_of_the_project_card(tmp_path: Path) -> None:

@@ -277,21 +277,21 @@ def network_at(network: Deck, point: results.Point) -> Deck:
     """
     pieces = _pieces_of(network)
     activities = []
-    budgets: dict[str, int] = {}
     for card in network.activities:
         units = point.durations[card.code]
         cost = cost_of(card, pieces.get(card.code, []), units)
         days = dict.fromkeys(("optimistic", "likely", "pessimistic", "normal", "crash"), units)
         activities.append(replace(card, **days, cost=cost, slope=0))
-        budgets[card.item] = budgets.get(card.item, 0) + cost
-    return replace(
-        network,
-        activities=tuple(activities),
-        pieces=(),
-        accounts=tuple(AccountCard(item, item, budget) for item, budget in budgets.items()),
-        charges=(),
-        to_go=(),
-    )
+    return with_accounts(replace(network, activities=tuple(activities), pieces=()))
+
+
+def with_accounts(network: Deck) -> Deck:
+    """Returns a network in which each item has one account: what its activities cost."""
+    budgets: dict[str, int] = {}
+    for card in network.activities:
+        budgets[card.item] = budgets.get(card.item, 0) + card.cost
+    accounts = tuple(AccountCard(item, item, budget) for item, budget in budgets.items())
+    return replace(network, accounts=accounts, charges=(), to_go=())
 
 
 def _pieces_of(network: Deck) -> dict[str, list[PieceCard]]:

@@ -22,6 +22,7 @@ from pert_companion.carry.order import find_early_dates, in_order
 from pert_companion.carry.progress import Statuses, Times, has_progress
 from pert_companion.carry.terms import Prices, terms_card
 from pert_companion.carry.ties import Ties
+from pert_companion.model.capacities import Capacity
 from pert_companion.model.cards import ProjectCard, TermsCard
 from pert_companion.model.deck import Deck
 from pert_companion.model.errors import InputError
@@ -105,6 +106,7 @@ class _Carrier:
         self.options = options
         self.spans = spans
         self.logic: Logic | None = None
+        self.capacities: tuple[Capacity, ...] = ()
         self.losses: list[Loss] = []
         self.notes: list[str] = []
         self.plan = plan = self._since_the_start(_with_contract(plan, options.terms))
@@ -138,6 +140,7 @@ class _Carrier:
         side = side_file(self.plan, self.nodes, network, self.outline.groups, self.unit_minutes)
         side = replace(side, deck_name=deck_name, money_scale=self.money.scale)
         side = replace(side, terms=self.options.terms, logic=self.logic)
+        side = replace(side, capacities=self.capacities)
         side = fitted_to(side, deck)
         self.notes += constraint_notes(self.plan, self.nodes)
         kept = side_losses(self.plan)
@@ -236,6 +239,7 @@ class _Carrier:
         plan = self.plan
         used = loads.build(plan, self.nodes, network)
         self.losses += used.losses
+        self.capacities = used.capacities
         code = Codes().make(shortened(plan.name))
         name = title(plan.name)
         return Deck(

@@ -6,9 +6,10 @@ from dataclasses import dataclass
 from decimal import Decimal
 from fractions import Fraction
 
-from pert_companion.carry.codes import CODE, Codes, shortened, title
+from pert_companion.carry.codes import CODE, Codes, one_line, shortened, title
 from pert_companion.carry.model import Node
 from pert_companion.carry.network import Network
+from pert_companion.model.capacities import Capacity
 from pert_companion.model.cards import LoadCard, ResourceCard
 from pert_companion.model.losses import Loss, LossKind
 from pert_companion.model.plan import Assignment, Plan, Resource, ResourceKind
@@ -23,6 +24,7 @@ class Loads:
 
     resources: tuple[ResourceCard, ...]
     loads: tuple[LoadCard, ...]
+    capacities: tuple[Capacity, ...]
     losses: tuple[Loss, ...]
 
 
@@ -31,7 +33,12 @@ def build(plan: Plan, nodes: Mapping[str, Node], network: Network) -> Loads:
     builder = _Builder(plan, nodes, network)
     for resource in plan.resources:
         builder.add(resource)
-    return Loads(tuple(builder.cards), tuple(builder.loads), tuple(builder.losses))
+    return Loads(
+        tuple(builder.cards),
+        tuple(builder.loads),
+        tuple(builder.capacities),
+        tuple(builder.losses),
+    )
 
 
 @dataclass(frozen=True)
@@ -46,6 +53,7 @@ class _Builder:
     def __init__(self, plan: Plan, nodes: Mapping[str, Node], network: Network) -> None:
         self.cards: list[ResourceCard] = []
         self.loads: list[LoadCard] = []
+        self.capacities: list[Capacity] = []
         self.losses: list[Loss] = []
         self._codes = Codes()
         self._nodes = nodes
@@ -71,6 +79,10 @@ class _Builder:
         code = self._codes.take(name) if is_usable else self._codes.make(shortened(name))
         scale = _scale_of(resource, list(used.values()))
         self.cards.append(ResourceCard(code, title(f"{name} ({scale.name})")))
+        if resource.capacity is not None:
+            hourly = _hourly(resource, scale)
+            said = resource.is_capacity_said
+            self.capacities.append(Capacity(code, one_line(name), resource.capacity, hourly, said))
         for uid, quantity in used.items():
             self._add_load(self._nodes[uid], code, resource, Fraction(quantity) / scale.size)
 
@@ -111,6 +123,12 @@ def _scale_of(resource: Resource, quantities: Sequence[Decimal]) -> _Scale:
     if decimals == 0:
         return _Scale(unit, Fraction(1))
     return _Scale(f"1/{10**decimals} {unit}", Fraction(1, 10**decimals))
+
+
+def _hourly(resource: Resource, scale: _Scale) -> int:
+    """Returns what a unit of a resource does in an hour of work, in units of its card."""
+    unit = 60 if resource.kind is ResourceKind.WORK else 1
+    return int(unit / scale.size)
 
 
 def shares(node: Node, network: Network, amount: int) -> list[tuple[str, int]]:

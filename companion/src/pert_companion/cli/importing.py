@@ -19,7 +19,8 @@ from pert_companion.cli.writing import (
     outputs_of,
 )
 from pert_companion.importing import conversion as importing
-from pert_companion.importing.conversion import CrashSources, Imported
+from pert_companion.importing.capacities import kept_capacities
+from pert_companion.importing.conversion import Capacities, CrashSources, Imported
 from pert_companion.importing.last import last_import
 from pert_companion.importing.outcomes import import_outcome
 from pert_companion.importing.overtime import Overtime, parse_overtime
@@ -47,6 +48,7 @@ EXAMPLES = """\
   pert-import plan.xml --differences -o wing.csv        every task with other dates than the file's
   pert-import plan.xml --overhead 4000/day --contract 2026-08-11 --penalty 2500 -o april.csv
   pert-import plan.xml --with april.csv --accept same -o may.csv  as the last import was told
+  pert-import plan.xml --capacity Crane=1 --capacity Crew=3 -o wing.csv
 
 Statuses: 0; 1 if something is not carried over and not accepted (no deck is written), or if dates
 differ and --strict is given; 2 for wrong words. Losses have these kinds for --accept:
@@ -114,8 +116,8 @@ def _add_terms_options(command: argparse.ArgumentParser) -> None:
         dest="last",
         metavar="DECK",
         type=Path,
-        help="the deck of the last import of this plan: its terms hold on, and --accept same takes"
-        " what it accepted",
+        help="the deck of the last import of this plan: its terms and the capacities that it was"
+        " told hold on, and --accept same takes what it accepted",
     )
     command.add_argument(
         "--contract",
@@ -129,6 +131,29 @@ def _add_terms_options(command: argparse.ArgumentParser) -> None:
         ("penalty", "what each working day after the contract's date costs"),
     ):
         command.add_argument(f"--{name}", metavar="AMOUNT", type=price_word, help=what)
+    command.add_argument(
+        "--capacity",
+        metavar="NAME=UNITS",
+        type=capacity_word,
+        action="append",
+        default=[],
+        help="how many of a resource work at once, as Crane=1 or Crew=250%%; for a material, how"
+        " much of it an hour of work takes",
+    )
+
+
+def capacity_word(word: str) -> tuple[str, Decimal]:
+    """Returns the name and the units of a word such as `Crew=2.5` or `Crew=250%`."""
+    name, _, units = word.rpartition("=")
+    number = units.strip().removesuffix("%")
+    whole, mark, part = number.partition(".")
+    digits = whole + part
+    if not (name.strip() and digits.isascii() and digits.isdigit() and bool(mark) == bool(part)):
+        raise argparse.ArgumentTypeError(f"{word!r} is not NAME=UNITS such as Crew=2")
+    if len(whole) > 9 or len(part) > 4 or not int(digits):
+        raise argparse.ArgumentTypeError(f"{word!r} is no capacity from 0.0001 to 999999999")
+    found = Decimal(number)
+    return name.strip(), found / 100 if units.strip().endswith("%") else found
 
 
 def price_word(word: str) -> Decimal:
@@ -304,6 +329,7 @@ def run(options: argparse.Namespace) -> int:
         carry_options(options, terms_of(options, last)),
         deck,
         _crash_sources(options),
+        Capacities(dict(options.capacity), kept_capacities(last)),
     )
     for note in (*imported.plan.notes, *imported.carried.notes):
         say(NAME, f"note: {note}")

@@ -2,6 +2,7 @@
 
 from typing import Any
 
+from pert_companion.analysis.loading import Loading
 from pert_companion.analysis.money import MoneyOverTime
 from pert_companion.analysis.performance import Line, Performance
 from pert_companion.analysis.plausibility import Doubt
@@ -31,6 +32,7 @@ RESULTS: dict[str, Any] = {
     "pert-check-status": tuple[Doubt, ...],
     "pert-schedule": Schedule,
     "pert-schedule --forecast": ForecastSummary,
+    "pert-schedule --load": Loading,
     "pert-schedule --chance": ChanceSummary,
     "pert-remaining": RemainingSummary,
     "pert-days --count": DayCount,

@@ -4,6 +4,7 @@ import argparse
 import os
 import shutil
 import sys
+from collections.abc import Sequence
 from dataclasses import replace
 from datetime import date, timedelta
 from pathlib import Path
@@ -11,6 +12,7 @@ from pathlib import Path
 from pert_companion.analysis.contract import contract_of
 from pert_companion.analysis.forecast import forecast
 from pert_companion.analysis.lengths import LengthChoice
+from pert_companion.analysis.loading import chosen_loading
 from pert_companion.analysis.schedule import Schedule, ScheduledTask
 from pert_companion.analysis.scheduling import rest_schedule
 from pert_companion.cli.choosing import (
@@ -25,7 +27,7 @@ from pert_companion.cli.common import CommandParser, say
 from pert_companion.cli.opening import with_tables
 from pert_companion.model.errors import UsageError
 from pert_companion.state.project import ProjectState, open_state
-from pert_companion.writers import forecast_json
+from pert_companion.writers import forecast_json, loading_text
 from pert_companion.writers import forecast_text as forecast_writer
 from pert_companion.writers.csv_file import to_csv
 from pert_companion.writers.json_file import result_text
@@ -40,6 +42,7 @@ EXAMPLES = """\
   pert-schedule wing.csv --critical          the critical tasks alone
   pert-schedule wing.csv --next 30d          what is at work in the 30 days from the data date on
   pert-schedule wing.csv --resource Crane    the tasks of one resource
+  pert-schedule wing.csv --load --length 76  cost and resources by week, and what is too much
   pert-schedule wing.csv --chance            the even chance, and that of the contract date
   pert-schedule wing.csv --forecast          unfinished tasks, by what is left of each"""
 
@@ -58,6 +61,9 @@ def parser() -> CommandParser:
     command.add_argument("--resource", metavar="NAME", help="tasks that use a resource")
     command.add_argument(
         "--order", choices=("start", "plan"), default="start", help="by start, or as in the plan"
+    )
+    command.add_argument(
+        "--load", action="store_true", help="cost and resources by week, and what is too much"
     )
     command.add_argument(
         "--chance", action="store_true", help="how sure the end of what is left is (simulated)"
@@ -101,21 +107,26 @@ def selected(
         first = next_day(state)
         tasks = at_work(tasks, first, first + timedelta(days=options.next - 1))
     if options.resource is not None:
-        name = resource_name(schedule, options.resource)
+        name = resource_name(names_of_resources(schedule), options.resource)
         tasks = [task for task in tasks if name in task.resources]
     if options.order == "start":
         tasks.sort(key=lambda task: (task.start, task.finish))
     return tasks
 
 
-def resource_name(schedule: Schedule, wanted: str) -> str:
-    """Returns the name of a resource, which may be said without its unit: `Crew (hours)`.
-
-    Raises `UsageError` that offers the names there are if no task uses such a resource.
-    """
+def names_of_resources(schedule: Schedule) -> list[str]:
+    """Returns the names of the resources that tasks use, each once."""
     names: dict[str, None] = {}
     for task in schedule.tasks:
         names.update(dict.fromkeys(task.resources))
+    return list(names)
+
+
+def resource_name(names: Sequence[str], wanted: str) -> str:
+    """Returns the name of a resource, which may be said without its unit: `Crew (hours)`.
+
+    Raises `UsageError` that offers the names there are if it is none of them.
+    """
     for name in names:
         if wanted.casefold() in (name.casefold(), name.rpartition(" (")[0].casefold()):
             return name
@@ -145,6 +156,9 @@ def run(options: argparse.Namespace) -> int:
         raise UsageError("--baseline and --left go with --forecast")
     if options.chance:
         sys.stdout.write(chances(state, options))
+        return 0
+    if options.load:
+        sys.stdout.write(load_text(state, options))
         return 0
     sys.stdout.write(schedule_text(state, options))
     return 0
@@ -180,6 +194,21 @@ def forecast_text(state: ProjectState, options: argparse.Namespace) -> str:
         summary = forecast_json.summary_of(found, tasks)
         return result_text(f"{NAME} --forecast", state.side, summary)
     return forecast_writer.to_text(found, tasks)
+
+
+def load_text(state: ProjectState, options: argparse.Namespace) -> str:
+    """Returns what the schedule that the options choose loads, as a table, CSV or JSON."""
+    if options.gantt or options.critical or options.next is not None:
+        raise UsageError("--load has no --gantt, --critical or --next")
+    found = chosen_loading(state, length_choice(options), options.plan)
+    if options.resource is not None:
+        name = resource_name([each.name for each in found.resources], options.resource)
+        found = found.of_resource(name)
+    if options.csv:
+        return loading_text.to_csv(found).decode()
+    if options.json:
+        return result_text(f"{NAME} --load", state.side, found)
+    return loading_text.to_text(found, sys.stdout.isatty())
 
 
 def chances(state: ProjectState, options: argparse.Namespace) -> str:

@@ -1,7 +1,8 @@
 """From a planner's file to a deck and its side file: the steps of `pert-import`."""
 
-from collections.abc import Iterable
-from dataclasses import dataclass, replace
+from collections.abc import Iterable, Mapping
+from dataclasses import dataclass, field, replace
+from decimal import Decimal
 from pathlib import Path
 
 from pert_companion import readers
@@ -18,6 +19,7 @@ from pert_companion.carry import Carried, CarryOptions, carry, logic_of
 from pert_companion.carry.charges import with_ledger
 from pert_companion.carry.packages import with_effort
 from pert_companion.carry.units import unit_name
+from pert_companion.importing.capacities import with_capacities
 from pert_companion.importing.crash_sheet import candidates, crash_sheet, with_crash
 from pert_companion.importing.overtime import Overtime, propose_overtime
 from pert_companion.importing.pauses import can_pause, check_curve
@@ -69,16 +71,27 @@ class CrashSources:
     overtime: Overtime | None = None
 
 
+@dataclass(frozen=True)
+class Capacities:
+    """How much of resources there is, by name, besides what the file says."""
+
+    said: Mapping[str, Decimal] = field(default_factory=dict)
+    kept: Mapping[str, Decimal] = field(default_factory=dict)
+    """What the last import was told; a resource that is no longer there is passed over."""
+
+
 def import_plan(
     source: Source,
     options: ReaderOptions,
     carrying: CarryOptions,
     deck: Path | None,
     crash: CrashSources = CrashSources(),
+    capacities: Capacities = Capacities(),
 ) -> Imported:
     """Returns the deck of a planner's file. `deck` is where it will be, None if without side file.
 
-    Raises `InputError` that begins with the name of the file if it cannot be used at all.
+    Raises `InputError` that begins with the name of the file if it cannot be used at all, and
+    `UsageError` if a capacity is said of a resource that it does not have.
     """
     found = readers.detect(source)
     reading = readers.reader(found).read(source, options)
@@ -87,6 +100,7 @@ def import_plan(
         plan = replace(plan, data_date=options.data_date)
     if not plan.source:
         plan = replace(plan, source=found)
+    plan = with_capacities(plan, capacities.said, capacities.kept)
     plan, crash_losses = _with_crash(plan, crash)
     try:
         carried = carried_by_dates(plan, carrying, "" if deck is None else deck.name)

@@ -198,6 +198,11 @@ class Resource:
     rate: Decimal | None = None
     """Cost per hour, or per unit of a material."""
     overtime_rate: Decimal | None = None
+    capacity: Decimal | None = None
+    """How many of it work at once, or how much of a material an hour of work takes; None without
+    a limit."""
+    is_capacity_said: bool = False
+    """Whether the user said the capacity, and the source did not."""
 
 
 @dataclass(frozen=True)

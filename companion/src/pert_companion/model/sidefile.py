@@ -14,6 +14,7 @@ from typing import Any
 
 from pert_companion.model import strict
 from pert_companion.model.calendar import Calendar
+from pert_companion.model.capacities import Capacity, capacity_json, read_capacities
 from pert_companion.model.errors import InputError
 from pert_companion.model.lines import readable
 from pert_companion.model.logic import Logic, OwnTime
@@ -123,6 +124,8 @@ class SideFile:
     """What is not carried over from the source, as the user accepted it."""
     logic: Logic | None = None
     """The calendars and links of the source, if a deck says them only in part."""
+    capacities: tuple[Capacity, ...] = ()
+    """How much there is of the resources that are limited."""
 
     def calendar_of(self, task: SideTask) -> Calendar:
         """Returns the calendar by which a task is done."""
@@ -193,6 +196,8 @@ def to_json(side: SideFile) -> bytes:
         content.update(logic_json(side.logic))
     if side.accepted:
         content["accepted"] = [_loss_json(loss) for loss in side.accepted]
+    if side.capacities:
+        content["capacities"] = [capacity_json(each) for each in side.capacities]
     lines = []
     for key, value in content.items():
         lines.append(f"{json.dumps(key)}: {_value_text(value)}")
@@ -317,6 +322,7 @@ def from_json(data: bytes, name: str) -> SideFile:
         terms=_terms(fields),
         accepted=_accepted(fields),
         logic=read_logic(fields),
+        capacities=read_capacities(fields),
     )
     fields.end()
     _check_codes(side, name)

@@ -164,6 +164,13 @@ class Fields:
             raise self.fault(f"{text[:40]!r} is no decimal number", field)
         return Decimal(text)
 
+    def boolean(self, field: str) -> bool:
+        """Returns whether a field is true."""
+        value = self._value(field)
+        if not isinstance(value, bool):
+            raise self.fault("it is neither true nor false", field)
+        return value
+
     def inner(self, field: str) -> "Fields":
         """Returns the fields of an object in this one."""
         return Fields(self._value(field), self._name, self._path(field))

@@ -4,29 +4,31 @@ The schedule is that of the work that is left, which is the plan if nothing has 
 """
 
 from collections.abc import Callable, Collection, Iterable
-from dataclasses import dataclass, replace
+from dataclasses import dataclass
 from datetime import date
 from fractions import Fraction
 from functools import cached_property
 
-from pert_companion.analysis.contract import (
-    Contract,
-    contract_of,
-    held_dates,
-    load_day_minutes,
-)
+from pert_companion.analysis.contract import Contract, contract_of, held_dates
 from pert_companion.analysis.earned_value import EarnedValue, earned_value
 from pert_companion.analysis.forecast import current_end, is_done
 from pert_companion.analysis.latest import broken_lines
+from pert_companion.analysis.loading import Loading, loading
 from pert_companion.analysis.measured import measured_money
-from pert_companion.analysis.money import MoneyOverTime, network_to_go
+from pert_companion.analysis.money import MoneyOverTime
 from pert_companion.analysis.options import Option, chosen_option, optimal_length, options
 from pert_companion.analysis.own_baseline import own_baseline, planned_end
 from pert_companion.analysis.plausibility import Doubt, doubts
 from pert_companion.analysis.schedule import Schedule
-from pert_companion.analysis.scheduling import TaskDates, in_one_piece, normal_dates, schedule_at
+from pert_companion.analysis.scheduling import (
+    TaskDates,
+    normal_dates,
+    schedule_at,
+    settled_schedule,
+    with_actual_dates,
+)
+from pert_companion.analysis.settling import settled
 from pert_companion.analysis.sureness import Sureness, sureness
-from pert_companion.model.days import counted
 from pert_companion.model.errors import InputError, ProgramError
 from pert_companion.page.changed import Changed, changed
 from pert_companion.page.data import Compactor
@@ -70,8 +72,8 @@ class Gathered:
 
     It is empty if nothing is known.
     """
-    load: results.Load | None
-    period: int
+    load: Loading | None
+    """At the length that the page shows first."""
     earned: EarnedValue | None
     changes: Changed | None
     """What changed since the report before, if one is given."""
@@ -172,7 +174,6 @@ def gather(source: Source, progress: Progress) -> Gathered:
     answer, certificate = _certified(state, lengths, progress)
     progress("simulating")
     sure = sureness(rest)
-    period = _period(state)
     return Gathered(
         source=source,
         certificate=certificate,
@@ -185,8 +186,7 @@ def gather(source: Source, progress: Progress) -> Gathered:
         options=listed,
         sureness=sure,
         chances=_chances(state, [length, *(option.length for option in listed)], sure),
-        load=_load(state, period),
-        period=period,
+        load=_load(state, length),
         earned=earned_value(state, plan) if state.has_begun else None,
         changes=None if previous is None else changed(state, previous, baseline),
         money=_money(source),
@@ -305,24 +305,14 @@ class _Watch:
         self._progress(f"certify: segment {self._segments}, length {segment.upper}, {share} %")
 
 
-def _period(state: ProjectState) -> int:
-    """Returns the days of a period of the load: a week of work, or more if there are too many."""
-    rest = state.rest
-    week = max(1, rest.side.calendar.week_minutes // load_day_minutes(rest.side, rest.deck))
-    days = rest.longest * rest.deck.project.unit_days
-    return week * max(1, -(-days // (week * MOST_PERIODS)))
-
-
-def _load(state: ProjectState, period: int) -> results.Load | None:
-    """Returns the load of the work that is left by periods; None if `pert load` cannot say it.
+def _load(state: ProjectState, length: int) -> Loading | None:
+    """Returns the load of the work that is left at a length; None if `pert load` cannot say it.
 
     It takes at most 400 periods, of at most 3,660 days, and amounts that a card can have.
     """
-    rest = state.rest
-    network = network_to_go(state) if state.has_begun else rest.network
-    project = replace(network.project, directed=None)
-    network = counted(replace(network, project=project), rest.side)
+    found = settled(state.rest, length)
+    schedule = with_actual_dates(state, settled_schedule(found))
     try:
-        return rest.load(in_one_piece(network, rest.side, rest.normal), period)
+        return loading(state, found, schedule, MOST_PERIODS)
     except ProgramError:
         return None

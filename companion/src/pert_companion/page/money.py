@@ -1,4 +1,4 @@
-"""The sections of money: cost by item, earned value, and load by period."""
+"""The sections of money: cost by item, and earned value."""
 
 from collections.abc import Iterator
 from dataclasses import dataclass, replace
@@ -6,19 +6,16 @@ from datetime import date
 from fractions import Fraction
 from itertools import chain
 
-from pert_companion.analysis.contract import load_day_minutes
 from pert_companion.analysis.earned_value import EarnedValue, Figures, Scope
 from pert_companion.analysis.measured import packages_apart
 from pert_companion.analysis.money import ONE_DAY, MoneyPoint
 from pert_companion.model import figures
-from pert_companion.model.amounts import Measure
-from pert_companion.model.clock import Clock
 from pert_companion.page import charts
 from pert_companion.page.chooser import box_points
 from pert_companion.page.gathering import Gathered, item_amounts
+from pert_companion.page.load import LoadView, load_view
 from pert_companion.page.view import (
     Chart,
-    Column,
     Dot,
     Line,
     Row,
@@ -28,31 +25,9 @@ from pert_companion.page.view import (
     plain,
     title,
 )
-from pert_companion.page.words import MONTHS, Words, day_text, number_text, shown
-from pert_companion.programs import results
+from pert_companion.page.words import Words, shown
 
-COLUMN_HEIGHT = 110
 MONEY_HEIGHT = 220
-MOST_RESOURCES = 24
-
-
-@dataclass(frozen=True)
-class NamedChart:
-    """A chart under the name of what it shows."""
-
-    name: Line
-    chart: Chart
-
-
-@dataclass(frozen=True)
-class Load:
-    """What is spent, and used of each resource, in each period."""
-
-    charts: tuple[NamedChart, ...]
-    left_out: int
-    """Resources without a chart."""
-    period: str
-    table: Table
 
 
 @dataclass(frozen=True)
@@ -67,7 +42,7 @@ class Money:
     """What is said of earned value."""
     chart: Chart | None
     summary: Table | None
-    load: Load | None
+    load: LoadView | None
 
 
 def money(gathered: Gathered, words: Words) -> Money:
@@ -80,7 +55,7 @@ def money(gathered: Gathered, words: Words) -> Money:
         notes=() if earned is None else tuple(map(shown, earned.notes[:20])),
         chart=money_chart(gathered, words),
         summary=summary_table(gathered, words),
-        load=load(gathered, words),
+        load=load_view(gathered, words),
     )
 
 
@@ -246,85 +221,3 @@ def _day_ticks(first: date, x: charts.Scale) -> Iterator[Tick]:
     for offset, label, is_minor in charts.date_ticks(first, x.most):
         share = x.share(offset)
         yield Tick(charts.percent(share, 1), label, charts.anchor(share), is_minor)
-
-
-def load(gathered: Gathered, words: Words) -> Load | None:
-    """Returns the load by period, or None if there are too many periods."""
-    found = gathered.load
-    if found is None:
-        return None
-    state = gathered.state
-    top = next(code for code, _ in results.preorder(state.rest.network))
-    shown_resources = state.rest.network.resources[:MOST_RESOURCES]
-    starts = period_starts(gathered, found.periods)
-    money = found.items[top]
-    named = [NamedChart(plain("Cost"), columns(money, found.periods, starts, words, True))]
-    for card in shown_resources:
-        amounts = found.resources[card.code]
-        chart = columns(amounts, found.periods, starts, words, False)
-        named.append(NamedChart(title(shown(card.title or card.code)), chart))
-    rows = []
-    listed = shown_resources[:6]
-    for period in range(found.periods):
-        cells = [plain(words.digits(money.get(period, 0)))]
-        cells.extend(plain(number_text(found.resources[c.code].get(period, 0))) for c in listed)
-        rows.append(Row(plain(starts[period]), tuple(cells)))
-    heads = ("Period from", "Cost", *(shown(card.title or card.code) for card in listed))
-    table = Table("Load by period", heads, tuple(rows))
-    return Load(
-        tuple(named),
-        len(state.rest.network.resources) - len(shown_resources),
-        period_text(gathered, words),
-        table,
-    )
-
-
-def period_text(gathered: Gathered, words: Words) -> str:
-    """Returns how long a period is: `5 working days`."""
-    rest = gathered.state.rest
-    measure = Measure(load_day_minutes(rest.side, rest.deck), rest.side.calendar.day_minutes)
-    return replace(words, measure=measure).length(gathered.period)
-
-
-def period_starts(gathered: Gathered, periods: int) -> list[str]:
-    """Returns the day on which each period begins."""
-    state = gathered.state
-    minutes = load_day_minutes(state.rest.side, state.rest.deck)
-    clock = Clock(replace(state.rest.side, unit_minutes=minutes))
-    return [day_text(clock.begin(period * gathered.period)) for period in range(periods)]
-
-
-def columns(
-    amounts: dict[int, int], periods: int, starts: list[str], words: Words, is_money: bool
-) -> Chart:
-    """Returns a chart with a column for each period."""
-    write = words.digits if is_money else number_text
-    scale, ticks = charts.round_scale(0, max([1, *amounts.values()]), 3)
-    texts = [write(tick) for tick in ticks]
-    width = Fraction(100, max(1, periods))
-    drawn = []
-    for period, amount in sorted(amounts.items()):
-        share = scale.share(amount)
-        top = charts.pixels(share, COLUMN_HEIGHT)
-        height = charts.pixels(1 - share, COLUMN_HEIGHT)
-        x = charts.percent((period + Fraction(1, 10)) * width, 100)
-        label = f"{starts[period]}: {write(amount)}"
-        drawn.append(Column(x, charts.percent(width * 4 / 5, 100), top, height, label))
-    return Chart(
-        "Columns by period",
-        COLUMN_HEIGHT,
-        charts.margin_for(texts),
-        tuple(_period_ticks(starts, periods)),
-        charts.y_axis(COLUMN_HEIGHT, texts),
-        columns=tuple(drawn),
-    )
-
-
-def _period_ticks(starts: list[str], periods: int) -> Iterator[Tick]:
-    step = max(1, -(-periods // 6))
-    for number, period in enumerate(range(0, periods, step)):
-        day = " ".join(starts[period].split(" ")[:2])
-        at = charts.percent(Fraction(period, periods), 1)
-        yield Tick(
-            at, day if day.split(" ")[-1] in MONTHS else starts[period], "start", number % 2 == 1
-        )

@@ -21,6 +21,7 @@ from pert_companion.page.doubts import doubts_table
 from pert_companion.page.exact import exact_dates
 from pert_companion.page.first import FirstScreen, first_screen
 from pert_companion.page.gathering import Gathered, item_amounts, project_amounts
+from pert_companion.page.load import LoadView
 from pert_companion.page.sure import Sure, sure
 from pert_companion.page.timeline import Timeline, progress_of, timeline
 from pert_companion.page.view import Section, Table, Word
@@ -60,7 +61,6 @@ class PageView:
     changes: Changes | None
     money: money.Money
     doubts: Table | None
-    load_lead: str
     steps: tuple[str, ...]
     assumptions: tuple[str, ...]
     left_out: tuple[str, ...]
@@ -101,7 +101,6 @@ def page_of(gathered: Gathered) -> PageView:
         changes=None if gathered.changes is None else changes_view(gathered.changes, words),
         money=amounts,
         doubts=doubts_table(gathered),
-        load_lead=load_lead(gathered, amounts.load),
         steps=tuple(steps(gathered)),
         assumptions=tuple(map(shown, state.remaining.notes)) if state.has_begun else (),
         left_out=tuple(left_out(gathered)),
@@ -121,7 +120,7 @@ def data_blocks(gathered: Gathered) -> dict[str, str]:
     }
 
 
-def sections(gathered: Gathered, load: money.Load | None, found: Checks) -> list[Section]:
+def sections(gathered: Gathered, load: LoadView | None, found: Checks) -> list[Section]:
     """Returns the sections of the page in their order, for its contents."""
     listed = [Section("length", "What to decide"), Section("sure", "How sure")]
     listed.append(Section("schedule", "Schedule"))
@@ -185,16 +184,6 @@ def rows_name(gathered: Gathered, drawn: Timeline) -> str:
     if not gathered.state.has_begun:
         return "Critical tasks"
     return "Critical and late tasks, and those of the next 30 days"
-
-
-def load_lead(gathered: Gathered, load: money.Load | None) -> str:
-    """Returns the sentence above the load."""
-    if load is None:
-        return ""
-    what = "What is planned"
-    if gathered.state.has_begun:
-        what = "What is still to be spent and used, over the work that is left"
-    return f"{what} at normal durations, from pert load with periods of {load.period}."
 
 
 def steps(gathered: Gathered) -> list[str]:

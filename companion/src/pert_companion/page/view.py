@@ -112,6 +112,8 @@ class Column:
     y: str
     height: str
     label: str
+    is_above: bool = False
+    """Whether it is above a capacity."""
 
 
 @dataclass(frozen=True)

@@ -1,7 +1,7 @@
 """Makes the resources and assignments of a plan from the cells of resources and work of a list."""
 
 from collections.abc import Sequence
-from dataclasses import dataclass
+from dataclasses import dataclass, replace
 from decimal import Decimal
 
 from pert_companion.model.losses import LossKind
@@ -123,6 +123,7 @@ class Assigner:
             made = Resource(uid, name, ResourceKind.MATERIAL, unit, rate.rate)
         else:
             made = Resource(uid, name, rate=rate.rate, overtime_rate=rate.overtime_rate)
+        made = replace(made, capacity=rate.capacity)
         self._resources[key] = made
         return made
 

@@ -10,11 +10,13 @@ from pert_companion.readers.columns import fields_by_word, heading_of
 from pert_companion.readers.grid import GridRow, Rate, clip
 from pert_companion.readers.values import (
     Cell,
+    Share,
     Style,
     Unreadable,
     amount,
     day,
     is_nothing,
+    number,
     text_of,
     unit_of,
 )
@@ -49,6 +51,8 @@ _RATE_HEADINGS = {
     )
     + ("cost per hour", "rate per hour", "satz"),
     "overtime": ("overtime rate", "ovt. rate", "überstundensatz"),
+    "capacity": ("max units", "max. units", "max. einh.", "max. einheiten", "capacity")
+    + ("available", "kapazität", "anzahl"),
     "type": ("type", "art"),
     "unit": ("material label", "material", "materialbezeichnung", "unit", "einheit"),
 }
@@ -138,18 +142,25 @@ def rates(rows: Sequence[GridRow], sheet: str, style: Style) -> tuple[tuple[Rate
 
 def _rate(name: str, cells: dict[str, Cell], where: str, style: Style, losses: list[Loss]) -> Rate:
     kind = text_of(cells.get("type", "")).strip().casefold()
-    prices: dict[str, Decimal | None] = {"rate": None, "overtime": None}
-    for field in prices:
+    said: dict[str, Decimal | None] = {}
+    for field, convert in _AMOUNTS.items():
         cell = cells.get(field, "")
+        said[field] = None
         if is_nothing(cell):
             continue
         try:
-            prices[field] = _per_hour(cell, style)
+            said[field] = convert(cell, style)
         except Unreadable as reason:
             text = clip(text_of(cell))
             losses.append(Loss(LossKind.RESOURCE, where, "", field, text, f"{name}: {reason}"))
-    unit = text_of(cells.get("unit", "")).strip()
-    return Rate(name, prices["rate"], prices["overtime"], kind in _MATERIALS, clip(unit, 20))
+    return Rate(
+        name,
+        said["rate"],
+        said["overtime"],
+        kind in _MATERIALS,
+        clip(text_of(cells.get("unit", "")).strip(), 20),
+        said["capacity"],
+    )
 
 
 def _per_hour(cell: Cell, style: Style) -> Decimal:
@@ -162,3 +173,20 @@ def _per_hour(cell: Cell, style: Style) -> Decimal:
     if unit is None:
         raise Unreadable(f"{clip(per.strip(), 20)!r} is no unit of time")
     return value * 60 / style.minutes_of(unit)
+
+
+def _capacity(cell: Cell, style: Style) -> Decimal:
+    """Returns how many of a resource work at once: `2`, `200%`."""
+    if isinstance(cell, Share):
+        units = cell.percent / 100
+    elif isinstance(cell, str) and cell.rstrip().endswith("%"):
+        units = number(cell.rstrip()[:-1], style) / 100
+    else:
+        units = number(cell, style)
+    if units <= 0:
+        raise Unreadable("a capacity is more than 0")
+    return units
+
+
+_AMOUNTS = {"rate": _per_hour, "overtime": _per_hour, "capacity": _capacity}
+"""How the amounts of a resource are read, by column."""

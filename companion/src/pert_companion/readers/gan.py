@@ -49,6 +49,8 @@ _LINK_KINDS = {
 }
 _WEEKDAYS = ("mon", "tue", "wed", "thu", "fri", "sat", "sun")
 _MOST_DAYS = 100_000
+_ONE = Decimal(1)
+"""How many of a resource there are: its allocations are percentages of one."""
 _YEARS_OF_RECURRENCES = 30
 _EARLIEST_START = "1"
 _FREE = "HOLIDAY"
@@ -267,7 +269,7 @@ class _Reader(TreeReader):
                 if part.text("name") == "standard":
                     rate = self.fields.part(place, part, "value", fields.amount, "rate")
             hourly = None if rate is None else rate * 60 / self.calendar.day_minutes
-            yield Resource(node.attribute("id"), name, rate=hourly)
+            yield Resource(node.attribute("id"), name, rate=hourly, capacity=_ONE)
 
     def load(self, row: Row, part: Attributes, resource: Resource) -> Decimal | None:
         """Returns the percentage of an allocation; all of the resource if it says nothing."""

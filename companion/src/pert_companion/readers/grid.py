@@ -45,6 +45,8 @@ class Rate:
     overtime_rate: Decimal | None = None
     is_material: bool = False
     unit: str = ""
+    capacity: Decimal | None = None
+    """How many work at once, or how much of a material an hour of work takes."""
 
 
 @dataclass(frozen=True)

@@ -301,7 +301,12 @@ class _Reader:
                 unit="h" if kind is ResourceKind.WORK else node.text("MaterialLabel"),
                 rate=self.fields.part(place, node, "StandardRate", fields.amount),
                 overtime_rate=self.fields.part(place, node, "OvertimeRate", fields.amount),
+                capacity=self.capacity(place, node) if kind is ResourceKind.WORK else None,
             )
+
+    def capacity(self, place: NamedPlace, node: Node) -> Decimal | None:
+        """Returns how many of a resource work at once; None if its Max. Units are 0."""
+        return self.fields.part(place, node, "MaxUnits", fields.positive) or None
 
     def name_other_hours(self, used: set[str]) -> None:
         """Adds a loss for each resource with work whose own working time is not the plan's."""

@@ -80,6 +80,7 @@ KINDS = {
     "OvertimeRate": LossKind.RESOURCE,
     "Work": LossKind.RESOURCE,
     "Units": LossKind.RESOURCE,
+    "MaxUnits": LossKind.RESOURCE,
 }
 """The kind of loss of each field that cannot be read."""
 

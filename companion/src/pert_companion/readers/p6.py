@@ -96,6 +96,7 @@ _KINDS = {
     "wbs_id": LossKind.GROUP,
     "cost_per_qty": LossKind.RESOURCE,
     "target_qty": LossKind.RESOURCE,
+    "max_qty_per_hr": LossKind.RESOURCE,
     "crash": LossKind.CRASH,
     "slope": LossKind.CRASH,
     "crash cost": LossKind.CRASH,
@@ -578,7 +579,7 @@ class _Reader:
 
     def resources(self) -> Iterator[Resource]:
         """Yields the resources and roles that have a name."""
-        rates = self.rates()
+        rates, limits = self.rates(), self.limits("RSRCRATE", "rsrc_id")
         units = {
             row.text("unit_id"): row.text("unit_abbrev") for row in self.file.table("UMEASURE")
         }
@@ -590,28 +591,39 @@ class _Reader:
                 kind=ResourceKind.MATERIAL if is_material else ResourceKind.WORK,
                 unit=units.get(row.text("unit_id"), "") or "units" if is_material else "h",
                 rate=rates.get(uid),
+                capacity=limits.get(uid),
             )
+        role_limits = self.limits("ROLELIMIT", "role_id")
         for row in self.file.table("ROLES"):
-            yield Resource(_role_id(row), title(row.text("role_name")))
+            limit = role_limits.get(row.text("role_id"))
+            yield Resource(_role_id(row), title(row.text("role_name")), capacity=limit)
 
     def rates(self) -> dict[str, Decimal]:
         """Returns the first rate of each resource; later ones are noted."""
+        return self.first_values("RSRCRATE", "rsrc_id", "cost_per_qty", "rates")
+
+    def limits(self, table: str, key: str) -> dict[str, Decimal]:
+        """Returns the first units per time of each resource or role; 0 is no limit."""
+        found = self.first_values(table, key, "max_qty_per_hr", "capacities")
+        return {uid: limit for uid, limit in found.items() if limit > 0}
+
+    def first_values(self, table: str, key: str, name: str, what: str) -> dict[str, Decimal]:
+        """Returns the values of a field that hold first, by id; later ones are noted."""
         found: dict[str, tuple[str, Decimal]] = {}
         changed = set()
-        for row in self.file.table("RSRCRATE"):
-            uid, day = row.text("rsrc_id"), row.text("start_date")
-            rate = self.fields.read(row, "cost_per_qty", fields.amount)
-            if rate is None:
+        for row in self.file.table(table):
+            uid, day = row.text(key), row.text("start_date")
+            value = self.fields.read(row, name, fields.amount)
+            if value is None:
                 continue
-            if uid in found and found[uid][1] != rate:
+            if uid in found and found[uid][1] != value:
                 changed.add(uid)
             if uid not in found or day < found[uid][0]:
-                found[uid] = (day, rate)
+                found[uid] = (day, value)
         if changed:
-            self.notes.append(
-                f"rates that change ({len(changed)} resources): the first one is used"
-            )
-        return {uid: rate for uid, (_, rate) in found.items()}
+            number = f"{len(changed)} resources"
+            self.notes.append(f"{what} that change ({number}): the first one is used")
+        return {uid: value for uid, (_, value) in found.items()}
 
     def assignments(
         self, tasks: Mapping[str, Task], known: Mapping[str, Resource]

@@ -150,6 +150,12 @@ _RATE = {
     "rsrc_id": "ResourceObjectId",
     "cost_per_qty": "PricePerUnit",
     "start_date": "EffectiveDate",
+    "max_qty_per_hr": "MaxUnitsPerTime",
+}
+_ROLE_LIMIT = {
+    "role_id": "RoleObjectId",
+    "start_date": "EffectiveDate",
+    "max_qty_per_hr": "MaxUnitsPerTime",
 }
 _ROLE = {"role_id": "ObjectId", "role_name": "Name"}
 _UNIT = {"unit_id": "ObjectId", "unit_abbrev": "Abbreviation"}
@@ -159,6 +165,7 @@ _SHARED = (
     ("RSRC", "Resource", _RESOURCE),
     ("RSRCRATE", "ResourceRate", _RATE),
     ("ROLES", "Role", _ROLE),
+    ("ROLELIMIT", "RoleLimit", _ROLE_LIMIT),
     ("UMEASURE", "UnitOfMeasure", _UNIT),
 )
 """The tables outside projects: the name in XER, the element, its fields."""

@@ -34,8 +34,9 @@ _FIELDS = {
     "SCHEDOPTIONS": "proj_id sched_calendar_on_relationship_lag",
     "TASKPRED": "task_id pred_task_id proj_id pred_proj_id pred_type lag_hr_cnt",
     "RSRC": "rsrc_id rsrc_name rsrc_short_name rsrc_type clndr_id unit_id",
-    "RSRCRATE": "rsrc_id cost_per_qty start_date",
+    "RSRCRATE": "rsrc_id cost_per_qty max_qty_per_hr start_date",
     "ROLES": "role_id role_name",
+    "ROLELIMIT": "role_id max_qty_per_hr start_date",
     "TASKRSRC": (
         "task_id rsrc_id role_id target_qty target_cost act_reg_cost act_ot_cost remain_cost"
     ),

@@ -1,18 +1,17 @@
 """Writes a schedule in the format of an ending: `.xlsx`, `.csv`, `.ics`, `.xml`."""
 
 from collections.abc import Iterator
-from datetime import date
 
 from pert_companion.analysis.lengths import LengthChoice
+from pert_companion.analysis.loading import loading
 from pert_companion.analysis.performance import performance
 from pert_companion.analysis.schedule import Schedule
-from pert_companion.analysis.scheduling import chosen_work, in_one_piece, network_at
+from pert_companion.analysis.scheduling import chosen_work
 from pert_companion.model.deck import Deck
 from pert_companion.model.lines import not_in_xml
 from pert_companion.model.output import CALENDAR_FILE, PLAN_XML, WORKBOOK
 from pert_companion.model.predecessors import first_day_waits, real_links
 from pert_companion.state.project import ProjectState
-from pert_companion.state.work import Work
 from pert_companion.writers.csv_file import SCHEDULE_TABLE, to_csv
 from pert_companion.writers.ics import to_ics
 from pert_companion.writers.mspdi import to_mspdi
@@ -25,8 +24,6 @@ FORMATS = {
     ".ics": CALENDAR_FILE,
 }
 """The kind of file of each ending."""
-MOST_PERIODS = 400
-"""The periods that `pert load` has at most."""
 
 
 def new_file(ending: str, state: ProjectState, schedule: Schedule, choice: LengthChoice) -> bytes:
@@ -46,11 +43,6 @@ def _workbook(state: ProjectState, schedule: Schedule, choice: LengthChoice) -> 
     """Returns what the workbook shows: curve and load are those of the work of the schedule."""
     plan = state.plan
     counted = plan if schedule.is_past_plan else state.rest
-    chosen = chosen_work(counted, choice)
-    work, point = chosen.work, chosen.point
-    period = load_period(work, schedule.length)
-    network = network_at(work.counted_network, point)
-    load = work.load(in_one_piece(network, work.side, point), period)
     is_measured = state.has_begun and bool(state.deck.accounts)
     return Workbooks(
         schedule,
@@ -58,27 +50,10 @@ def _workbook(state: ProjectState, schedule: Schedule, choice: LengthChoice) -> 
         plan.counted_network,
         plan.summary,
         plan.value,
-        load,
-        _period_days(work, period, load.periods),
+        loading(state, chosen_work(counted, choice), schedule),
         state.side.accepted,
         performance(state, state) if is_measured else None,
     )
-
-
-def load_period(work: Work, length: int) -> int:
-    """Returns the units of a period of the load: a week, or more if there would be too many."""
-    calendar = work.side.calendar
-    month = calendar.month_days * calendar.day_minutes
-    for minutes in (calendar.week_minutes, month, 3 * month):
-        units = max(1, minutes // work.side.unit_minutes)
-        if length // units < MOST_PERIODS:
-            return units
-    return length // MOST_PERIODS + 1
-
-
-def _period_days(plan: Work, units: int, periods: int) -> list[date]:
-    """Returns the day on which each period of so many units begins."""
-    return [plan.clock.begin_moment(number * units).date() for number in range(periods)]
 
 
 def about_new_file(ending: str, state: ProjectState, schedule: Schedule) -> Iterator[str]:

@@ -102,10 +102,14 @@ def _calendars(schedule: Schedule) -> list[str]:
 def _money(amount: int, schedule: Schedule, options: TableOptions) -> str:
     """Returns an amount; on a terminal with separators of thousands."""
     text = money_text(amount, schedule.money_scale)
-    if options.width is None:
-        return text
-    whole, point, part = text.partition(".")
-    return f"{int(whole):,}{point}{part}"
+    return text if options.width is None else grouped(text)
+
+
+def grouped(text: str) -> str:
+    """Returns an amount with separators of thousands: `-1234.50` is `-1,234.50`."""
+    sign = "-" if text.startswith("-") else ""
+    whole, point, part = text.removeprefix("-").partition(".")
+    return f"{sign}{int(whole):,}{point}{part}"
 
 
 def _price(schedule: Schedule, options: TableOptions) -> str:

@@ -5,7 +5,7 @@ heads of all sheets are frozen, and the curve is a chart of the spreadsheet's ow
 """
 
 import io
-from collections.abc import Sequence
+from collections.abc import Iterator, Sequence
 from dataclasses import dataclass
 from datetime import date, datetime
 from decimal import Decimal
@@ -14,17 +14,24 @@ from fractions import Fraction
 from openpyxl import Workbook
 from openpyxl.chart import Reference, ScatterChart
 from openpyxl.chart.series_factory import SeriesFactory
+from openpyxl.styles import PatternFill
 from openpyxl.worksheet.worksheet import Worksheet
 
+from pert_companion.analysis.loading import Loading
 from pert_companion.analysis.performance import Performance
 from pert_companion.analysis.schedule import Schedule, ScheduledTask
 from pert_companion.model.deck import Deck
 from pert_companion.model.figures import day_words
 from pert_companion.model.losses import Loss
-from pert_companion.programs.results import Breakpoint, Load, SummaryRow, Value, cost_at
+from pert_companion.programs.results import Breakpoint, SummaryRow, Value, cost_at
+from pert_companion.state.remaining import State
 from pert_companion.writers.csv_file import HEADINGS
+from pert_companion.writers.loading_text import at_once
 from pert_companion.writers.performance_xlsx import add_performance
 from pert_companion.writers.sheets import CellValue, in_currency, new_sheet, put_row
+
+_ABOVE = PatternFill("solid", start_color="FFF4B6A6")
+"""The ground of an amount above a capacity."""
 
 
 @dataclass(frozen=True)
@@ -36,10 +43,8 @@ class Workbooks:
     deck: Deck
     summary: dict[str, SummaryRow] | None = None
     value: Value | None = None
-    load: Load | None = None
+    load: Loading | None = None
     """What the schedule needs in each period, and what it costs."""
-    periods: Sequence[date] = ()
-    """The first day of each period of `load`."""
     accepted: Sequence[Loss] = ()
     """What the deck does not have of its source, as the user accepted it."""
     performance: Performance | None = None
@@ -58,6 +63,8 @@ def to_xlsx(content: Workbooks) -> bytes:
         _value_sheet(book, content, content.value)
     if content.load is not None:
         _load_sheet(book, content, content.load)
+        if any(resource.capacity is not None for resource in content.load.resources):
+            _above_sheet(book, content.load)
     if content.accepted:
         _accepted_sheet(book, content.accepted)
     if content.performance is not None:
@@ -173,17 +180,60 @@ def _summary_sheet(book: Workbook, content: Workbooks, rows: dict[str, SummaryRo
         "To go",
         "Latest",
         "Overrun",
+        f"Latest in {_length(content.schedule)}",
         "Title",
     )
     sheet = new_sheet(book, "Summary", headings)
     titles, scale = _titles(content.deck), content.schedule.money_scale
+    extras = _extras(content)
     for at, (code, row) in enumerate(rows.items(), 2):
-        amounts = (row.budget, row.actual, row.to_go, row.latest, row.overrun)
+        chosen = row.latest + extras.get(code, 0)
+        amounts = (row.budget, row.actual, row.to_go, row.latest, row.overrun, chosen)
         cells = (in_currency(amount, scale) for amount in amounts)
         put_row(sheet, at, (code, row.level, *cells, titles[code]))
 
 
+def _length(schedule: Schedule) -> str:
+    """Returns the length of a schedule: `76 days`."""
+    return day_words(schedule.length * schedule.unit_minutes, schedule.day_minutes)
+
+
+def _extras(content: Workbooks) -> dict[str, int]:
+    """Returns what shortening costs in the schedule, by item that has any, with all above it."""
+    extras: dict[str, int] = {}
+    for task, items in _tasks_with_items(content):
+        for item in items:
+            extras[item] = extras.get(item, 0) + task.extra_cost
+    return extras
+
+
+def _least_floats(content: Workbooks) -> dict[str, int]:
+    """Returns the least float of the unfinished tasks on or below each item, in minutes."""
+    floats: dict[str, int] = {}
+    for task, items in _tasks_with_items(content):
+        if task.state is not State.FINISHED:
+            for item in items:
+                floats[item] = min(
+                    floats.get(item, task.total_float_minutes), task.total_float_minutes
+                )
+    return floats
+
+
+def _tasks_with_items(content: Workbooks) -> Iterator[tuple[ScheduledTask, list[str]]]:
+    """Yields the tasks of the schedule, each with its item and all above that."""
+    parents = {item.code: item.parent for item in content.deck.items}
+    item_of = {card.code: card.item for card in content.deck.work}
+    for task in content.schedule.tasks:
+        above: list[str] = []
+        code: str | None = item_of.get(task.code)
+        while code:
+            above.append(code)
+            code = parents.get(code)
+        yield task, above
+
+
 def _value_sheet(book: Workbook, content: Workbooks, value: Value) -> None:
+    schedule = content.schedule
     headings = (
         "Item",
         "Level",
@@ -192,29 +242,50 @@ def _value_sheet(book: Workbook, content: Workbooks, value: Value) -> None:
         "Value",
         "Overrun",
         "Slack days",
+        f"Float in {_length(schedule)}",
         "Title",
     )
     sheet = new_sheet(book, "Value", headings)
-    titles, scale = _titles(content.deck), content.schedule.money_scale
+    titles, floats = _titles(content.deck), _least_floats(content)
     for at, (code, row) in enumerate(value.items.items(), 2):
         slack = None if row.slack is None else days(row.slack, 6)
+        least = days(floats[code], schedule.day_minutes) if code in floats else None
         amounts = (row.budget, row.actual, row.value, row.overrun)
-        cells = (in_currency(amount, scale) for amount in amounts)
-        put_row(sheet, at, (code, row.level, *cells, slack, titles[code]))
+        cells = (in_currency(amount, schedule.money_scale) for amount in amounts)
+        put_row(sheet, at, (code, row.level, *cells, slack, least, titles[code]))
 
 
-def _load_sheet(book: Workbook, content: Workbooks, load: Load) -> None:
-    deck, schedule = content.deck, content.schedule
-    length = day_words(schedule.length * schedule.unit_minutes, schedule.day_minutes)
-    periods = content.periods
-    names = [resource.title or resource.code for resource in deck.resources]
-    sheet = new_sheet(book, "Load", ("From", f"Cost in {length}", *names))
-    top: dict[int, int] = next(iter(load.items.values()), {})
-    for period in range(load.periods):
-        first = periods[period] if period < len(periods) else None
-        amounts = [load.resources[r.code].get(period, 0) for r in deck.resources]
-        cost = in_currency(top.get(period, 0), content.schedule.money_scale)
+def _load_sheet(book: Workbook, content: Workbooks, load: Loading) -> None:
+    """Adds what the schedule costs and uses in each period; what is above a capacity is red."""
+    names = [resource.name for resource in load.resources]
+    sheet = new_sheet(book, "Load", ("From", f"Cost in {_length(content.schedule)}", *names))
+    for period, first in enumerate(load.periods):
+        amounts = [resource.amounts[period] for resource in load.resources]
+        cost = in_currency(load.costs[period], load.money_scale)
         put_row(sheet, period + 2, (first, cost, *amounts))
+    columns = {resource.code: at for at, resource in enumerate(load.resources, 3)}
+    for each in load.overloads:
+        sheet.cell(each.period + 2, columns[each.resource]).fill = _ABOVE
+
+
+def _above_sheet(book: Workbook, load: Loading) -> None:
+    """Adds a row for each period in which a resource is above its capacity, with its tasks."""
+    headings = ("Resource", "From", "Load", "Available", "Most at once", "Capacity", "Days")
+    sheet = new_sheet(book, "Above capacity", (*headings, "Tasks"))
+    by_code = {resource.code: resource for resource in load.resources}
+    for at, each in enumerate(load.overloads, 2):
+        resource = by_code[each.resource]
+        cells = (
+            each.name,
+            each.first,
+            resource.amounts[each.period],
+            resource.available,
+            Decimal(at_once(each.most)),
+            each.capacity,
+            each.days,
+            ", ".join(each.tasks),
+        )
+        put_row(sheet, at, cells)
 
 
 def _accepted_sheet(book: Workbook, accepted: Sequence[Loss]) -> None:
