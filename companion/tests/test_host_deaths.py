@@ -6,6 +6,7 @@ import signal
 import subprocess
 import time
 from collections.abc import Callable, Iterator, Sequence
+from contextlib import suppress
 from dataclasses import dataclass
 from pathlib import Path
 
@@ -58,7 +59,8 @@ class Host:
         words = ["ip", "netns", "pids", self.namespace]
         found = subprocess.run(words, check=True, capture_output=True, text=True)
         for pid in found.stdout.split():
-            os.kill(int(pid), signal.SIGKILL)
+            with suppress(ProcessLookupError):  # it has ended meanwhile
+                os.kill(int(pid), signal.SIGKILL)
 
 
 def start(folder: Path, number: int) -> Host:
