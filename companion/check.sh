@@ -6,7 +6,7 @@
 # The tests run in up to four processes if pytest-xdist is there. What it needs is in tools/packages.txt; `tools/setup` installs it.
 set -u
 cd "$(dirname "$0")" || exit 1
-case ${1:-} in -h | --help) sed -n '2,/^set/s/^# \{0,1\}//p' check && exit 0 ;; esac
+case ${1:-} in -h | --help) sed -n '2,/^set/s/^# \{0,1\}//p' check.sh && exit 0 ;; esac
 scratch=$(mktemp -d) || exit 1
 trap 'rm -rf "$scratch"' EXIT
 mkdir "$scratch/bin" "$scratch/python" || exit 1
