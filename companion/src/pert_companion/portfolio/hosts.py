@@ -150,7 +150,6 @@ class _Round:
 
     def _words(self, folder: Path) -> list[str]:
         words = ["parallel", "--will-cite", "--plain", "--sshloginfile", str(folder / "logins")]
-        words = ["parallel", "--will-cite", "--plain", "--sshloginfile", str(folder / "logins")]
         words += ["--joblog", str(folder / "log"), "--tagstring", "{#}"]
         words += ["--pipepart", "--arg-file", str(folder / "decks")]
         words += ["--block", "1", "--recend", r"\n\n", "--line-buffer", "--halt", "soon,fail=1"]
