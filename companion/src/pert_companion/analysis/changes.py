@@ -6,7 +6,7 @@ finishes as the last day of work, amounts in the unit of money of the comparison
 
 from collections.abc import Callable, Iterator, Mapping
 from dataclasses import dataclass
-from datetime import date, datetime
+from datetime import date
 from decimal import Decimal
 from enum import Enum
 from fractions import Fraction
@@ -14,6 +14,7 @@ from fractions import Fraction
 from pert_companion.model.cards import ActivityCard, PieceCard, TaskCard
 from pert_companion.model.deck import Deck
 from pert_companion.model.figures import days_text, money_text
+from pert_companion.model.moments import last_day_before
 from pert_companion.model.predecessors import RealLink, real_links
 from pert_companion.model.sidefile import SideFile, SideTask
 from pert_companion.state.matching import Matching, match_accounts
@@ -264,8 +265,7 @@ def finish_day(task: SideTask, side: SideFile, finished: Mapping[str, date]) -> 
         return None
     if task.actual_finish is not None:
         return task.actual_finish
-    moment = datetime(morning.year, morning.month, morning.day)
-    return side.calendar.end_at(side.calendar.position(moment)).date()
+    return last_day_before(side.calendar, morning)
 
 
 def _quantities(deck: Deck) -> dict[str, list[tuple[str, int]]]:

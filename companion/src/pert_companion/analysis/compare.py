@@ -34,6 +34,7 @@ from pert_companion.analysis.restated_money import (
 from pert_companion.analysis.total_float import SIXTHS
 from pert_companion.model.errors import UsageError
 from pert_companion.model.figures import day_words
+from pert_companion.model.moments import midnight
 from pert_companion.programs.results import Breakpoint, cost_at
 from pert_companion.state.matching import Matching, match_states
 from pert_companion.state.project import ProjectState
@@ -308,7 +309,7 @@ def _side(figures: StateFigures, scale: int) -> Side:
 
 
 def _evening(day: date) -> datetime:
-    return datetime(day.year, day.month, day.day) + ONE_DAY
+    return midnight(day) + ONE_DAY
 
 
 def _joined(old: StateFigures, new: StateFigures, matching: Matching) -> Iterator[CriticalChange]:

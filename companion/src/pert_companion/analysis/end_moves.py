@@ -12,12 +12,13 @@ links and waits take the place of the older ones, at once. Tasks that are new co
 
 from collections.abc import Iterator, Mapping, Sequence
 from dataclasses import dataclass
-from datetime import date, datetime
+from datetime import date
 from graphlib import TopologicalSorter
 
 from pert_companion.analysis.changes import status_days
 from pert_companion.model.calendar import Calendar
 from pert_companion.model.deck import Deck
+from pert_companion.model.moments import midnight
 from pert_companion.model.sidefile import SideTask
 from pert_companion.state.matching import match_states
 from pert_companion.state.project import ProjectState
@@ -163,7 +164,7 @@ class _Side:
     def __init__(self, state: ProjectState, calendar: Calendar) -> None:
         self.tasks = {task.code: task for task in state.side.tasks}
         self.links = links_of(state.remaining.deck)
-        self.as_of = calendar.position(_midnight(state.as_of))
+        self.as_of = calendar.position(midnight(state.as_of))
         self.works = dict(self._works(state, calendar))
 
     def _works(self, state: ProjectState, calendar: Calendar) -> Iterator[tuple[str, Work]]:
@@ -171,17 +172,17 @@ class _Side:
         finished = status_days(state.deck, "F")
         owned: set[str] = set()
         for task in self.tasks.values():
-            owned.update(_cards(task))
+            owned.update(task.cards())
         for left in state.remaining.left:
             if left.state is State.FINISHED:
-                done = calendar.position(_midnight(finished[left.code]))
+                done = calendar.position(midnight(finished[left.code]))
                 yield left.code, Work(min(done, self.as_of), 0)
             elif left.code in owned or left.normal:
                 yield left.code, Work(self.as_of, left.normal * state.side.unit_minutes)
 
     def of(self, task: SideTask) -> dict[str, Work]:
         """Returns the work of the cards of a task."""
-        return {card: self.works[card] for card in _cards(task)}
+        return {card: self.works[card] for card in task.cards()}
 
 
 def end_moves(old: EndState, new: EndState) -> EndMoves:
@@ -237,7 +238,7 @@ class _Division:
         for old, new in self.matching.pairs:
             found[old.code] = self._newer_work(old, new)
         for gone in self.matching.gone:
-            found[gone.code] = dict.fromkeys(_cards(gone), self.nothing)
+            found[gone.code] = dict.fromkeys(gone.cards(), self.nothing)
         return found
 
     def _newer_work(self, old: SideTask, new: SideTask) -> dict[str, Work]:
@@ -268,16 +269,5 @@ class _Division:
         coming = {}
         for task in self.matching.new:
             coming[task.code] = self.new.of(task)
-            works.update(dict.fromkeys(_cards(task), self.nothing))
+            works.update(dict.fromkeys(task.cards(), self.nothing))
         return works, coming
-
-
-def _cards(task: SideTask) -> list[str]:
-    """Returns the cards of a task: its parts and its moments."""
-    moments = (task.start_moment, task.finish_moment)
-    return [*task.parts, *(moment for moment in moments if moment is not None)]
-
-
-def _midnight(day: date) -> datetime:
-    """Returns the beginning of a day."""
-    return datetime(day.year, day.month, day.day)

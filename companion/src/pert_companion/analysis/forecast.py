@@ -15,6 +15,7 @@ from pert_companion.analysis.schedule import Schedule, ScheduledTask
 from pert_companion.analysis.scheduling import normal_dates, normal_schedule
 from pert_companion.analysis.total_float import SIXTHS
 from pert_companion.model.calendar import Calendar
+from pert_companion.model.moments import last_day_before, midnight
 from pert_companion.model.sidefile import SideTask
 from pert_companion.state.matching import match_states
 from pert_companion.state.project import ProjectState
@@ -187,17 +188,14 @@ def finished_end(state: ProjectState) -> date:
     days = [card.day for card in state.deck.statuses if card.letter == "F"]
     if not days:
         return state.as_of
-    morning = max(days)
-    calendar = state.side.calendar
-    moment = datetime(morning.year, morning.month, morning.day)
-    return calendar.end_at(calendar.position(moment)).date()
+    return last_day_before(state.side.calendar, max(days))
 
 
 def late_minutes(calendar: Calendar, planned: date | None, finish: datetime) -> int | None:
     """Returns the working minutes from the evening of a planned finish to a moment."""
     if planned is None:
         return None
-    evening = datetime(planned.year, planned.month, planned.day) + ONE_DAY
+    evening = midnight(planned) + ONE_DAY
     return calendar.position(finish) - calendar.position(evening)
 
 

@@ -12,6 +12,7 @@ from pert_companion.analysis.schedule import ScheduledTask
 from pert_companion.model.calendar import Calendar
 from pert_companion.model.deck import Deck
 from pert_companion.model.figures import day_words
+from pert_companion.model.moments import midnight
 from pert_companion.model.plan import ConstraintKind
 from pert_companion.model.sidefile import SideFile, SideTask
 from pert_companion.state.remaining import State
@@ -36,7 +37,7 @@ def latest_of(side: SideFile, task: SideTask) -> Latest:
     if known is None or known.day is None or task.actual_finish is not None:
         return Latest()
     if known.kind in FINISHES:
-        return Latest(finish=_midnight_after(known.day))
+        return Latest(finish=midnight(known.day) + timedelta(days=1))
     if known.kind in STARTS and task.actual_start is None:
         return Latest(start=side.calendar_of(task).morning(known.day))
     return Latest()
@@ -87,13 +88,9 @@ def contract_line(side: SideFile, deck: Deck, end: date) -> str:
     wanted = contract_end(side, deck)
     if wanted is None or end <= wanted.date():
         return ""
-    late = _between(side.calendar, wanted, _midnight_after(end))
+    late = _between(side.calendar, wanted, midnight(end) + timedelta(days=1))
     return f"the project ends on {end}, {late} after {wanted.date()} (must finish by)"
 
 
 def _between(calendar: Calendar, first: datetime, last: datetime) -> str:
     return day_words(calendar.between(first, last), calendar.day_minutes)
-
-
-def _midnight_after(day: date) -> datetime:
-    return datetime(day.year, day.month, day.day) + timedelta(days=1)

@@ -7,12 +7,11 @@ somebody can decide.
 from collections.abc import Iterator, Mapping
 from dataclasses import dataclass
 from datetime import date
-from decimal import Decimal
 from enum import Enum
 from fractions import Fraction
 
 from pert_companion.analysis.budgets import unlogged_moves
-from pert_companion.analysis.changes import status_days
+from pert_companion.analysis.changes import percent_text, status_days
 from pert_companion.analysis.forecast import forecast
 from pert_companion.analysis.performance import charges_by_account, latest_by_account
 from pert_companion.model.cards import AccountCard
@@ -198,7 +197,7 @@ class _Finder:
         if abs(apart) * 100 <= PERCENT_APART * task.minutes:
             return
         figure = (
-            f"{_percent_text(task.percent)} done; {self.days(task.remaining)} of"
+            f"{percent_text(task.percent)} done; {self.days(task.remaining)} of"
             f" {self.day_words(task.minutes)} left"
         )
         way = "later" if apart > 0 else "earlier"
@@ -214,10 +213,6 @@ class _Finder:
         figure = f"began {start}; {before.code}, which it comes after, {ended}"
         effect = "what is left of it waits" if finish is None else "the plan had another order"
         yield Doubt(DoubtKind.OUT_OF_SEQUENCE, task.code, task.row, task.name, figure, effect)
-
-
-def _percent_text(percent: Decimal) -> str:
-    return f"{percent.normalize():f} %"
 
 
 def _money_before(state: ProjectState, previous: ProjectState) -> dict[str, tuple[int, int]]:
@@ -256,7 +251,7 @@ def _progress_of(
     for task in state.side.tasks:
         words = "not begun"
         if task.parts[0] in started:
-            words = "begun" if task.percent is None else f"{_percent_text(task.percent)} done"
+            words = "begun" if task.percent is None else f"{percent_text(task.percent)} done"
         found[task.code] = words, task.remaining, finished.get(task.parts[-1])
     return found
 

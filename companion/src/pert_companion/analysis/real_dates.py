@@ -8,6 +8,7 @@ from pert_companion.analysis.as_late import is_as_late
 from pert_companion.analysis.passes import Passes, passes_at
 from pert_companion.analysis.schedule import ScheduledTask
 from pert_companion.model.calendar import Calendar
+from pert_companion.model.moments import midnight
 from pert_companion.model.sidefile import SideFile, SideTask
 
 MOST_NAMED = 5
@@ -21,7 +22,7 @@ def deadline_slack(calendar: Calendar, deadline: date | None, finish: datetime) 
     """
     if deadline is None:
         return None
-    evening = datetime(deadline.year, deadline.month, deadline.day) + timedelta(days=1)
+    evening = midnight(deadline) + timedelta(days=1)
     return calendar.position(evening) - calendar.position(finish)
 
 

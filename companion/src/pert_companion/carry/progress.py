@@ -11,7 +11,7 @@ data date as work has been done since, so that what remains is what the source s
 import math
 from collections.abc import Mapping, Sequence
 from dataclasses import dataclass, replace
-from datetime import date, datetime, timedelta
+from datetime import date, timedelta
 from decimal import Decimal
 from fractions import Fraction
 
@@ -21,6 +21,7 @@ from pert_companion.carry.network import Network, Part, Wait
 from pert_companion.model.calendar import Calendar
 from pert_companion.model.cards import StatusCard
 from pert_companion.model.losses import Loss, LossKind
+from pert_companion.model.moments import midnight
 from pert_companion.model.plan import Task
 
 ONE_DAY = timedelta(days=1)
@@ -59,15 +60,10 @@ class Times:
 
         Within a day it is the next morning. It is the project's start at the earliest.
         """
-        position = self.calendar.position(_midnight(day)) + units * self.unit_minutes
-        if position <= self.calendar.position(_midnight(self.start)):
+        position = self.calendar.position(midnight(day)) + units * self.unit_minutes
+        if position <= self.calendar.position(midnight(self.start)):
             return self.start
         return morning_after(self.calendar.end_at(position).date())
-
-
-def _midnight(day: date) -> datetime:
-    """Returns the beginning of a day."""
-    return datetime(day.year, day.month, day.day)
 
 
 def has_progress(task: Task) -> bool:
@@ -118,7 +114,7 @@ class Statuses:
         for node, done in self.done.items():
             if node.task is None or done.started is None or done.finished is not None:
                 continue
-            passed = calendar.between(_midnight(done.started), _midnight(as_of))
+            passed = calendar.between(midnight(done.started), midnight(as_of))
             left = max(0, node.minutes - passed)
             if done.remaining is not None and done.remaining != left:
                 found.append((node.task, done.remaining))
@@ -144,7 +140,7 @@ class Statuses:
         minutes = remaining_minutes(task)
         if node.own is None:
             return minutes
-        return replace(node.own, start=_midnight(self._times.as_of)).span(minutes)
+        return replace(node.own, start=midnight(self._times.as_of)).span(minutes)
 
     def _group_end(self, node: Node) -> Done:
         """Returns what is done of the end of a group: it is reached when all its ends are."""

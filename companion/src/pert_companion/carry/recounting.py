@@ -166,7 +166,7 @@ class _Maker:
         tasks = tuple(self._side_task(task, network) for task in self.side.tasks)
         known: set[str] = set()
         for task in tasks:
-            known.update(_codes_of(task))
+            known.update(task.cards())
         waits = tuple(card.code for card in network.tasks() if card.code not in known)
         return replace(self.side, tasks=tasks, waits=waits, cards=None)
 
@@ -183,9 +183,3 @@ class _Maker:
             normal=node.normal,
             own=own,
         )
-
-
-def _codes_of(task: SideTask) -> list[str]:
-    """Returns the codes of the cards of a task."""
-    moments = (task.start_moment, task.finish_moment)
-    return [*task.parts, *(code for code in moments if code is not None)]

@@ -84,7 +84,7 @@ class _Maker:
         self.first_part: dict[str, str] = {}
         for task in self.side.tasks:
             self.owner.update(dict.fromkeys(task.parts, task))
-            self.first_part.update(dict.fromkeys(_cards_of(task), task.parts[0]))
+            self.first_part.update(dict.fromkeys(task.cards(), task.parts[0]))
         self.waits = {code for code in self.side.waits if self.normal[code]}
         self.group_ends = set(self.side.waits) - self.waits
         self.times = Times(
@@ -147,7 +147,7 @@ class _Maker:
         return row.start or task.actual_start or self.starts.get(task.parts[0]) or own
 
     def _forget(self, task: SideTask) -> None:
-        for code in _cards_of(task):
+        for code in task.cards():
             self.starts.pop(code, None)
             self.ends.pop(code, None)
 
@@ -260,12 +260,6 @@ class _Maker:
                 yield StatusCard(card.code, "S", self.starts[card.code])
             if card.code in self.ends:
                 yield StatusCard(card.code, "F", self.ends[card.code])
-
-
-def _cards_of(task: SideTask) -> list[str]:
-    """Returns the codes of a task's parts and of the moments at its ends."""
-    moments = (task.start_moment, task.finish_moment)
-    return [*task.parts, *(moment for moment in moments if moment is not None)]
 
 
 def _minutes_left(task: SideTask, row: Reported) -> int:

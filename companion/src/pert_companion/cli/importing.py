@@ -9,7 +9,7 @@ from pathlib import Path
 from pert_companion.carry import CarryOptions
 from pert_companion.cli.choosing import add_bin_option, programs_of
 from pert_companion.cli.common import CommandParser, say
-from pert_companion.cli.words import day_word
+from pert_companion.cli.words import add_cell_options, day_word, kind_word
 from pert_companion.cli.writing import (
     add_output_options,
     check_deck,
@@ -252,19 +252,7 @@ def _add_field_options(command: argparse.ArgumentParser) -> None:
 
 def _add_list_options(command: argparse.ArgumentParser) -> None:
     """Adds the options that say how the cells of a list are read."""
-    command.add_argument("--sheet", default="", help="the sheet of a workbook")
-    command.add_argument("--decimal", choices=(".", ","), default="", help="the decimal mark")
-    command.add_argument("--encoding", default="", metavar="NAME", help="the character set")
-    which = command.add_mutually_exclusive_group()
-    which.add_argument(
-        "--day-first", action="store_true", default=None, help="03/04/2026 is 3 April"
-    )
-    which.add_argument(
-        "--month-first",
-        action="store_false",
-        dest="day_first",
-        help="03/04/2026 is 4 March",
-    )
+    add_cell_options(command, "the sheet of a workbook")
     command.add_argument("--day-hours", type=hours_word, metavar="N", help="hours of one day")
     command.add_argument("--week-hours", type=hours_word, metavar="N", help="hours of one week")
     command.add_argument(
@@ -282,12 +270,8 @@ def kinds_word(word: str) -> frozenset[LossKind | str]:
         return frozenset(LossKind)
     found: set[LossKind | str] = set()
     for part in word.split(","):
-        name = part.strip().lower()
-        try:
-            found.add(name if name == SAME else LossKind(name))
-        except ValueError:
-            known = ", ".join(kind.value for kind in LossKind)
-            raise argparse.ArgumentTypeError(f"{part.strip()!r} is none of {known}") from None
+        is_same = part.strip().lower() == SAME
+        found.add(SAME if is_same else kind_word(part, LossKind))
     return frozenset(found)
 
 

@@ -12,7 +12,7 @@ from pert_companion.cli.choosing import add_bin_option, programs_of
 from pert_companion.cli.common import CommandParser, say
 from pert_companion.cli.importing import column_word
 from pert_companion.cli.opening import opened
-from pert_companion.cli.words import day_word
+from pert_companion.cli.words import add_cell_options, day_word, kind_word
 from pert_companion.cli.writing import (
     add_output_options,
     check_deck,
@@ -121,36 +121,12 @@ def _add_list_options(command: argparse.ArgumentParser) -> None:
         default=[],
         help="the heading of a column; it is remembered, and later lists may have it too",
     )
-    _add_style_options(command)
-
-
-def _add_style_options(command: argparse.ArgumentParser) -> None:
-    """Adds the options for how lists are read."""
-    command.add_argument("--sheet", default="", help="the sheet of a workbook of vouchers")
-    command.add_argument("--decimal", choices=(".", ","), default="", help="the decimal mark")
-    command.add_argument("--encoding", default="", metavar="NAME", help="the character set")
-    which = command.add_mutually_exclusive_group()
-    which.add_argument(
-        "--day-first", action="store_true", default=None, help="03/04/2026 is 3 April"
-    )
-    which.add_argument(
-        "--month-first",
-        action="store_false",
-        dest="day_first",
-        help="03/04/2026 is 4 March",
-    )
+    add_cell_options(command, "the sheet of a workbook of vouchers")
 
 
 def kinds_word(word: str) -> frozenset[BookingKind]:
     """Returns the kinds of findings in a word such as `later,closed`."""
-    found = set()
-    for part in word.split(","):
-        try:
-            found.add(BookingKind(part.strip().lower()))
-        except ValueError:
-            known = ", ".join(kind.value for kind in BookingKind)
-            raise argparse.ArgumentTypeError(f"{part.strip()!r} is none of {known}") from None
-    return frozenset(found)
+    return frozenset(kind_word(part, BookingKind) for part in word.split(","))
 
 
 def run(options: argparse.Namespace) -> int:

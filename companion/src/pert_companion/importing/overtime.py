@@ -11,9 +11,10 @@ from fractions import Fraction
 
 from pert_companion.importing.crash_sheet import is_finished
 from pert_companion.model.errors import UsageError
+from pert_companion.model.figures import plain_number
 from pert_companion.model.plan import Crash, Plan, Resource, ResourceKind, Task
 from pert_companion.readers.grid import clip
-from pert_companion.readers.values import Style, Unreadable, duration, number, plain
+from pert_companion.readers.values import Style, Unreadable, duration, number
 
 MOST_NAMED = 3
 
@@ -131,20 +132,21 @@ def _line(
     rates = []
     for uid in list(work)[:MOST_NAMED]:
         rate = resources[uid].rate or Decimal(0)
-        rates.append(f"{clip(resources[uid].name, 40)} {plain(rate)}/h")
+        rates.append(f"{clip(resources[uid].name, 40)} {plain_number(rate)}/h")
     more = " .." if len(work) > MOST_NAMED else ""
-    hours = plain(Decimal(overtime.minutes) / 60)
+    hours = plain_number(Decimal(overtime.minutes) / 60)
+    premium = plain_number(Decimal(str(float(overtime.premium * 100))))
     return (
         f"proposed: {task.where}, task {clip(task.name)!r}: shortest duration "
         f"{_days(crash.minutes, day_minutes)} days of {_days(task.minutes, day_minutes)}, "
-        f"{plain(crash.slope or Decimal(0))} for each day less "
-        f"({hours} h of overtime a day at +{plain(Decimal(str(float(overtime.premium * 100))))} %: "
+        f"{plain_number(crash.slope or Decimal(0))} for each day less "
+        f"({hours} h of overtime a day at +{premium} %: "
         f"{', '.join(rates)}{more})"
     )
 
 
 def _days(minutes: int, day_minutes: int) -> str:
-    return plain((Decimal(minutes) / day_minutes).quantize(Decimal("0.01")))
+    return plain_number((Decimal(minutes) / day_minutes).quantize(Decimal("0.01")))
 
 
 def _skipped_line(why: str, names: list[str]) -> str:

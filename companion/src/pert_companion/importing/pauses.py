@@ -141,7 +141,7 @@ class PauseSearch:
         self._order = list(sorter.static_order())
         self._owners = {card.code: card.code for card in deck.work}
         for task in side.tasks:
-            self._owners.update(dict.fromkeys(_cards(task), task.code))
+            self._owners.update(dict.fromkeys(task.cards(), task.code))
         self._links = list(self._links_of_tasks())
 
     def _links_of_tasks(self) -> Iterator[tuple[str, str]]:
@@ -234,9 +234,3 @@ def _pass(
                 starts[owner] = start + wait
                 moved[owner] = None
     return list(moved)
-
-
-def _cards(task: SideTask) -> list[str]:
-    """Returns the cards of a task: its parts and its moments."""
-    moments = (task.start_moment, task.finish_moment)
-    return [*task.parts, *(moment for moment in moments if moment is not None)]

@@ -9,7 +9,7 @@ from decimal import Decimal
 from fractions import Fraction
 
 from pert_companion.model.errors import InputError
-from pert_companion.model.figures import day_words, days_text
+from pert_companion.model.figures import day_words, days_text, plain_number
 from pert_companion.model.sidefile import SideFile
 
 
@@ -42,12 +42,12 @@ class Measure:
         """
         exact = Fraction(days) * self.day_minutes / self.unit_minutes
         near = round(exact)
-        if near == exact or self.days(near) == _plain(days):
+        if near == exact or self.days(near) == plain_number(days):
             return near
         below = exact.numerator // exact.denominator
         raise InputError(
             f"the plan counts time in steps of {self._step_words()}: {self.days(below)} or"
-            f" {self.days(below + 1)} days, not {_plain(days)}"
+            f" {self.days(below + 1)} days, not {plain_number(days)}"
         )
 
     def _step_words(self) -> str:
@@ -62,9 +62,3 @@ class Measure:
 def measure_of(side: SideFile) -> Measure:
     """Returns the measure of a deck by its side file."""
     return Measure(side.unit_minutes, side.calendar.day_minutes)
-
-
-def _plain(number: Decimal) -> str:
-    """Returns a number without zeros at its end: `82.5`, `160`."""
-    text = f"{number:f}"
-    return text.rstrip("0").rstrip(".") if "." in text else text

@@ -6,6 +6,7 @@ from functools import cached_property
 
 from pert_companion.model.calendar import works_daily
 from pert_companion.model.errors import InputError
+from pert_companion.model.moments import midnight
 from pert_companion.model.sidefile import SideFile
 
 MOST_RUNS = 4000
@@ -61,12 +62,12 @@ class Clock:
 
     def minutes_until(self, day: date) -> int:
         """Returns the working minutes from the start to the morning of a day; below 0 before it."""
-        morning = datetime(day.year, day.month, day.day)
+        morning = midnight(day)
         return self.side.calendar.position(morning) - self.origin
 
     def units_until(self, day: date) -> int:
         """Returns the complete units from the start to the end of a day; below 0 if it is past."""
-        after = datetime(day.year, day.month, day.day) + timedelta(days=1)
+        after = midnight(day) + timedelta(days=1)
         return (self.side.calendar.position(after) - self.origin) // self.side.unit_minutes
 
     def runs(self, units: int) -> list[list[int]]:

@@ -15,6 +15,7 @@ from datetime import date, datetime, timedelta
 from pert_companion.model.cards import ToGoCard
 from pert_companion.model.deck import Deck
 from pert_companion.model.errors import InputError
+from pert_companion.model.moments import midnight
 from pert_companion.model.sidefile import SideFile
 
 LAST_DAY = date(2199, 12, 31)
@@ -47,8 +48,7 @@ class Counts:
 
     def count(self, day: date) -> int:
         """Returns the whole units of working time from the start to the morning of a day."""
-        moment = datetime(day.year, day.month, day.day)
-        passed = self.side.calendar.position(moment) - self.origin
+        passed = self.side.calendar.position(midnight(day)) - self.origin
         return max(0, passed // self.side.unit_minutes)
 
     def day(self, count: int) -> date:

@@ -62,6 +62,12 @@ def currency_text(amount: Decimal) -> str:
     return f"{amount:.2f}" if amount == round(amount, 2) else f"{amount.normalize():f}"
 
 
+def plain_number(number: Decimal) -> str:
+    """Returns a number without an exponent and without zeros at its end: `82.5`, `160`."""
+    text = f"{number:f}"
+    return text.rstrip("0").rstrip(".") if "." in text else text
+
+
 def signed_days(minutes: int | None, day_minutes: int) -> str:
     """Returns working minutes in days with their sign, as `+3`, `0` or `-0.5`."""
     if minutes is None:

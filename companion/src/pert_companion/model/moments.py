@@ -31,6 +31,16 @@ def day(text: str) -> date | None:
     return None if found is None else found.date()
 
 
+def midnight(found: date) -> datetime:
+    """Returns the moment at which a day begins."""
+    return datetime(found.year, found.month, found.day)
+
+
+def last_day_before(calendar: Calendar, morning: date) -> date:
+    """Returns the last day of work before a morning."""
+    return calendar.end_at(calendar.position(midnight(morning))).date()
+
+
 def finish_day(calendar: Calendar, text: str) -> date | None:
     """Returns the last day of work of a finish, or None.
 

@@ -81,6 +81,11 @@ class SideTask:
     baselines: tuple[Baseline, ...] = ()
     own: SideOwn | None = None
 
+    def cards(self) -> list[str]:
+        """Returns the codes of its cards: its parts, and the milestones at its ends."""
+        milestones = (self.start_moment, self.finish_moment)
+        return [*self.parts, *(code for code in milestones if code is not None)]
+
 
 @dataclass(frozen=True)
 class SideGroup:
@@ -488,10 +493,7 @@ def card_codes(side: SideFile) -> list[str]:
     """Returns the codes of all cards that the side file says something of."""
     codes = list(side.waits)
     for task in side.tasks:
-        codes.extend(task.parts)
-        for moment in (task.start_moment, task.finish_moment):
-            if moment is not None:
-                codes.append(moment)
+        codes.extend(task.cards())
     return codes
 
 

@@ -2,12 +2,13 @@
 
 from collections.abc import Iterator
 from dataclasses import dataclass, replace
-from datetime import date, datetime, timedelta
+from datetime import date, timedelta
 from fractions import Fraction
 
 from pert_companion.analysis.own_baseline import own_baseline
 from pert_companion.analysis.schedule import ScheduledTask
 from pert_companion.model.errors import InputError
+from pert_companion.model.moments import last_day_before
 from pert_companion.page import charts
 from pert_companion.page.gathering import Gathered
 from pert_companion.page.view import Bar, Line, TaskRow, Tick, plain, title
@@ -70,12 +71,10 @@ def _evening(gathered: Gathered, day: date | None) -> date | None:
     """Returns the last day of work before the morning of a day."""
     if day is None:
         return None
-    calendar = gathered.state.side.calendar
     try:
-        moment = calendar.end_at(calendar.position(datetime(day.year, day.month, day.day)))
+        return last_day_before(gathered.state.side.calendar, day)
     except InputError:
         return day
-    return moment.date()
 
 
 def group_row(name: str, level: int, is_other: bool) -> TaskRow:

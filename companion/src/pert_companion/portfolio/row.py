@@ -2,7 +2,7 @@
 
 from collections.abc import Sequence
 from dataclasses import dataclass, replace
-from datetime import date, datetime, timedelta
+from datetime import date, timedelta
 from fractions import Fraction
 from pathlib import Path
 
@@ -16,6 +16,7 @@ from pert_companion.model.amounts import measure_of
 from pert_companion.model.clock import Clock
 from pert_companion.model.errors import CompanionError
 from pert_companion.model.losses import accepted_text
+from pert_companion.model.moments import midnight
 from pert_companion.model.sidefile import side_path
 from pert_companion.page.gathering import original_budget, project_amounts
 from pert_companion.page.words import words_of
@@ -256,7 +257,7 @@ def _shares(clock: Clock, first: int, last: int) -> Sequence[tuple[str, Fraction
     shares = []
     while begin < end:
         monday += timedelta(days=7)
-        border = min(end, calendar.position(datetime(monday.year, monday.month, monday.day)))
+        border = min(end, calendar.position(midnight(monday)))
         if border > begin:
             name = week_name(monday - timedelta(days=7))
             shares.append((name, Fraction(border - begin, (last - first) * unit)))

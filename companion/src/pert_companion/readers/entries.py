@@ -4,6 +4,7 @@ from collections.abc import Sequence, Set
 from dataclasses import dataclass, field, replace
 from decimal import Decimal
 
+from pert_companion.model.figures import plain_number
 from pert_companion.model.logic import CLOCK_NAME
 from pert_companion.model.losses import LossKind
 from pert_companion.model.plan import Group, Task
@@ -11,7 +12,7 @@ from pert_companion.readers.cells import CellReader
 from pert_companion.readers.grid import clip
 from pert_companion.readers.list_calendars import ListCalendars
 from pert_companion.readers.outline import Node, Row
-from pert_companion.readers.values import is_nothing, is_yes, plain, text_of
+from pert_companion.readers.values import is_nothing, is_yes, text_of
 
 TOTALS = frozenset(
     "total totals sum summe gesamt gesamtsumme insgesamt subtotal sub-total zwischensumme".split()
@@ -286,7 +287,7 @@ def _sums(entries: Entries, name: str) -> tuple[dict[Node, Decimal], Decimal]:
 def _compare(row: Row, name: str, total: Decimal, reader: CellReader) -> None:
     given = reader.amount(row, name)
     if given and given != total:
-        why = f"the sum of its tasks is {plain(total)}; what is over needs a task of its own"
+        why = f"the sum of its tasks is {plain_number(total)}; what is over needs a task of its own"
         reader.lose(row, name, why)
 
 
@@ -296,4 +297,4 @@ def _compare_total(
     """Names a total that is neither the sum of all tasks nor that of a group."""
     given = reader.amount(row, name)
     if given and given not in sums:
-        reader.lose(row, name, f"the sum of the tasks is {plain(total)}")
+        reader.lose(row, name, f"the sum of the tasks is {plain_number(total)}")

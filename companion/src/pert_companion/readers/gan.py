@@ -2,7 +2,7 @@
 
 from collections.abc import Iterator, Mapping
 from dataclasses import replace
-from datetime import date, datetime
+from datetime import date
 from decimal import Decimal
 from functools import cached_property
 
@@ -169,8 +169,7 @@ class _Reader(TreeReader):
         """Returns the last day of work of a task that begins on a day."""
         if start is None or minutes == 0:
             return start
-        morning = datetime(start.year, start.month, start.day)
-        return self.calendar.end_of(morning, minutes).date()
+        return self.calendar.end_of(moments.midnight(start), minutes).date()
 
     def constraint(self, row: Row) -> Constraint | None:
         """Returns the earliest start of a task, or None."""

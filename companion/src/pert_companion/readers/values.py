@@ -12,6 +12,8 @@ from datetime import date
 from decimal import Decimal
 from fractions import Fraction
 
+from pert_companion.model.figures import plain_number
+
 MOST_CHARACTERS = 200
 MOST_DIGITS = 15
 FIRST_YEAR = 1900
@@ -168,18 +170,12 @@ def unit_of(word: str) -> str | None:
 def text_of(cell: Cell) -> str:
     """Returns a cell as a text for messages and for columns of texts."""
     if isinstance(cell, Share):
-        return f"{plain(cell.percent)}%"
+        return f"{plain_number(cell.percent)}%"
     if isinstance(cell, Measure):
-        return f"{plain(cell.number)} {cell.unit}"
+        return f"{plain_number(cell.number)} {cell.unit}"
     if isinstance(cell, Decimal):
-        return plain(cell)
+        return plain_number(cell)
     return str(cell)
-
-
-def plain(number: Decimal) -> str:
-    """Returns a number without an exponent and without zeros at its end."""
-    text = f"{number:f}"
-    return text.rstrip("0").rstrip(".") if "." in text else text
 
 
 def is_yes(cell: Cell) -> bool:

@@ -15,6 +15,7 @@ resources are cut to the part of the work that is left. The result is a plain de
 certified like any other. What is stated here, and not proved, are the remaining durations.
 """
 
+import math
 import csv
 import io
 from collections.abc import Iterator, Mapping
@@ -35,6 +36,7 @@ from pert_companion.model.days import Counts
 from pert_companion.model.deck import Deck
 from pert_companion.model.errors import InputError
 from pert_companion.model.logic import Logic, OwnTime
+from pert_companion.model.moments import midnight
 from pert_companion.model.sidefile import SideFile, SideTask
 
 WorkCard = ActivityCard | TaskCard
@@ -255,14 +257,14 @@ class _Maker:
             return self.part_left(card, task, task.remaining), Basis.SOURCE
         if task is not None and task.percent is not None:
             minutes = Fraction(100 - task.percent) * task.minutes / 100
-            return self.part_left(card, task, _up(minutes)), Basis.PERCENT
+            return self.part_left(card, task, math.ceil(minutes)), Basis.PERCENT
         basis = Basis.WAIT if card.code in self.side.waits else Basis.WORKED
         worked = self.minutes_since(self.started[card.code]) // self.side.unit_minutes
         return card.normal - worked, basis
 
     def minutes_since(self, day: date) -> int:
         """Returns the working minutes from a morning to that of the as-of date."""
-        return self.side.calendar.between(_midnight(day), _midnight(self.deck.as_of_day))
+        return self.side.calendar.between(midnight(day), midnight(self.deck.as_of_day))
 
     def part_left(self, card: WorkCard, task: SideTask, minutes: int) -> int:
         """Returns the units of a part that are left if so many minutes of the task are.
@@ -274,19 +276,19 @@ class _Maker:
         if own is not None:
             minutes = own.span(minutes)
         following = task.parts[task.parts.index(card.code) + 1 :]
-        units = _up(Fraction(minutes, self.side.unit_minutes))
+        units = math.ceil(Fraction(minutes, self.side.unit_minutes))
         return units - sum(self.by_code[part].normal for part in following)
 
     def own_time(self, task: SideTask) -> OwnTime | None:
         """Returns the time from the as-of date on of a task with a calendar of its own."""
         own = self.side.own_time(task)
-        return None if own is None else replace(own, start=_midnight(self.deck.as_of_day))
+        return None if own is None else replace(own, start=midnight(self.deck.as_of_day))
 
     def left_of(self, card: WorkCard, state: State, units: int, basis: Basis) -> Left:
         """Returns what is left if so many units are: the crash duration in proportion."""
         crash = units
         if card.normal:
-            crash = min(units, _up(Fraction(card.crash * units, card.normal)))
+            crash = min(units, math.ceil(Fraction(card.crash * units, card.normal)))
             crash = max(crash, units - (card.normal - card.crash))
         said = self.said.get(card.code)
         if said is not None and said.crash is not None:
@@ -335,18 +337,18 @@ class _Maker:
             share = Fraction(left.normal, normal) if normal else Fraction(1)
             if left.state is State.FINISHED:
                 share = Fraction(0)
-            quantity = _up(min(share, Fraction(1)) * load.quantity)
+            quantity = math.ceil(min(share, Fraction(1)) * load.quantity)
             if quantity or not load.quantity:
                 yield replace(load, quantity=quantity)
 
     def days_passed(self) -> int:
         """Returns the days that have passed, as the directed end counts them, rounded up."""
         day_minutes = self.side.unit_minutes // self.deck.project.unit_days
-        return _up(Fraction(self.passed_minutes(), day_minutes))
+        return math.ceil(Fraction(self.passed_minutes(), day_minutes))
 
     def passed_minutes(self) -> int:
         """Returns the working minutes from the first day to the as-of date."""
-        moment = _midnight(self.deck.as_of_day)
+        moment = midnight(self.deck.as_of_day)
         return max(0, self.side.calendar.position(moment) - self.counts.origin)
 
     def project(self) -> ProjectCard:
@@ -365,7 +367,7 @@ class _Maker:
         terms = self.deck.terms
         if terms is None:
             return None
-        passed = _up(Fraction(self.passed_minutes(), self.side.unit_minutes))
+        passed = math.ceil(Fraction(self.passed_minutes(), self.side.unit_minutes))
         if terms.target and terms.target < passed:
             late = passed - terms.target
             self.notes.append(
@@ -412,17 +414,7 @@ def _said_left(task: SideTask) -> int:
     """Returns the most working minutes of its own calendar that are left of a task under way."""
     if task.remaining is not None:
         return task.remaining
-    return _up(Fraction(100 - (task.percent or 0)) * task.minutes / 100)
-
-
-def _midnight(day: date) -> datetime:
-    """Returns the beginning of a day."""
-    return datetime(day.year, day.month, day.day)
-
-
-def _up(number: Fraction | int) -> int:
-    """Returns a number rounded up to a whole one."""
-    return -(-number.numerator // number.denominator)
+    return math.ceil(Fraction(100 - (task.percent or 0)) * task.minutes / 100)
 
 
 def _estimates(card: WorkCard, left: int) -> tuple[int, int, int]:

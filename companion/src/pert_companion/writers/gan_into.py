@@ -5,6 +5,7 @@ date of the report. A task under way lasts what was done of it and what is left,
 such that as much is left as the schedule says. Elements that do not change keep their bytes.
 """
 
+import math
 from collections.abc import Iterable, Iterator
 from datetime import date, datetime
 from fractions import Fraction
@@ -101,12 +102,12 @@ class _Change:
         day = self.calendar.day_minutes
         before = whole(element.get(DURATION, "")) or 0
         exact = max(Fraction(0), before - Fraction(task.shortened_minutes, day))
-        days = _up(exact)
+        days = math.ceil(exact)
         fault = ""
         if days != exact:
             fault = f"{number_text(exact)} days; the file has whole days: {days}"
         if has_begun:
-            days, percent = days_and_percent(days, _up(Fraction(task.left_minutes, day)))
+            days, percent = days_and_percent(days, math.ceil(Fraction(task.left_minutes, day)))
             self.set(element, PERCENT, str(percent))
         self.set(element, DURATION, str(days))
         cost = self.put_cost(element, task)
@@ -176,7 +177,7 @@ class _Change:
         finish = max(last for _, last in spans)
         self.put_start(element, self.calendar.morning(start))
         minutes = self.calendar.between(self.calendar.morning(start), finish)
-        self.set(element, DURATION, str(_up(Fraction(minutes, self.calendar.day_minutes))))
+        self.set(element, DURATION, str(math.ceil(Fraction(minutes, self.calendar.day_minutes))))
 
     def span(self, element: Element) -> tuple[date, datetime] | None:
         """Returns the first day of a row and the moment at which it ends, or None."""
@@ -199,7 +200,7 @@ def days_and_percent(days: int, left: int) -> tuple[int, int]:
     for distance in count():
         for near in (lasting + distance, lasting - distance):
             percent = min(_ALL - 1, max(1, _ALL - _ALL * left // max(1, near)))
-            if near >= left and _up(Fraction(near * (_ALL - percent), _ALL)) == left:
+            if near >= left and math.ceil(Fraction(near * (_ALL - percent), _ALL)) == left:
                 return near, percent
     raise AssertionError("a duration of 100 times what is left has a percentage")
 
@@ -209,8 +210,3 @@ def _columns(tasks: Node) -> Iterator[tuple[str, str]]:
     for node in tasks.within("taskproperties", "taskproperty"):
         if node.attribute("type") == "custom":
             yield node.attribute("id"), node.attribute("name").casefold()
-
-
-def _up(number: Fraction) -> int:
-    """Returns a number rounded up to a whole one."""
-    return -(-number.numerator // number.denominator)
