@@ -82,6 +82,17 @@ def test_the_current_folder_is_not_on_the_path(place: Path, name: str, tmp_path:
     assert sorted(path.name for path in tmp_path.iterdir()) == sorted(f"{m}.py" for m in MODULES)
 
 
+@pytest.mark.parametrize("name", ["pert-days", "pert-report"])
+def test_the_current_folder_is_not_on_the_path_of_the_package(name: str, tmp_path: Path) -> None:
+    """`python3 -m` puts the current folder first; the package takes it away before it imports."""
+    for module in ("argparse", "csv", "random", "json", "jinja2"):
+        (tmp_path / f"{module}.py").write_text("raise SystemExit('a file of the folder was run')\n")
+    words = [sys.executable, "-m", "pert_companion", name, "--help"]
+    done = run(words, tmp_path, PYTHONPATH=str(TOP / "companion" / "src"))
+    assert (done.returncode, done.stderr) == (0, "")
+    assert done.stdout.startswith(f"usage: {name} ")
+
+
 def test_a_link_to_a_command_is_followed(place: Path, tmp_path: Path) -> None:
     """Its own name may be another one."""
     (tmp_path / "days").symlink_to(place / "pert-days")

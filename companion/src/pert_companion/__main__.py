@@ -5,6 +5,10 @@
 
 import os
 import sys
+
+if __name__ == "__main__" and not sys.flags.safe_path:
+    del sys.path[0]  # the current folder, which `python3 -m` puts before all others
+
 from importlib import import_module
 
 from pert_companion import VERSION
