@@ -292,13 +292,12 @@ def test_a_file_that_somebody_else_changed(
     page.run(f"{buttons}.find((it) => it.textContent === '{choice}').click()")
     page.wait("document.getElementById('trouble').hidden")
     has_settled(page)
-    set_cell(page, "Paint", "Cost", "777")
+    set_cell(page, "Paint", "Normal", "7")
     press(page, "s", CONTROL)
     page.wait("document.getElementById('saved').textContent === 'saved'")
-    costs = {card.code: card.cost for card in read_deck(deck).activities}
-    normals = {card.code: card.normal for card in read_deck(deck).activities}
-    assert (costs["ROOF"], costs["PAINT"]) == (1234, 777)
-    assert (normals["WALLS"] == 9) == choice.startswith("Take")
+    cards = {card.code: card for card in read_deck(deck).activities}
+    assert (cards["ROOF"].cost, cards["PAINT"].normal) == (1234, 7)
+    assert cards["WALLS"].normal == (9 if choice.startswith("Take") else 10)
     kept = tmp_path / "plans" / ".pert-desk" / "before" / "house"
     assert any(file.read_bytes() == theirs for file in kept.glob("*.csv"))
     assert complaints(page) == []

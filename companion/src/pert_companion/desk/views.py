@@ -40,8 +40,8 @@ from pert_companion.state.remaining import State
 from pert_companion.state.work import Work
 
 Json = dict[str, object]
-EDITED = (*FIELDS, plan_edits.LINKS, *STATUS)
-"""The fields of a row that may be edited."""
+EDITED = [name.replace("-", "_") for name in (*FIELDS, plan_edits.LINKS, *STATUS)]
+"""The fields of a row that may be edited, as JSON has them."""
 
 
 def day_json(day: date | None) -> str | None:
@@ -100,7 +100,7 @@ class Rows:
         """Returns the row of a task."""
         card, further = self.cards[task.code], further_units(self.cards, task)
         start, finish = actual_days(task, self.days)
-        links, amounts = self.links.links_to(task), self.amounts
+        links, amounts, fixed = self.links.links_to(task), self.amounts, self._fixed(task)
         return {
             "kind": "task",
             "code": task.code,
@@ -120,8 +120,8 @@ class Rows:
             "is_milestone": task.normal == 0,
             "deadline": day_json(task.deadline),
             "resources": self.resources.get(task.code, []),
-            "editable": [name.replace("-", "_") for name in self._editable(task)],
-            "fixed": {name.replace("-", "_"): why for name, why in self._fixed(task).items()},
+            "editable": [field for field in EDITED if field not in fixed],
+            "fixed": fixed,
         }
 
     def _link_texts(self, task: SideTask) -> Iterator[str]:
@@ -156,10 +156,6 @@ class Rows:
     def _state(self, task: SideTask) -> State:
         found = {self.states.get(part, State.WAITING) for part in task.parts}
         return found.pop() if len(found) == 1 else State.BEGUN
-
-    def _editable(self, task: SideTask) -> list[str]:
-        fixed = self._fixed(task)
-        return [field for field in EDITED if field not in fixed]
 
     def _fixed(self, task: SideTask) -> dict[str, str]:
         """Returns why fields of a task cannot be edited, by field."""
