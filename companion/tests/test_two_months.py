@@ -20,8 +20,12 @@ from running import run_words
 from test_list_calendars import workbook_bytes
 from two_months import FREE, NOW, START, dated, running, station, walked
 
+from pert_companion.analysis.settling import settled
 from pert_companion.cli import exporting, importing, schedule
 from pert_companion.model.plan import Plan
+from pert_companion.programs.client import Programs
+from pert_companion.programs.results import Breakpoint, cost_at
+from pert_companion.state.project import open_state
 
 BY = date(2026, 9, 18)
 Capture = pytest.CaptureFixture[bytes]
@@ -174,3 +178,48 @@ def test_month_two(name: str, tmp_path: Path, capsysbinary: Capture) -> None:
         for field in ("uid", "start", "finish", "left_minutes", "cost"):
             assert before[field] == after[field], (before["uid"], field)
     assert (found["end"], found["cost"]) == (chosen["end"], chosen["cost"])
+
+
+EXPORT = (exporting.parser, exporting.run)
+BACK = pytest.mark.parametrize("name", [name for name, it in FORMATS.items() if it.has_way_back])
+
+
+def costs_from(curve: Sequence[Breakpoint], length: int) -> list[int]:
+    """Returns the least costs of a curve from a length down to its shortest, a unit each."""
+    return [cost_at(curve, units)[0] for units in range(length, curve[-1].length - 1, -1)]
+
+
+@BACK
+@pytest.mark.parametrize("is_running", (False, True))
+def test_prices_of_further_days_with_two_calendars(
+    name: str, is_running: bool, tmp_path: Path, capsysbinary: Capture
+) -> None:
+    """At three lengths: what comes back has the curve that the schedule counts at its dates.
+
+    Where that is not the curve at normal durations, the schedule says both costs.
+    """
+    form, plan = FORMATS[name], plan_for(name)
+    plan = running(plan) if is_running else plan
+    deck = imported(capsysbinary, tmp_path, name, form.write(plan), is_running)
+    original, back = tmp_path / f"plan-{name}{form.ending}", tmp_path / "back"
+    back.mkdir()
+    state = open_state(deck, Programs())
+    longest, shortest = state.rest.longest, state.rest.shortest
+    compared = 0
+    for length in (longest - 1, (longest + shortest) // 2, shortest + 3):
+        found = settled(state.rest, length)
+        if not found.is_settled or found.point.length != length:
+            assert found.text()
+            continue
+        target = tmp_path / f"back{form.ending}"
+        words = ["--length", str(length), "--into", original, "-o", target, "--overwrite"]
+        done = run_words(capsysbinary, "pert-export", EXPORT, [deck, *words])
+        assert done.status == 0, done.errors
+        counted = cost_at(state.rest.curve, length)[0]
+        both = f"it costs {found.point.cost}, and {counted} on the curve"
+        assert (both in done.errors) == (counted != found.point.cost)
+        again = imported(capsysbinary, back, name, target.read_bytes(), is_running)
+        costs = costs_from(found.work.curve, length)
+        assert costs_from(open_state(again, Programs()).rest.curve, length) == costs
+        compared += 1
+    assert compared

@@ -5,6 +5,7 @@ with another calendar falls on other days and may last other units. Then the dec
 at these dates and solved again for the same length, until nothing changes any more.
 """
 
+from collections.abc import Iterator
 from dataclasses import dataclass, replace
 from datetime import datetime
 
@@ -13,6 +14,7 @@ from pert_companion.analysis.passes import Passes, passes_at
 from pert_companion.carry.recounting import recounted
 from pert_companion.model.amounts import measure_of
 from pert_companion.model.cards import AfterCard
+from pert_companion.model.figures import money_text
 from pert_companion.programs import results
 from pert_companion.state.work import Work
 
@@ -36,18 +38,37 @@ class Settled:
     """The length in units that was asked for; None for that of normal durations."""
     end: datetime = datetime.max
     """When it ends by the calendars of its tasks, of a plan with several."""
+    curve: tuple[results.Breakpoint, ...] = ()
+    """The curve as it is counted at normal durations, of a plan with several calendars."""
 
     def text(self) -> str:
         """Returns what counting could not keep, for people; an empty text if it kept all."""
+        return "; ".join(self._texts())
+
+    def _texts(self) -> Iterator[str]:
         measure, found = measure_of(self.work.side), self.point.length
         if self.wanted is not None and self.wanted != found:
-            return (
+            yield (
                 f"counted at its dates, no schedule has {measure.words(self.wanted)}: this one has"
                 f" {measure.words(found)}"
             )
-        if not self.is_settled:
-            return "its units change with its dates; this is the best of the schedules found"
-        return ""
+        elif not self.is_settled:
+            yield "its units change with its dates; this is the best of the schedules found"
+        if not self.curve or not self.curve[-1].length <= found <= self.curve[0].length:
+            return
+        counted, _ = results.cost_at(self.curve, found)
+        if counted != self.point.cost:
+            scale = self.work.side.money_scale
+            yield (
+                f"counted at its dates it costs {money_text(self.point.cost, scale)}, and"
+                f" {money_text(counted, scale)} on the curve, which counts at those of normal"
+                " durations"
+            )
+        if self.work.shortest != self.curve[-1].length:
+            yield (
+                f"counted at its dates the shortest is {measure.words(self.work.shortest)}, not"
+                f" {measure.words(self.curve[-1].length)}"
+            )
 
 
 def settled(work: Work, length: int | None) -> Settled:
@@ -62,12 +83,13 @@ def settled(work: Work, length: int | None) -> Settled:
     found = _settled_at(work, length, length)
     if length is None:
         return found
+    found = replace(found, curve=work.curve)
     wanted = work.clock.end_moment(length)
     for shorter in range(length - 1, max(work.shortest, length - SHORTER) - 1, -1):
         if found.end <= wanted:
             break
         other = _settled_at(work, shorter, length)
-        found = other if other.end <= wanted else found
+        found = replace(other, curve=work.curve) if other.end <= wanted else found
     return found
 
 

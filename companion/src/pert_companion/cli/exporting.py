@@ -91,6 +91,8 @@ def run(options: argparse.Namespace) -> int:
         lines.extend(about_new_file(ending, state, schedule))
     for line in lines:
         say(NAME, line)
+    if schedule.counting:
+        say(NAME, f"note: {schedule.counting}")
     say(
         NAME,
         f"{named(options.output)}: {len(schedule.tasks)} tasks, {schedule.start} to {schedule.end}",
