@@ -199,14 +199,20 @@ def test_units_are_those_of_all_durations() -> None:
     halves = plan(task("1", 1.5), task("2", 2, estimates=Estimates(DAY, DAY * 2, DAY * 4)))
     carried = carry(halves)
     assert carried.side.unit_minutes == 240
-    assert carried.notes[-1] == "durations are counted in half days"
+    assert carried.notes == ()
     assert carried.deck.tasks[1].pessimistic == 8
     carried = carry(halves, CarryOptions(unit="days"))
     assert carried.deck.tasks[0].normal == 2 and carried.side.unit_minutes == DAY
     (loss,) = losses_of(carried, LossKind.FRACTION)
     assert (loss.text, loss.why) == ("720 working minutes", "rounded up to 2 days")
     assert carry(halves, CarryOptions(unit="hours")).deck.tasks[0].normal == 12
-    assert carry(halves, CarryOptions(unit="90")).notes[-1].endswith("units of 90 minutes")
+    said = carry(halves, CarryOptions(unit="90"))
+    assert said.notes == ("durations are counted in units of 90 minutes",)
+    assert {loss.why for loss in losses_of(said, LossKind.FRACTION)} == {
+        "rounded up to 1.12 days",
+        "rounded up to 2.06 days",
+        "rounded up to 4.12 days",
+    }
     for word in ("fortnights", "0", "-5", "99999", "1.5"):
         with pytest.raises(UsageError, match="say auto, days, hours, or a number of minutes"):
             carry(halves, CarryOptions(unit=word))

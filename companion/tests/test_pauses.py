@@ -14,6 +14,7 @@ from test_carry import DATES, PROGRAMS, has_exact_links, property_settings
 
 from pert_companion.carry import carry
 from pert_companion.importing.pauses import CurvePauses, check_curve, pausing_tasks
+from pert_companion.model.amounts import Measure
 from pert_companion.model.calendar import Calendar
 from pert_companion.model.cards import AfterCard, ItemCard, ProjectCard, TaskCard
 from pert_companion.model.deck import Deck
@@ -35,6 +36,7 @@ def side_task(
     return SideTask(code, code, None, code, (), (code,), start_moment, finish_moment)
 
 
+DAYS = Measure(480, 480)
 DECK = Deck(
     project=ProjectCard("W", "start", "end", date(2026, 9, 1)),
     items=(ItemCard("W", ""), ItemCard("W.1", "W")),
@@ -77,7 +79,7 @@ def test_the_least_length_in_one_piece_is_found() -> None:
     assert found.least == 24
     assert [entry.length for entry in found.pausing] == [21]
     assert [task.code for task in found.pausing[0].tasks] == ["DECK"]
-    assert found.line("days") == (
+    assert found.line(DAYS) == (
         "24 days is the least length in one piece: at shorter lengths of the curve these tasks"
         " pause: 'DECK'"
     )
@@ -140,7 +142,7 @@ def test_plans_that_cannot_pause_are_not_asked_about() -> None:
     assert check_curve(ProjectState(PROGRAMS, DECK, plain).plan) == CurvePauses(21, ())
     fixed = replace(DECK, tasks=tuple(replace(task, crash=task.normal) for task in DECK.tasks))
     assert check_curve(ProjectState(PROGRAMS, fixed, SIDE).plan) == CurvePauses(24, ())
-    assert check_curve(ProjectState(PROGRAMS, fixed, SIDE).plan).line("days") == ""
+    assert check_curve(ProjectState(PROGRAMS, fixed, SIDE).plan).line(DAYS) == ""
     normal = {task.code: task.normal for task in DECK.tasks}
     assert not pausing_tasks(DECK, SIDE, normal, 24)
     assert pausing_tasks(DECK, SIDE, normal, 23)

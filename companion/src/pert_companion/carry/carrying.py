@@ -225,13 +225,13 @@ class _Carrier:
         calendar = self.plan.calendar
         self.unit_minutes = units.minutes_of_unit(self.options.unit, calendar, self.all_nodes)
         self.unit_name = units.unit_name(self.unit_minutes, calendar)
-        rounding = units.Rounding(self.unit_minutes, self.unit_name, self.losses)
+        rounding = units.Rounding(self.unit_minutes, calendar.day_minutes, self.losses)
         for node in self.all_nodes:
             rounding.set_durations(node)
             self.money.set_cost(node, calendar, rounding)
             for tie in node.starts + node.finishes:
                 rounding.set_lag(node, tie)
-        if self.unit_minutes != calendar.day_minutes:
+        if self.options.unit != "auto" and self.unit_minutes != calendar.day_minutes:
             self.notes.append(f"durations are counted in {self.unit_name}")
 
     def _deck(self, network: Network) -> Deck:

@@ -7,6 +7,7 @@ from dataclasses import dataclass
 from pert_companion.carry.model import Node, Tie
 from pert_companion.model.calendar import Calendar
 from pert_companion.model.errors import UsageError
+from pert_companion.model.figures import day_words
 from pert_companion.model.losses import Loss, LossKind
 from pert_companion.model.plan import Estimates, Task
 
@@ -73,21 +74,26 @@ class Rounding:
     """Turns minutes into units; what is not whole is rounded up and is a loss."""
 
     unit_minutes: int
-    name: str
+    day_minutes: int
     losses: list[Loss]
 
     def units(self, minutes: int, where: str, task: str, field: str) -> int:
         """Returns a time in units, rounded up; longer than a deck can have is a loss too."""
         units = -(-minutes // self.unit_minutes)
         if units * self.unit_minutes != minutes:
-            why = f"rounded up to {units} {self.name}"
+            why = f"rounded up to {self._words(units)}"
             text = f"{minutes} working minutes"
             self.losses.append(Loss(LossKind.FRACTION, where, task, field, text, why))
         if units > MAX_UNITS:
-            why = f"a deck has durations up to {MAX_UNITS} {self.name}; that is taken"
-            self.losses.append(Loss(LossKind.DURATION, where, task, field, str(units), why))
+            why = f"this deck has durations up to {self._words(MAX_UNITS)}; that is taken"
+            text = self._words(units)
+            self.losses.append(Loss(LossKind.DURATION, where, task, field, text, why))
             units = MAX_UNITS
         return units
+
+    def _words(self, units: int) -> str:
+        """Returns units as people say them, in days."""
+        return day_words(units * self.unit_minutes, self.day_minutes)
 
     def set_durations(self, node: Node) -> None:
         """Gives a node its durations in units: each estimate and the normal one; no crash yet."""

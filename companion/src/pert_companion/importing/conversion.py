@@ -18,13 +18,13 @@ from pert_companion.analysis.scheduling import (
 from pert_companion.carry import Carried, CarryOptions, carry, logic_of
 from pert_companion.carry.charges import with_ledger
 from pert_companion.carry.packages import with_effort
-from pert_companion.carry.units import unit_name
 from pert_companion.importing.capacities import with_capacities
 from pert_companion.importing.crash_sheet import candidates, crash_sheet, with_crash
 from pert_companion.importing.overtime import Overtime, propose_overtime
 from pert_companion.importing.pauses import can_pause, check_curve
 from pert_companion.importing.registers import registers_of
 from pert_companion.importing.reconcile import Reconciliation, reconcile
+from pert_companion.model.amounts import measure_of
 from pert_companion.model.errors import InputError
 from pert_companion.model.figures import money_text
 from pert_companion.model.ledger import find_ledger, ledger_path
@@ -215,8 +215,7 @@ def summary(imported: Imported) -> str:
         codes = {task.code for task in imported.side.tasks}
         begun = len({card.activity for card in deck.statuses} & codes)
         parts.append(f"{begun} begun by the evening of {imported.side.data_date}")
-    unit = unit_name(imported.side.unit_minutes, plan.calendar)
-    return f"{', '.join(parts)}; {unit} of the calendar {plan.calendar.name!r} from {plan.start}"
+    return f"{', '.join(parts)}; days of the calendar {plan.calendar.name!r} from {plan.start}"
 
 
 def _count(number: int, what: str) -> str:
@@ -253,4 +252,4 @@ def pause_line(imported: Imported, state: ProjectState) -> str:
     if not can_pause(imported.side):
         return ""
     found = check_curve(state.plan)
-    return found.line(unit_name(imported.side.unit_minutes, imported.plan.calendar))
+    return found.line(measure_of(imported.side))

@@ -12,6 +12,7 @@ from itertools import chain
 
 from pert_companion.model.deck import Deck
 from pert_companion.model.predecessors import cards_before
+from pert_companion.model.amounts import Measure
 from pert_companion.model.sidefile import SideFile, SideTask
 from pert_companion.programs.certificate import Segment
 from pert_companion.state.work import Work
@@ -34,8 +35,11 @@ class CurvePauses:
     pausing: tuple[Pausing, ...]
     """The breakpoints at which tasks pause, longest first."""
 
-    def line(self, unit: str) -> str:
-        """Returns one line for the user, or an empty text if no task pauses at any breakpoint."""
+    def line(self, measure: Measure) -> str:
+        """Returns one line for the user, or an empty text if no task pauses at any breakpoint.
+
+        `measure` says what a unit of the deck is.
+        """
         if not self.pausing:
             return ""
         pausing = chain.from_iterable(entry.tasks for entry in self.pausing)
@@ -43,8 +47,8 @@ class CurvePauses:
         shown = ", ".join(repr(name) for name in list(names)[:5])
         more = f" and {len(names) - 5} more" if len(names) > 5 else ""
         return (
-            f"{self.least} {unit} is the least length in one piece: at shorter lengths of the curve"
-            f" these tasks pause: {shown}{more}"
+            f"{measure.words(self.least)} is the least length in one piece: at shorter lengths of"
+            f" the curve these tasks pause: {shown}{more}"
         )
 
 
