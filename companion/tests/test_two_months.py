@@ -7,7 +7,7 @@ import csv
 import io
 import json
 from collections.abc import Callable, Sequence
-from dataclasses import dataclass
+from dataclasses import dataclass, replace
 from datetime import date, datetime
 from pathlib import Path
 from typing import Any
@@ -223,3 +223,24 @@ def test_prices_of_further_days_with_two_calendars(
         assert costs_from(open_state(again, Programs()).rest.curve, length) == costs
         compared += 1
     assert compared
+
+
+@pytest.mark.parametrize("name", ("xer", "pmxml"))
+def test_must_finish_by_with_two_calendars(
+    name: str, tmp_path: Path, capsysbinary: Capture
+) -> None:
+    """The import and the schedule name the same last day: that of the walk over the calendars."""
+    form, plan = FORMATS[name], plan_for(name)
+    walk = walked(plan, {task.uid: task.minutes for task in plan.tasks()})
+    end = max(finish for _, finish in walk.values()).date()
+    held = replace(plan, must_finish=date(2026, 8, 28))
+    source, deck = tmp_path / f"plan{form.ending}", tmp_path / "deck.csv"
+    source.write_bytes(form.write(held))
+    done = run_words(
+        capsysbinary, "pert-import", (importing.parser, importing.run), [source, "-o", deck]
+    )
+    note = f"the plan must finish by 2026-08-28: by its links it ends on {end}\n"
+    assert done.status == 0 and note in done.errors
+    given = [deck, "--critical"]
+    table = run_words(capsysbinary, "pert-schedule", (schedule.parser, schedule.run), given)
+    assert f"the project ends on {end}, 14 days after 2026-08-28 (must finish by)" in table.output

@@ -142,7 +142,7 @@ class _Carrier:
         side = replace(side, terms=self.options.terms, logic=self.logic)
         side = replace(side, capacities=self.capacities)
         side = fitted_to(side, deck)
-        self.notes += constraint_notes(self.plan, self.nodes)
+        self.notes += constraint_notes(self.plan, self.nodes, self.spans.starts)
         kept = side_losses(self.plan)
         return Carried(deck, data, side, tuple(self.losses), kept, tuple(self.notes))
 

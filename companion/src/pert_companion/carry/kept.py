@@ -2,7 +2,7 @@
 
 from collections.abc import Mapping, Sequence
 from dataclasses import dataclass
-from datetime import date
+from datetime import date, datetime
 from decimal import Decimal
 
 from pert_companion.carry.codes import one_line, path_of, title
@@ -109,18 +109,19 @@ def side_losses(plan: Plan) -> tuple[Loss, ...]:
     return tuple(kept)
 
 
-def constraint_notes(plan: Plan, nodes: Mapping[str, Node]) -> list[str]:
+def constraint_notes(
+    plan: Plan, nodes: Mapping[str, Node], starts: Mapping[str, datetime]
+) -> list[str]:
     """Returns a note on each constraint that the early dates of the plan do not hold.
 
     These are the latest dates that links break at normal durations, the date by which the project
-    must finish too, and each task that is to be done as late as possible.
+    must finish too, and each task that is to be done as late as possible. `starts` has the first
+    moments of the tasks of a plan with several calendars, by code.
     """
-    origin = plan.calendar.position(plan.calendar.morning(plan.start))
     notes = []
     last = plan.start
     for task in plan.tasks():
-        node = nodes[task.uid]
-        dates = _Dates(plan.calendar, task, origin + node.early, node.minutes)
+        dates = _dates(plan, task, nodes[task.uid], starts)
         last = max(last, dates.last_day())
         why = dates.broken()
         if why:
@@ -174,13 +175,12 @@ def _shown(constraint: Constraint) -> str:
 
 @dataclass(frozen=True)
 class _Dates:
-    """A task with the position of its early start at normal durations."""
+    """A task with its early dates at normal durations."""
 
     calendar: Calendar
     task: Task
-    start: int
-    minutes: int
-    """The working minutes of the plan's calendar that it takes."""
+    start: datetime
+    finish: datetime
 
     def broken(self) -> str:
         """Returns how the early dates break the constraint of the task; empty if they hold it."""
@@ -188,7 +188,7 @@ class _Dates:
         if constraint is None or constraint.day is None:
             return ""
         if constraint.kind in _NO_LATER_START:
-            day = self.calendar.at(self.start).date()
+            day = self.start.date()
             if day > self.calendar.morning(constraint.day).date():
                 return f"{_shown(constraint)} is broken: by its links it starts on {day}"
         elif constraint.kind in _NO_LATER_FINISH:
@@ -199,6 +199,18 @@ class _Dates:
 
     def last_day(self) -> date:
         """Returns the last day of work; of a milestone the day of its moment."""
-        if self.minutes == 0:
-            return self.calendar.at(self.start).date()
-        return self.calendar.end_at(self.start + self.minutes).date()
+        return self.finish.date()
+
+
+def _dates(plan: Plan, task: Task, node: Node, starts: Mapping[str, datetime]) -> _Dates:
+    """Returns the early dates of a task, by its own calendar if the plan has several."""
+    calendar = plan.calendar if node.own is None else node.own.calendar
+    start = starts.get(node.code)
+    if start is not None:
+        finish = calendar.end_of(start, task.minutes) if task.minutes else start
+        return _Dates(calendar, task, start, finish)
+    begins = plan.calendar.position(plan.calendar.morning(plan.start)) + node.early
+    start = finish = plan.calendar.at(begins)
+    if node.minutes:
+        finish = plan.calendar.end_at(begins + node.minutes)
+    return _Dates(plan.calendar, task, start, finish)
