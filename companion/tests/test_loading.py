@@ -276,7 +276,7 @@ def test_table(barn: Path, capsys: Capture) -> None:
 
 
 def test_capacities_that_people_say(barn: Path, capsys: Capture) -> None:
-    """They are in the side file, and hold for later imports; a wrong name offers those there are."""
+    """They are in the side file, and hold for later imports; a wrong name offers the names."""
     plan = barn.with_suffix(".xml")
     later = barn.with_name("later.csv")
     words = (plan, "--capacity", "CREW=350%", "-o", barn, "--overwrite")
