@@ -9,7 +9,7 @@ import { element, onFrame } from "./dom.js";
 
 const ROW = 30; // pixels, as desk.css has it
 const MARGIN = 8; // rows above and below those in view
-const SHEET = 1000; // pixels of a sheet of paper that lies, between its margins
+const SHEET = 960; // pixels of a sheet of paper that lies, between its margins
 const STEPS = { ArrowUp: [-1, 0], ArrowDown: [1, 0], ArrowLeft: [0, -1], ArrowRight: [0, 1], PageUp: [-15, 0], PageDown: [15, 0] };
 let grids = 0;
 
