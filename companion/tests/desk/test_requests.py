@@ -118,7 +118,7 @@ def test_edits_of_one_request_are_made_together_or_not(desk: DeskThread) -> None
         ("DIG", "normal", "4.5", "steps of 1 day"),
         ("DIG", "price", "-3", "no number of money"),
         ("SURVEY", "price", "10", "cannot be shortened"),
-        ("CLEAR", "links", "POUR", "tasks in a cycle: CLEAR DIG POUR"),
+        ("CLEAR", "links", "POUR", "these tasks are linked in a circle: "),
         ("CLEAR", "links", "NOBODY", "no task 'NOBODY'"),
         ("DIG", "optimistic", "9", "estimates out of order"),
         ("NOBODY", "normal", "3", "no task 'NOBODY'"),
