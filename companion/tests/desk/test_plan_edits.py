@@ -134,9 +134,9 @@ def test_a_new_task_is_that_of_an_import() -> None:
     after = edited(before, "NEW.new=Pour")
     assert (after.deck, after.side) == (wanted.deck, wanted.side)
     more = edited(after, "NEW.name=Drain", "NEW.normal=3", "NEW.links=DigFF+1d", "Walls.links=NEW")
-    links = link("Dig", "Pour"), link("Dig", "NEW", "FF", 1), link("NEW", "Walls")
+    drained = link("Dig", "Pour"), link("Dig", "NEW", "FF", 1), link("NEW", "Walls")
     drain = replace(new, name="Drain", minutes=3 * DAY)
-    assert more.deck == books_of_plan(plan_of(*links, tasks=(*tasks[:3], drain, *tasks[3:]))).deck
+    assert more.deck == books_of_plan(plan_of(*drained, tasks=(*tasks[:3], drain, *tasks[3:]))).deck
     assert edited(after, "NEW.remove=").deck == before.deck
 
 
