@@ -1,7 +1,6 @@
-"""The layout of the desk's pages, measured: each panel in windows of four widths, dark, on paper."""
+"""The layout of the desk's pages, measured: each panel in four widths, dark, and on paper."""
 
 from collections.abc import Iterator
-from pathlib import Path
 
 import pytest
 
@@ -19,7 +18,7 @@ LYING = 1025
 CUT = """[...document.querySelectorAll(".entry > .number, .entry > [role='columnheader']")]
     .filter((cell) => cell.checkVisibility() && cell.scrollWidth > cell.clientWidth + 1)
     .map((cell) => cell.textContent)"""
-"""Numbers and headings of tables that have no room; a name or a link that is too long has a title."""
+"""Numbers and headings of tables that have no room; names and links that are cut have a title."""
 
 
 @pytest.fixture(name="desk", scope="module")
