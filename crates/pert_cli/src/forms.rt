@@ -41,7 +41,7 @@ pub(crate) fn usage() -> &'static [u8]
 
 /// What the words can ask for, in the order of the usage line.
 ///
-/// A variant is named after its word. `tools/command-files.py` takes the first line of its comment into completion, and
+/// A variant is named after its word. `tools/command-files` takes the first line of its comment into completion, and
 /// the rest into the manual page.
 #[derive(Clone, Copy)]
 pub(crate) enum Form {

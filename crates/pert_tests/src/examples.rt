@@ -1,5 +1,5 @@
 //! The examples in the doc comments of `Session::begin` and `run`: each function has the lines that the comment shows,
-//! and each test sees that they return true. `tests/docs/examples.py` compares them.
+//! and each test sees that they return true. `tests/docs/examples` compares them.
 ghost use Rattle.std.specs.Prelude.{◌≤◌, length};
 ghost use Rattle.pc_crash.specs.inside.Steps.{IsBlankOf};
 
