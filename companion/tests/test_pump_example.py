@@ -159,5 +159,5 @@ def test_a_new_baseline_keeps_what_was_reported(states: dict[str, ProjectState])
 
 def test_the_lists_are_all_in_the_example() -> None:
     """The script names every list, so that the example can be made again."""
-    script = (PUMP / "make").read_text()
+    script = (PUMP / "make.sh").read_text()
     assert all(f"lists/{path.name}" in script for path in Path(PUMP / "lists").iterdir())
