@@ -117,7 +117,7 @@ def test_an_unchanged_deck_is_made_again(plan: Plan) -> None:
         before = books_of_plan(plan, "60")
     except InputError:
         return
-    after = with_logic(before, ties_of(before).logic())
+    after = with_logic(before, before, ties_of(before).logic())
     assert after.deck == before.deck
     assert sorted(after.side.waits) == sorted(before.side.waits)
     side = replace(after.side, waits=before.side.waits)

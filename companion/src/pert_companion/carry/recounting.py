@@ -21,6 +21,7 @@ from pert_companion.model.cards import ActivityCard, TaskCard
 from pert_companion.model.deck import Deck
 from pert_companion.model.errors import InputError
 from pert_companion.model.logic import LogicTie, OwnTime, Recount, TieWait
+from pert_companion.model.losses import Loss
 from pert_companion.model.sidefile import SideFile, SideTask
 
 WorkCard = ActivityCard | TaskCard
@@ -33,17 +34,20 @@ def recounted(deck: Deck, side: SideFile, dates: Recount) -> tuple[Deck, SideFil
     it may.
     """
     try:
-        return made_again(deck, side, dates)
+        made, counted, losses = made_again(deck, side, dates)
     except InputError:
         return None
+    return None if losses else (made, counted)
 
 
-def made_again(deck: Deck, side: SideFile, dates: Recount) -> tuple[Deck, SideFile]:
+def made_again(
+    deck: Deck, side: SideFile, dates: Recount
+) -> tuple[Deck, SideFile, tuple[Loss, ...]]:
     """Returns a deck of a plan with a logic, and its side file, made of that logic again.
 
-    The deck has no status, and the loads of the parts that it still has. Raises `InputError` that
-    says why if a link has no equivalent in units of these dates, tasks are linked in a circle, or
-    the deck would be more than it may.
+    The deck has no status, and the loads of the parts that it still has. Links without equivalent
+    in units of these dates are losses. Raises `InputError` that says why if tasks are linked in a
+    circle, or the deck would be more than it may.
     """
     return _Maker(deck, side, dates).made()
 
@@ -59,8 +63,8 @@ class _Maker:
         self.nodes: dict[str, Node] = {}
         self.codes = Codes()
 
-    def made(self) -> tuple[Deck, SideFile]:
-        """Returns the deck and its side file."""
+    def made(self) -> tuple[Deck, SideFile, tuple[Loss, ...]]:
+        """Returns the deck and its side file, and the links that have no equivalent."""
         for task in self.side.tasks:
             self.nodes[task.code] = self._node(task)
         self._tie()
@@ -69,12 +73,11 @@ class _Maker:
             node.place = place
             self.codes.take(node.code)
         losses = resolve(in_order(nodes))
-        if losses:
-            raise InputError(losses[0].why)
         calendar, unit = self.side.calendar, self.side.unit_minutes
         network = Network(self.codes, unit_name(unit, calendar), unit, calendar)
         network.build(nodes, self.side.start)
-        return within_limits(self._deck(network), network), self._side(network)
+        deck = within_limits(self._deck(network), network)
+        return deck, self._side(network), tuple(losses)
 
     def _units(self, minutes: int) -> int:
         """Returns minutes of the plan's calendar in units, rounded up."""

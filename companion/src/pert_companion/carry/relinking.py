@@ -14,6 +14,7 @@ from pert_companion.carry.recounting import made_again
 from pert_companion.model.cards import ActivityCard, AfterCard, LoadCard, TaskCard
 from pert_companion.model.deck import Deck
 from pert_companion.model.logic import Logic, LogicTie, Recount, TieWait, first_moment
+from pert_companion.model.losses import Loss
 from pert_companion.model.plan import LinkKind
 from pert_companion.model.predecessors import LinkSearch
 from pert_companion.model.sidefile import SideFile, SideTask
@@ -61,13 +62,15 @@ class DeckTies:
             yield LogicTie(task.code, LinkKind.START_FINISH, lag=wait.finish * unit, day=first_day)
 
 
-def remade(deck: Deck, side: SideFile, logic: Logic, dates: Recount) -> tuple[Deck, SideFile]:
+def remade(
+    deck: Deck, side: SideFile, logic: Logic, dates: Recount
+) -> tuple[Deck, SideFile, tuple[Loss, ...]]:
     """Returns the deck with its side file, made of a changed logic at its normal dates.
 
-    Status cards stay with the cards that are still there, in the order of the work. Raises
-    `InputError` that says why if a deck cannot hold a link.
+    Status cards stay with the cards that are still there, in the order of the work. Links that a
+    deck cannot hold are losses. Errors are those of `made_again`.
     """
-    made, new_side = made_again(deck, replace(side, logic=logic), dates)
+    made, new_side, losses = made_again(deck, replace(side, logic=logic), dates)
     known = {card.code: card for card in deck.work}
     made = replace(
         made,
@@ -82,7 +85,7 @@ def remade(deck: Deck, side: SideFile, logic: Logic, dates: Recount) -> tuple[De
         statuses=tuple(sorted(kept, key=lambda card: place[card.activity])),
         loads=tuple(_loads(deck, side, made, new_side)),
     )
-    return made, replace(new_side, logic=None if side.logic is None else logic)
+    return made, replace(new_side, logic=None if side.logic is None else logic), losses
 
 
 def waits_of_cards(logic: Logic) -> Recount:

@@ -86,8 +86,8 @@ def _normal(books: Books, task: SideTask, _field: str, value: str) -> Books:
     normal = units + further
     entry = replace(task, normal=normal, minutes=normal * books.side.unit_minutes)
     deck = with_card(books.deck, task.code, **values)
-    books = replace(books, deck=deck, side=with_entry(books.side, entry))
-    return books if books.side.logic is None else with_logic(books, books.side.logic)
+    after, logic = replace(books, deck=deck, side=with_entry(books.side, entry)), books.side.logic
+    return after if logic is None else with_logic(books, after, logic)
 
 
 def _shortest(books: Books, task: SideTask, _field: str, value: str) -> Books:

@@ -41,7 +41,7 @@ def changed(books: Books, task: SideTask, field: str, value: str) -> Books:
     entry = _with_shortest(replace(task, minutes=normal), shortest, price, side)
     logic = side.logic
     assert logic is not None, "a task with a calendar of its own is part of a logic"
-    return with_logic(replace(books, side=with_entry(side, entry)), logic)
+    return with_logic(books, replace(books, side=with_entry(side, entry)), logic)
 
 
 def fixed_fields(task: SideTask) -> dict[str, str]:

@@ -79,7 +79,8 @@ def _with_new(books: Books, code: str, value: str) -> Books:
     place = books.side.tasks.index(neighbour) + 1
     tasks = (*books.side.tasks[:place], entry, *books.side.tasks[place:])
     deck = replace(books.deck, tasks=(*books.deck.tasks, card))
-    return with_logic(replace(books, deck=deck, side=replace(books.side, tasks=tasks)), logic)
+    after = replace(books, deck=deck, side=replace(books.side, tasks=tasks))
+    return with_logic(books, after, logic)
 
 
 def _without(books: Books, code: str, value: str) -> Books:
@@ -98,8 +99,8 @@ def _without(books: Books, code: str, value: str) -> Books:
     pieces = tuple(piece for piece in deck.pieces if piece.activity not in cards)
     tasks = tuple(each for each in books.side.tasks if each is not task)
     side = replace(books.side, tasks=tasks)
-    books = replace(books, deck=replace(deck, pieces=pieces), side=side)
-    return with_logic(books, replace(logic, ties=_with_first_days(ties, side)))
+    after = replace(books, deck=replace(deck, pieces=pieces), side=side)
+    return with_logic(books, after, replace(logic, ties=_with_first_days(ties, side)))
 
 
 def _of_tasks(ties: Sequence[LogicTie], side: SideFile) -> list[LogicTie]:
@@ -125,7 +126,7 @@ def _with_links(books: Books, code: str, value: str) -> Books:
     others = [tie for tie in logic.ties if tie.task != code or tie.day is not None]
     place = {each.code: at for at, each in enumerate(books.side.tasks)}
     ties = sorted([*others, *wanted], key=lambda tie: place.get(tie.task, len(place)))
-    return with_logic(books, replace(logic, ties=_with_first_days(ties, books.side)))
+    return with_logic(books, books, replace(logic, ties=_with_first_days(ties, books.side)))
 
 
 def _checked_logic(books: Books) -> Logic:

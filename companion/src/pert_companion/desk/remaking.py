@@ -13,6 +13,7 @@ from pert_companion.model.deck import Deck
 from pert_companion.model.errors import InputError
 from pert_companion.model.figures import days_text
 from pert_companion.model.logic import CLOCK_NAME, Lasting, Logic, LogicTie, Recount, TieWait
+from pert_companion.model.losses import Loss
 from pert_companion.model.sidefile import SideFile, SideTask
 
 
@@ -25,7 +26,7 @@ def check_remakable(books: Books, logic: Logic) -> None:
     """Raises `InputError` if the cards of a deck are not those that an import makes of its ties."""
     if books.side.logic is not None:
         return
-    deck, _ = remade(books.deck, books.side, logic, waits_of_cards(logic))
+    deck, *_ = remade(books.deck, books.side, logic, waits_of_cards(logic))
     if _cards(deck) != _cards(books.deck):
         raise InputError("the cards of its links are not those of an import: change them there")
 
@@ -35,16 +36,26 @@ def _cards(deck: Deck) -> tuple[frozenset[object], ...]:
     return frozenset(deck.work), frozenset(deck.afters), frozenset(deck.loads)
 
 
-def with_logic(books: Books, logic: Logic) -> Books:
+def with_logic(before: Books, books: Books, logic: Logic) -> Books:
     """Returns a deck that is made of a logic, with the progress of its tasks.
 
-    Raises `InputError` that says why if the deck cannot hold it.
+    Raises `InputError` that says why if the deck cannot hold a link, unless it did not before: such
+    links were accepted as losses of the import.
     """
-    deck, side = remade(books.deck, books.side, logic, _dates(books.side, logic))
+    deck, side, losses = _remade(books, logic)
+    if losses:
+        *_, known = _remade(before, ties_of(before).logic())
+        losses = tuple(loss for loss in losses if loss not in known)
+    if losses:
+        raise InputError(losses[0].why)
     made = replace(books, deck=deck, side=side)
     if side.logic is None:
         _check_kept(logic.ties, made)
     return _with_progress(books.side, made)
+
+
+def _remade(books: Books, logic: Logic) -> tuple[Deck, SideFile, tuple[Loss, ...]]:
+    return remade(books.deck, books.side, logic, _dates(books.side, logic))
 
 
 def _dates(side: SideFile, logic: Logic) -> Recount:
