@@ -6,6 +6,7 @@
 - @VERSION@ is the version, and @DOC@ the place. Programs and commands are named without a folder.
 - What is between `<!-- sources -->` and `<!-- installed` is for readers of the sources. Instead of
   it, the page has what the second comment says up to its end.
+- The comments around the tables of `tools/carried-tables.py` are left out.
 - A link to a page that is not installed is its text alone. From a table it is left out, and so is a
   row whose links all are.
 - A page whose commands use the examples says how to copy them.
@@ -20,6 +21,7 @@ from pathlib import Path
 
 TOP = Path(__file__).resolve().parent.parent
 FOR_SOURCES = re.compile(r"<!-- sources -->.*?<!-- installed\s?(.*?)\s?-->", re.S)
+TABLE = re.compile(r"^<!-- (?:table|end of) \w+ -->\n", re.M)
 FOLDER = re.compile(r"(?<![\w/.-])(?:companion/)?bin/(?=pert)")
 LINK = re.compile(r"\[([^\]]*)\]\(([^)\s]+)\)")
 INTRODUCTION = re.compile(r"\A# .*\n\n\*(?:.+\n)+")
@@ -72,6 +74,7 @@ def markdown(text: str, page: str, place: str) -> str:
     """Returns a page in Markdown as it is installed."""
     there = installed()
     text = FOR_SOURCES.sub(lambda it: it[1], text)
+    text = TABLE.sub("", text)
     text = "".join(linked(line, page, there) for line in text.splitlines(keepends=True))
     if re.search(r"^    (\$ )?.*\bexamples/", text, flags=re.M) and 'cp -r "@DOC@' not in text:
         begin = INTRODUCTION.match(text)

@@ -7,8 +7,6 @@ from pert_companion.readers.columns import HEADINGS, heading_of
 
 PAGE = Path(__file__).resolve().parents[2] / "docs" / "importing.md"
 FIELDS = list(HEADINGS)
-UNSHOWN = {"task"}
-"""The columns that the row of another one mentions."""
 
 
 def rows() -> list[tuple[list[str], list[str]]]:
@@ -34,7 +32,7 @@ def named(cell: str) -> list[str]:
 def test_each_field_is_in_the_table_once() -> None:
     """No field is missing, and none is there twice."""
     shown = [field for fields, _ in rows() for field in fields]
-    assert sorted(shown) == sorted(set(FIELDS) - UNSHOWN)
+    assert sorted(shown) == sorted(FIELDS)
 
 
 def test_headings_are_those_of_their_fields() -> None:

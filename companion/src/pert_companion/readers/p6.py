@@ -71,6 +71,8 @@ _SPANS = {
     "TT_LOE": "a level of effort spans other tasks; it is left out with its links",
     "TT_WBS": "a WBS summary spans other tasks; it is left out with its links",
 }
+_ACTUAL_COSTS = {"TASKRSRC": ("act_reg_cost", "act_ot_cost"), "PROJCOST": ("act_cost",)}
+"""The tables of costs, and the fields of each that are costs so far."""
 _MOST_MINUTES = 10**9
 _FINISHED = "TK_Complete"
 _KINDS = {
@@ -233,7 +235,7 @@ class _Reader:
     def currency(self) -> str:
         """Returns the code of the file's base currency."""
         rows = self.file.table("CURRTYPE")
-        wanted = self.project.text("base_curr_id") or self.project.text("curr_id")
+        wanted = self.project.text("base_curr_id")
         for row in rows:
             if row.text("curr_id") == wanted or len(rows) == 1:
                 return row.text("curr_short_name")[:8]
@@ -671,17 +673,18 @@ class _Costs:
         self.remaining: dict[str, Decimal] = {}
         self._fields = reader
         every = {row.text("task_id") for row in file.table("TASK")}
-        for row in [*file.table("TASKRSRC"), *file.table("PROJCOST")]:
-            uid = row.text("task_id")
-            if uid in known:
-                self._add(row, uid)
-            elif uid not in every:
-                self._name_unknown(row)
+        for table, actual in _ACTUAL_COSTS.items():
+            for row in file.table(table):
+                uid = row.text("task_id")
+                if uid in known:
+                    self._add(row, uid, actual)
+                elif uid not in every:
+                    self._name_unknown(row)
 
-    def _add(self, row: Record, uid: str) -> None:
+    def _add(self, row: Record, uid: str, actual: tuple[str, ...]) -> None:
         for held, names in (
             (self.planned, ("target_cost",)),
-            (self.actual, ("act_reg_cost", "act_ot_cost", "act_cost")),
+            (self.actual, actual),
             (self.remaining, ("remain_cost",)),
         ):
             for name in names:

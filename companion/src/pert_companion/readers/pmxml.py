@@ -176,6 +176,14 @@ _OF_PROJECT = (
     ("TASKRSRC", "ResourceAssignment", _ASSIGNMENT),
     ("PROJCOST", "ActivityExpense", _EXPENSE),
 )
+TRANSLATED = (
+    *_SHARED,
+    *_OF_PROJECT,
+    ("PROJECT", "Project", _PROJECT),
+    ("TASK", "Activity", _TASK),
+    ("UDFTYPE", "UDFType", _USER_FIELD),
+)
+"""All tables whose fields are those of XER under other names."""
 _BASELINE_COSTS = ("PlannedLaborCost", "PlannedNonLaborCost", "PlannedExpenseCost")
 _MOST_HOURS = 10**8
 _WEEKDAYS = ("Monday", "Tuesday", "Wednesday", "Thursday", "Friday", "Saturday", "Sunday")

@@ -9,43 +9,17 @@ from pert_companion.model.losses import Loss, LossKind
 from pert_companion.model.source import Source
 from pert_companion.readers import p6, p6_calendars
 from pert_companion.readers.base import ReaderOptions, Reading
+from pert_companion.readers.carried import fields_by_holder
 from pert_companion.readers.grid import clip
 from pert_companion.readers.p6 import P6File, Record
 from pert_companion.readers.p6_calendars import CalendarTextError
+from pert_companion.readers.p6_carried import P6
 from pert_companion.readers.table import decode
 
 MOST_FIELDS = 1_000
 MOST_RECORDS = 400_000
 
-_FIELDS = {
-    "PROJECT": (
-        "proj_id proj_short_name plan_start_date plan_end_date last_recalc_date clndr_id"
-        " base_curr_id"
-    ),
-    "CALENDAR": "clndr_id clndr_name day_hr_cnt week_hr_cnt month_hr_cnt clndr_data",
-    "PROJWBS": "wbs_id proj_id parent_wbs_id wbs_short_name wbs_name seq_num",
-    "TASK": (
-        "task_id proj_id wbs_id clndr_id task_code task_name task_type status_code"
-        " complete_pct_type phys_complete_pct target_drtn_hr_cnt remain_drtn_hr_cnt"
-        " act_work_qty remain_work_qty act_start_date act_end_date early_start_date"
-        " early_end_date target_start_date target_end_date cstr_type cstr_date cstr_type2"
-        " cstr_date2 external_early_start_date external_late_end_date suspend_date"
-    ),
-    "SCHEDOPTIONS": "proj_id sched_calendar_on_relationship_lag",
-    "TASKPRED": "task_id pred_task_id proj_id pred_proj_id pred_type lag_hr_cnt",
-    "RSRC": "rsrc_id rsrc_name rsrc_short_name rsrc_type clndr_id unit_id",
-    "RSRCRATE": "rsrc_id cost_per_qty max_qty_per_hr start_date",
-    "ROLES": "role_id role_name",
-    "ROLELIMIT": "role_id max_qty_per_hr start_date",
-    "TASKRSRC": (
-        "task_id rsrc_id role_id target_qty target_cost act_reg_cost act_ot_cost remain_cost"
-    ),
-    "PROJCOST": "task_id target_cost act_cost remain_cost",
-    "UMEASURE": "unit_id unit_abbrev",
-    "CURRTYPE": "curr_id curr_short_name",
-    "UDFTYPE": "udf_type_id table_name udf_type_label",
-    "UDFVALUE": "udf_type_id fk_id udf_number udf_text",
-}
+_WANTED = fields_by_holder(row.fields for row in P6)
 """The tables that are read, and their fields."""
 
 
@@ -112,13 +86,13 @@ class _Tables:
         if kind == "%T":
             self.name = cells[0].strip() if cells else ""
             self.columns = []
-            if self.name not in _FIELDS:
+            if self.name not in _WANTED:
                 self.unread.add(self.name)
         elif kind == "%F":
             self.columns = [cell.strip() for cell in cells]
         elif kind == "%R":
             self.add(number, cells)
-        elif self.name in _FIELDS or not self.name:
+        elif self.name in _WANTED or not self.name:
             self.refuse(
                 number,
                 f"the line begins with {clip(kind, 20)!r}, not with %T, %F, %R or %E; a text of"
@@ -127,7 +101,7 @@ class _Tables:
 
     def add(self, number: int, cells: list[str]) -> None:
         """Adds a row of the present table."""
-        if self.name not in _FIELDS:
+        if self.name not in _WANTED:
             return
         self.count += 1
         if self.count > MOST_RECORDS:
@@ -157,9 +131,6 @@ class _Tables:
     def refuse(self, number: int, why: str) -> None:
         """Raises the error of a line."""
         raise InputError(f"{self.file}: line {number}: {why}")
-
-
-_WANTED = {table: frozenset(names.split()) for table, names in _FIELDS.items()}
 
 
 def _lines(text: str) -> Iterator[str]:

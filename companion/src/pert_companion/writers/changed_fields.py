@@ -1,6 +1,7 @@
 """The fields of planners' files that a schedule may change, by format and kind of row or element.
 
-The tests of the ways back compare all others before and after; docs/exporting.md lists these.
+The tests of the ways back compare all others before and after; tools/carried-tables.py writes these
+into docs/exporting.md.
 """
 
 import textwrap
