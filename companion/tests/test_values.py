@@ -36,12 +36,18 @@ COMMA = Style(decimal=",")
         ("-40", POINT, "-40"),
         ("−40", POINT, "-40"),
         ("(40)", POINT, "-40"),
+        ("4480.000000000001", POINT, "4480"),
+        ("1.249,9999999999998", COMMA, "1250"),
+        ("0.0625", POINT, "0.0625"),
         (Decimal("2.5"), COMMA, "2.5"),
         (Share(Decimal(50)), COMMA, "50"),
     ],
 )
 def test_number(text: values.Cell, style: Style, wanted: str) -> None:
-    """Groups of three digits may have marks between them; a sign or brackets make it negative."""
+    """Groups of three digits may have marks between them; a sign or brackets make it negative.
+
+    Decimals after the sixth are the noise of binary fractions.
+    """
     assert values.number(text, style) == Decimal(wanted)
 
 

@@ -13,6 +13,7 @@ from decimal import Decimal
 from fractions import Fraction
 
 from pert_companion.model.figures import plain_number
+from pert_companion.model.xmltree import without_noise
 
 MOST_CHARACTERS = 200
 MOST_DIGITS = 15
@@ -222,9 +223,9 @@ def _unsigned(text: str, decimal: str) -> Decimal:
     digits = _ungrouped(whole.strip(), "." if decimal == "," else ",")
     if mark and not _is_digits(part):
         raise Unreadable("this is no number")
-    if len(digits) + len(part) > MOST_DIGITS:
-        raise Unreadable(f"a number has at most {MOST_DIGITS} digits")
-    return Decimal(f"{digits}.{part}" if part else digits)
+    if len(digits) > MOST_DIGITS:
+        raise Unreadable(f"a number has at most {MOST_DIGITS} digits before its decimals")
+    return without_noise(Decimal(f"{digits}.{part}" if part else digits))
 
 
 def number(cell: Cell, style: Style) -> Decimal:
