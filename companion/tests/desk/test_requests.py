@@ -1,12 +1,15 @@
 """A desk does what commands do: each request of its pages, by a running desk."""
 
 from collections.abc import Iterator
+from decimal import Decimal
 from pathlib import Path
 from shutil import copy
 
 import pytest
 
 from desk.serving import DeskThread, Json, task_edit
+from pert_companion.cli import importing
+from pert_companion.cli.common import run_command
 from pert_companion.model.deck import read_deck
 from pert_companion.model.sidefile import side_path
 from pert_companion.programs.client import Programs
@@ -406,6 +409,23 @@ def test_a_planners_file_is_imported_changed_and_handed_back(
     assert (
         again["schedule"]["end"] == desk.get(f"projects/{project}/length?length={shorter}")["end"]
     )
+
+
+def test_capacities_of_the_last_import_hold_on(desk: DeskThread, tmp_path: Path) -> None:
+    """A newer state of a project keeps what `pert-import --capacity` was told."""
+    plan = tmp_path / "crew.csv"
+    plan.write_text("ID,Name,Duration,Start,Resource\n1,Dig,5,2026-09-07,Crew\n")
+    deck = tmp_path / "barn.csv"
+    words = [plan, "--capacity", "Crew=350%", "-o", deck]
+    command = importing.NAME, importing.parser(), importing.run
+    assert run_command(*command, [str(word) for word in words]) == 0
+    plan.write_text("ID,Name,Duration,Start,Resource\n1,Dig,6,2026-09-07,Crew\n")
+    project = desk.imported(plan, {"project": desk.project("barn.csv")})
+    desk.post(f"projects/{project}/save", {"version": desk.version(project)})
+    side = open_state(deck, Programs()).side
+    assert [task.normal for task in side.tasks] == [6]
+    (capacity,) = side.capacities
+    assert (capacity.name, capacity.units, capacity.is_said) == ("Crew", Decimal("3.5"), True)
 
 
 def test_losses_are_shown_before_there_is_a_project(desk: DeskThread, tmp_path: Path) -> None:

@@ -22,7 +22,8 @@ from pert_companion.desk.amounts import read_day, read_number
 from pert_companion.desk.projects import books_of
 from pert_companion.desk.saving import Files, files_of
 from pert_companion.importing import conversion
-from pert_companion.importing.conversion import CrashSources, Imported
+from pert_companion.importing.capacities import kept_capacities
+from pert_companion.importing.conversion import Capacities, CrashSources, Imported
 from pert_companion.importing.last import last_import
 from pert_companion.importing.month_end import Books, Lists, close_month
 from pert_companion.importing.overtime import Overtime, parse_overtime
@@ -108,6 +109,7 @@ def import_file(request: Request, tell: Callable[[int, str], None]) -> Request:
         CarryOptions(_text(options, "unit") or "auto", terms=_terms(options, side)),
         Path(request["deck"]),
         CrashSources(None, _overtime(options)),
+        Capacities(kept=kept_capacities(side)),
     )
     tell(60, "comparing dates with those of the file")
     state = conversion.state_of(imported, Programs(_folder(request)))
