@@ -85,7 +85,7 @@ def test_the_next_import_takes_the_terms_of_the_last_one(
         capfdbinary, tmp_path, "may.csv", "--with", tmp_path / "april.csv", "--overhead", "4500"
     )
     assert done.status == 0
-    assert done.has("april.csv has the terms overhead 4000/day, bonus 50/day, penalty 900/day")
+    assert done.has("april.csv was told overhead 4000/day, bonus 50/day, penalty 900/day")
     card = TermsCard(overhead=4500, target=14, bonus=50, penalty=900)
     assert decks.read_deck(tmp_path / "may.csv").terms == card
     side = from_json(side_path(tmp_path / "may.csv").read_bytes(), "may.json")

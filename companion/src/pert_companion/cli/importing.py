@@ -397,7 +397,7 @@ def terms_of(options: argparse.Namespace, last: SideFile | None) -> Terms:
     said = Terms(options.overhead, options.bonus, options.penalty, options.contract)
     if last is None or last.terms == NO_TERMS:
         return said
-    say(NAME, f"note: {options.last} has the terms {last.terms.text()}")
+    say(NAME, f"note: the import of {options.last} was told {last.terms.text()}")
     return said.over(last.terms)
 
 
