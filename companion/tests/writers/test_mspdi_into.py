@@ -113,6 +113,15 @@ def test_assignments(task_type: int) -> None:
     assert int(work["Cost"]) + int(task["FixedCost"]) == int(task["Cost"]) == 130_000
 
 
+def test_fields_that_are_not_listed_stay() -> None:
+    """A date that docs/exporting.md does not list for assignments is not touched."""
+    early = b"<EarlyFinish>2026-03-13T17:00:00</EarlyFinish>"
+    data = file().replace(b"<Units>2</Units>", early + b"<Units>2</Units>")
+    work = texts(into(data, 2), "Assignment")
+    assert work["Finish"] == "2026-03-17T17:00:00"
+    assert work["EarlyFinish"] == "2026-03-13T17:00:00"
+
+
 @pytest.mark.parametrize("crash", ("Slope", "Crash cost"))
 @pytest.mark.parametrize("less", (0, 1, 2))
 def test_prices_stay(crash: str, less: int) -> None:

@@ -18,6 +18,7 @@ from pert_companion.model.crash_fields import COST_NAMES, CRASH_NAMES, SLOPE_NAM
 from pert_companion.model.errors import InputError
 from pert_companion.model.sidefile import SideFile
 from pert_companion.model.xmltree import Node, decimal, local_name, nested, whole
+from pert_companion.writers.changed_fields import CHANGED
 from pert_companion.writers.price_fields import (
     cost_at_shortest,
     duration_like,
@@ -74,9 +75,10 @@ class _Change:
         self.columns = {} if holder is None else dict(_columns(holder))
 
     def set(self, element: Element, name: str, text: str) -> None:
-        """Sets an attribute that an element has."""
+        """Sets an attribute that an element has, and that a schedule may change."""
         before = element.get(name, "").strip()
-        if before and before != text:
+        may_change = name in CHANGED["gan"][local_name(element)]
+        if before and before != text and may_change:
             self.xml.set_attribute(element, name, text)
             self.changed.add(element)
 

@@ -17,8 +17,9 @@ from pert_companion.model import moments
 from pert_companion.model.calendar import Calendar
 from pert_companion.model.errors import InputError
 from pert_companion.model.sidefile import SideFile
-from pert_companion.model.xmltree import decimal, whole
+from pert_companion.model.xmltree import decimal, local_name, whole
 from pert_companion.state.remaining import State
+from pert_companion.writers.changed_fields import CHANGED
 from pert_companion.writers.mspdi_elements import (
     ELAPSED,
     IN_DAYS,
@@ -35,6 +36,7 @@ from pert_companion.writers.xml_edits import XmlFile
 
 _FIXED_WORK = "2"
 """The type of a task whose work stays when its duration changes, so that its units change."""
+_MAY_CHANGE = CHANGED["mspdi"]
 _WORK_RESOURCE = "1"
 _PLANNED_WORK = "1"
 CENTS = 100
@@ -91,9 +93,10 @@ class _Change:
         """The durations of shortened tasks before the change, in minutes."""
 
     def set(self, element: Element, tag: str, text: str) -> None:
-        """Sets the text of a child that the element has."""
+        """Sets the text of a child that the element has, and that a schedule may change."""
         found = element.find(name_of(tag))
-        if found is not None and found.text != text:
+        may_change = tag in _MAY_CHANGE[local_name(element)]
+        if found is not None and found.text != text and may_change:
             self.xml.set_text(found, text)
 
     def require(self, element: Element, tag: str, text: str) -> None:
