@@ -377,6 +377,20 @@ def _page(decks: Path) -> Path:
     return decks / "page.html"
 
 
+def test_each_heading_leads_to_its_definition(page: Path) -> None:
+    """The mark next to each heading but the project's leads to the term of that name."""
+    heads = """JSON.stringify([...document.querySelectorAll('#projects thead th')].map((head) => {
+        const link = head.querySelector('a.word');
+        const term = link && document.querySelector(`dl.words dt${link.getAttribute('href')}`);
+        return [head.querySelector('button').textContent, term ? term.textContent : ''];
+    }))"""
+    with Browser() as browser:
+        names = json.loads(browser.open(page.as_uri()).run(heads))
+    assert names[0] == ["Project", ""]
+    assert len(names) == 10
+    assert all(term == name for name, term in names[1:])
+
+
 def test_all_columns_fit_and_a_phone_has_late_and_overrun_first(page: Path) -> None:
     """Nothing is to be scrolled at 1280 px; at 390 px the first three columns are in view."""
     table = "document.getElementById('projects')"

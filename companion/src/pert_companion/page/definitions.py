@@ -1,5 +1,7 @@
 """The terms of the page with their definitions; a name on the page is a link to its own."""
 
+from collections.abc import Mapping
+
 from pert_companion.page.view import Word
 from pert_companion.page.words import Words
 
@@ -80,6 +82,11 @@ def definitions(words: Words) -> dict[str, Word]:
     meanings[f"Work of {one} less"] = f"What the work of ending {one} sooner costs more."
     meanings["Slack"] = f"{SLACK}, in {words.day}s."
     meanings["Days"] = f"What is left to do of a task, in {words.day}s."
+    return by_name(meanings)
+
+
+def by_name(meanings: Mapping[str, str]) -> dict[str, Word]:
+    """Returns terms with these names and meanings, by their names."""
     return {name: Word(_key(name), name, meaning) for name, meaning in meanings.items()}
 
 

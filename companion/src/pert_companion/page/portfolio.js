@@ -32,8 +32,9 @@
     for (const head of table.tHead.rows[0].cells) {
         const button = document.createElement("button");
         button.type = "button";
-        button.textContent = head.textContent;
-        head.replaceChildren(button);
+        const name = head.firstChild;
+        button.textContent = name.textContent.trim();
+        name.replaceWith(button, " ");
         button.addEventListener("click", () => sort(head));
     }
 

@@ -12,6 +12,7 @@ from urllib.parse import quote
 from pert_companion.model.figures import day_words
 from pert_companion.page.html import html_file
 from pert_companion.page.words import Words, day_text, plural, shown
+from pert_companion.portfolio.definitions import WORDS
 from pert_companion.portfolio.row import Row
 from pert_companion.portfolio.shared import shared_of
 from pert_companion.portfolio.sums import sums_of
@@ -99,6 +100,7 @@ def render(rows: Sequence[Row], output: Path, stale_days: int) -> bytes:
         ["portfolio.js"],
         lines=[line_of(row, output, fresh) for row in by_urgency(rows, fresh)],
         heads=HEADS,
+        words=WORDS,
         filters=filters_of(rows, fresh),
         sums=sums_of(rows),
         shared=shared_of(rows),
