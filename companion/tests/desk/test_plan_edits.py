@@ -1,6 +1,7 @@
 """Tasks that are added and removed, and links that are written: the deck is that of an import."""
 
 from dataclasses import replace
+from datetime import timedelta
 from decimal import Decimal
 from itertools import product
 from typing import Any
@@ -24,7 +25,7 @@ from pert_companion.model.calendar import Calendar
 from pert_companion.model.errors import InputError
 from pert_companion.model.fitting import fitted_to
 from pert_companion.model.ledger import Ledger
-from pert_companion.model.plan import Crash, Group, Lag, Link, LinkKind, Plan, Task
+from pert_companion.model.plan import Crash, Group, Lag, Link, LinkKind, Plan, Progress, Task
 from running import EXAMPLES
 
 DAY = 480
@@ -159,6 +160,17 @@ def test_a_task_is_removed_with_its_links_and_its_cost() -> None:
         edited(after, "Pour.normal=3")
 
 
+def test_new_cards_have_the_progress_of_their_task() -> None:
+    """The start of a begun task, which a new link needs, began with it: as an import has it."""
+    begun = Progress(Decimal(50), FIRST_DAY, remaining=2 * DAY)
+    tasks = (replace(FOUR[0], progress=begun), *FOUR[1:])
+    plan = replace(plan_of(tasks=tasks), data_date=FIRST_DAY + timedelta(days=1))
+    after = edited(books_of_plan(plan), "Pour.links=DigSS+3d")
+    wanted = books_of_plan(replace(plan, links=(link("Dig", "Pour", "SS", 3),)))
+    assert "Dig.S" in {card.activity for card in after.deck.statuses}
+    assert (after.deck, after.side) == (wanted.deck, wanted.side)
+
+
 def test_the_last_task_stays() -> None:
     books = edited(books_of_plan(plan_of()), "Dig.remove=", "Pour.remove=", "Walls.remove=")
     with pytest.raises(InputError, match="a project has a task"):
@@ -234,8 +246,14 @@ def _with_task(plan: Plan, uid: str, **values: Any) -> Plan:
     return replace(plan, outline=outline)
 
 
-LEADS = {Feature.LEADS, Feature.ELAPSED_LAGS, Feature.SHARE_LAGS, Feature.GROUP_LINKS}
-"""What a deck says by links of other tasks than those that the planner's file has."""
+LEFT_OUT = {
+    Feature.LEADS,
+    Feature.ELAPSED_LAGS,
+    Feature.SHARE_LAGS,
+    Feature.GROUP_LINKS,
+    Feature.PROGRESS,
+}
+"""What a deck says by links of other tasks than the planner's file; and days that contradict."""
 SOME = st.tuples(st.integers(0, 11), st.sampled_from(KINDS), st.integers(0, 4))
 
 
@@ -245,7 +263,7 @@ def _place(wanted: tuple[int, str, int]) -> int:
 
 @settings(max_examples=example_count(60))
 @given(
-    plans(ALL_FEATURES - LEADS),
+    plans(ALL_FEATURES - LEFT_OUT),
     st.integers(0, 11),
     st.lists(SOME, max_size=3, unique_by=_place),
 )
@@ -263,6 +281,8 @@ def test_links_of_a_task_are_those_of_an_import(
         expected = books_of_plan(replace(plan, links=(*others, *new)), "60")
     except InputError:
         return
+    if any(each.start_moment and each.finish_moment for each in books.side.tasks):
+        return  # an import ties the start of such a task to its finish, and the tie stays
     codes = {each.uid: each.code for each in books.side.tasks}
     texts = [f"{codes[each.uid]}{kind}+{days}d" for each, kind, days in before]
     try:
