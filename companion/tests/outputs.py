@@ -44,7 +44,7 @@ Results = dict[str, Result]
 
 
 def words_of_deck(deck: str, is_example: bool) -> Iterator[str]:
-    """Yields the command lines for a deck; all of them for examples."""
+    """Yields the command lines for a deck; all of them for those right in examples/."""
     yield f"pert-schedule {deck}"
     yield f"pert-schedule {deck} --json"
     yield f"pert-export {deck} -o out/plan.xml --overwrite"
@@ -119,7 +119,7 @@ def jobs(only: Sequence[str]) -> dict[str, list[str]]:
     for folder in INPUTS:
         for path in sorted((TOP / folder).rglob("*")):
             name = str(path.relative_to(TOP))
-            is_example = folder == "examples"
+            is_example = path.parent == TOP / "examples"
             if path.name in NOT_INPUTS or path.name.endswith(".ledger.csv") or not path.is_file():
                 continue
             if (

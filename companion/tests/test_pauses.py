@@ -97,6 +97,14 @@ def test_a_task_that_just_fits_does_not_pause() -> None:
     assert [task.code for task in pausing_tasks(deck, side, durations, 21)] == ["DECK"]
 
 
+def test_a_task_that_can_begin_later_does_not_pause() -> None:
+    """The decking may begin on day 4 of 21, in one piece to day 14; of 20 it has to pause."""
+    deck = decking("1", "14", "10", "17")
+    durations = {each.code: each.normal for each in deck.tasks}
+    assert pausing_tasks(deck, SIDE, durations, 21) == ()
+    assert [task.code for task in pausing_tasks(deck, SIDE, durations, 20)] == ["DECK"]
+
+
 def decking(prep: str, steel: str, deck: str, serve: str) -> Deck:
     """Returns the deck with other durations: `5/2@3` can take 2, at 3 a unit."""
     words = {"PREP": prep, "STEEL": steel, "DECK": deck, "SERVE": serve}
@@ -119,6 +127,7 @@ def decking(prep: str, steel: str, deck: str, serve: str) -> Deck:
         (decking("6/1@1", "14", "10/9@100", "20/17@5"), 24, [21, 18]),
         (decking("4/1@9", "14", "10/9@1", "20/15@5"), 19, [16]),
         (decking("4/1@1", "9", "10/9@100", "20/17@5"), 18, []),
+        (decking("4", "20", "10", "20"), 24, [24]),
     ],
 )
 def test_breakpoints_with_a_pause_and_the_least_length_without(

@@ -14,8 +14,11 @@ from page.certificates import TERMS
 from pert_companion.analysis.scheduling import schedule_at
 from pert_companion.carry import carry
 from pert_companion.model.calendar import Calendar
+from pert_companion.model.cards import AfterCard
+from pert_companion.model.fitting import fitted_to
 from pert_companion.model.plan import Constraint, ConstraintKind, Crash, Link, LinkKind, Plan, Task
 from pert_companion.model.sidefile import to_json
+from test_pauses import SIDE, card, decking, side_task
 from test_two_calendars import site_plan
 
 pytestmark = pytest.mark.skipif(CHROMIUM is None, reason="chromium is missing")
@@ -117,3 +120,30 @@ def test_slack_goes_by_latest_dates_and_the_contract(browser: Browser, tmp_path:
         schedule = schedule_at(gathered.state.rest, length)
         assert found[length] == [task.total_float_minutes // 480 for task in schedule.tasks]
     assert found[12] == [-3, -3, -3, -2]
+
+
+def test_slack_goes_by_a_finish_that_waits(browser: Browser, tmp_path: Path) -> None:
+    """The decking may begin late, but it ends with the steel, and has the slack of its end.
+
+    It begins after a day, lasts 10 and ends no earlier than the steel on day 14. The services of 17
+    begin with it, so that of 21 days it may begin on day 4; but the roof of 6 comes after its end,
+    which may be on day 15: one day of slack, and one more for each day that the project may take.
+    """
+    house = decking("1", "14", "10/9@100", "17")
+    tasks = (*house.tasks, card("LONG", 23, 21, 10), card("ROOF", 6))
+    deck = replace(house, tasks=tasks, afters=(*house.afters, AfterCard("ROOF", "DECK.F")))
+    normal = {each.code: each.normal for each in deck.tasks}
+    named = (*SIDE.tasks, side_task("LONG"), side_task("ROOF"))
+    entries = tuple(replace(task, normal=normal[task.code]) for task in named)
+    side = fitted_to(replace(SIDE, tasks=entries), deck)
+    (tmp_path / "plan.csv").write_bytes(deck.to_bytes())
+    (tmp_path / "plan.json").write_bytes(to_json(side))
+    gathered = write_page(tmp_path / "plan.csv", tmp_path / "page.html")
+    page = open_drawn(browser, tmp_path / "page.html")
+    found = {}
+    for length, shown in zip((21, 22, 23), moves(page, range(21, 24)), strict=True):
+        floats = [number(shown["rows"][f"t{place}"][3]) for place in range(6)]
+        schedule = schedule_at(gathered.state.rest, length)
+        assert floats == [task.total_float_minutes // 480 for task in schedule.tasks]
+        found[length] = floats[2]
+    assert found == {21: 1, 22: 2, 23: 3}

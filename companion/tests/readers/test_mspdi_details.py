@@ -159,6 +159,8 @@ def test_manual_tasks() -> None:
     dates = "<Manual>1</Manual><Start>2026-03-02T08:00:00</Start>"
     reading = read(task(1, dates, "<Finish>2026-03-04T17:00:00</Finish>"))
     assert first(reading).minutes == 3 * 480 and first(reading).manual and kinds(reading) == []
+    at_once = read(task(1, dates, "<Finish>2026-03-02T08:00:00</Finish>"))
+    assert first(at_once).minutes == 0 and kinds(at_once) == []
     for parts in (dates, "<Manual>1</Manual>"):
         with pytest.raises(InputError, match="without dates"):
             read(task(1, parts))
