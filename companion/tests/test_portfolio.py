@@ -401,7 +401,8 @@ def test_all_columns_fit_and_a_phone_has_late_and_overrun_first(page: Path) -> N
         heads = json.loads(
             phone.run(
                 f"JSON.stringify([...{table}.tHead.rows[0].cells].filter("
-                "it => it.getBoundingClientRect().right <= 390).map(it => it.textContent))"
+                "it => it.getBoundingClientRect().right <= 390)"
+                ".map(it => it.querySelector('button').textContent))"
             )
         )
         assert heads[:3] == ["Project", "Late", "Overrun"]
