@@ -98,6 +98,7 @@ def test_tutorial(browser: Browser, tmp_path: Path) -> None:
         read_the_curve(page)
         choose_forty_days(page)
         tab(page, "hand")
+        assert "your own file" not in page.text("#formats")  # a list takes no schedule back
         click(page, "[data-format='xlsx']")
         page.wait("document.querySelector('#exported a') !== null")
         path = page.run("document.querySelector('#exported a').pathname")

@@ -59,14 +59,16 @@ export class Hand {
 
     draw() {
         const { source } = this.desk.project;
-        const list = source === null ? FORMATS : [["into", `${source.planner}: your own file, changed (${source.name})`], ...FORMATS];
+        // a list has no planner that takes a schedule back
+        const hasWay = source !== null && source.planner !== "";
+        const list = hasWay ? [["into", `${source.planner}: your own file, changed (${source.name})`], ...FORMATS] : FORMATS;
         const buttons = list.map(([format, name]) => {
             const button = element("button", { type: "button", "data-format": format }, name);
             button.addEventListener("click", () => this.exportTo(format, button));
             return element("li", {}, button);
         });
         $("formats").replaceChildren(...buttons);
-        $("original-part").hidden = source === null || source.is_here;
+        $("original-part").hidden = !hasWay || source.is_here;
         setText($("export-length"), `At the chosen length, ${this.desk.length.days} days, which ends on ${dayText(this.desk.length.end)}.`);
     }
 
