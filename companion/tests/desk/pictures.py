@@ -50,7 +50,7 @@ def draw_project(page: Page, folder: Path) -> None:
     page.run("document.getElementById('tasks').focus()")
     press(page, "Home", CONTROL)
     press(page, "ArrowDown", times=3)
-    press(page, "ArrowRight", times=4)
+    press(page, "ArrowRight", times=5)
     press(page, "Enter")
     write(page, "10")
     press(page, "Enter")
