@@ -18,8 +18,8 @@ EXAMPLES = HERE.parents[1] / "examples"
 HOUSE = EXAMPLES / "house.csv"
 MONTHS = EXAMPLES / "months"
 PROGRAMS = Programs()
-WITH_INTERRUPTS = ("env", "--default-signal=INT")
-"""Runs a command that Ctrl-C ends, also where the tests ignore it (in the background)."""
+WITH_INTERRUPTS = ("env", "--default-signal=INT,HUP")
+"""Runs a command that Ctrl-C and HUP end, also where the tests ignore them (in the background)."""
 
 
 @dataclass(frozen=True)
