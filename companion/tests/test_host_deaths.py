@@ -126,7 +126,9 @@ def clear(namespace: str, started: list[Host]) -> None:
         if host.namespace == namespace:
             host.kill()
             host.server.wait()
-    subprocess.run(["ip", "netns", "del", namespace], check=False, capture_output=True)
+    # A namespace goes some time after its name, and its link with it, whose name is used again.
+    for what in (["link", "del", f"{namespace}h"], ["netns", "del", namespace]):
+        subprocess.run(["ip", *what], check=False, capture_output=True)
 
 
 def decks(folder: Path, count: int) -> list[Job]:
