@@ -28,6 +28,13 @@ def _above_ten(descriptor: int) -> int:
     return moved
 
 
+GOES_ELSEWHERE = "Inspected target navigated or closed"
+
+
+class NavigatedError(Exception):
+    """A page was left while an expression was evaluated in it."""
+
+
 class Browser:
     """A chromium of its own, with an empty profile. Use it in a `with` statement."""
 
@@ -92,6 +99,8 @@ class Browser:
         while True:
             answer = self._receive()
             if answer.get("id") == self._count:
+                if answer.get("error", {}).get("message") == GOES_ELSEWHERE:
+                    raise NavigatedError(method)
                 assert "error" not in answer, f"{method}: {answer['error']}"
                 result: dict[str, Any] = answer["result"]
                 return result
@@ -151,9 +160,16 @@ class Page:
     def wait(self, condition: str) -> None:
         """Waits until an expression in the page is true."""
         deadline = time.monotonic() + PATIENCE
-        while not self.run(condition):
+        while not self._is_true(condition):
             assert time.monotonic() < deadline, f"this did not come true: {condition}"
             time.sleep(0.02)
+
+    def _is_true(self, condition: str) -> bool:
+        """Says whether an expression is true; not yet in a page that is being left."""
+        try:
+            return bool(self.run(condition))
+        except NavigatedError:
+            return False
 
     def choose(self, selector: str, files: list[Path]) -> None:
         """Puts files into a file input, as if a user had chosen them."""
