@@ -12,6 +12,7 @@ from dataclasses import dataclass, field, replace
 from datetime import date, datetime, timedelta
 from decimal import Decimal
 from fractions import Fraction
+from itertools import chain
 
 from pert_companion.analysis.contract import load_day_minutes
 from pert_companion.analysis.lengths import LengthChoice
@@ -241,7 +242,7 @@ def _overloads(
                 period = max(0, bisect_right(starts, day) - 1)
                 above.setdefault(period, []).append(use)
         for period, days in above.items():
-            tasks = {code for use in days for code in use.tasks}
+            tasks = set(chain.from_iterable(use.tasks for use in days))
             yield Overload(
                 resource=limit.code,
                 name=names.get(limit.code, limit.code),

@@ -8,7 +8,7 @@ with TASK and AFTER in the place of EVENT and ACT.
 import csv
 import io
 import re
-from collections.abc import Iterable, Iterator, Sequence
+from collections.abc import Callable, Iterable, Iterator, Sequence
 from dataclasses import dataclass, field, fields
 from datetime import date
 from functools import cached_property
@@ -125,7 +125,12 @@ _LISTS = {
 }
 
 
-_FIELDS = {kind: attrgetter(*(f.name for f in fields(KINDS[kind]))) for kind in ("TERMS", *_LISTS)}
+def _getter(kind: str) -> Callable[[object], tuple[object, ...]]:
+    """Returns what returns the fields of a card of a kind, in order."""
+    return attrgetter(*(field.name for field in fields(KINDS[kind])))
+
+
+_FIELDS = {kind: _getter(kind) for kind in ("TERMS", *_LISTS)}
 """What returns the fields of a card of each kind, in order."""
 
 

@@ -141,7 +141,11 @@ class _Builder:
     def line(self, day: date, label: str, after: int = 0) -> Tick:
         """Returns the place of a line at the morning of a day, or its evening."""
         days = (day - self.first).days + after
-        side = "start" if days * 4 < self.days else "end" if days * 4 > 3 * self.days else "middle"
+        side = "middle"
+        if days * 4 < self.days:
+            side = "start"
+        elif days * 4 > 3 * self.days:
+            side = "end"
         return Tick(self.at(days), label, side)
 
     def at(self, days: int) -> str:

@@ -15,6 +15,7 @@ import sys
 import tempfile
 from collections.abc import Iterator, Mapping, Sequence
 from dataclasses import dataclass, field
+from itertools import chain
 from pathlib import Path
 
 from pert_companion.model.errors import CompanionError, UsageError
@@ -94,7 +95,8 @@ def _logins(path: Path) -> list[str]:
     text = read_bytes(path, MOST_BYTES, "list of hosts").decode("utf-8", "surrogateescape")
     lines = (line.strip() for line in text.splitlines())
     named = [line for line in lines if line and not line.startswith("#")]
-    return [login.strip() for line in named for login in COMMA.split(line)]
+    logins = chain.from_iterable(map(COMMA.split, named))
+    return [login.strip() for login in logins]
 
 
 class _Round:

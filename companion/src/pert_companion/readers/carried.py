@@ -32,8 +32,10 @@ def fields_by_holder(fields: Iterable[Mapping[str, str]]) -> dict[str, frozenset
 
 def full_names(fields: Iterable[Mapping[str, str]]) -> set[str]:
     """Returns the names of fields with their elements or tables: `Task.UID`."""
-    found = fields_by_holder(fields)
-    return {f"{holder}.{name}" for holder, names in found.items() for name in names}
+    full: set[str] = set()
+    for holder, names in fields_by_holder(fields).items():
+        full.update(f"{holder}.{name}" for name in names)
+    return full
 
 
 def carried_table(rows: Iterable[Carried]) -> str:

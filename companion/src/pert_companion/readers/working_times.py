@@ -19,7 +19,9 @@ _NAMES = (
     ("sat", "saturday", "sa", "samstag", "sonnabend"),
     ("sun", "sunday", "so", "sonntag"),
 )
-_NUMBER_OF = {name: number for number, names in enumerate(_NAMES) for name in names}
+_NUMBER_OF: dict[str, int] = {}
+for _number, _day_names in enumerate(_NAMES):
+    _NUMBER_OF.update(dict.fromkeys(_day_names, _number))
 _AROUND_THE_CLOCK = frozenset(("24 hours", "24 hour", "24h", "24/7", "24 stunden", "24 std"))
 _ALWAYS: tuple[Shift, ...] = ((0, MINUTES_OF_DAY),)
 _DAYS = re.compile(r"([^\W\d_]+(?:\s*[-–,]\s*[^\W\d_]+)*)\s*(.*)")
