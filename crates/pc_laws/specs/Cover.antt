@@ -13,7 +13,7 @@ Joins high [] low = ⊥
 Joins high (seg ∷ []) low = (seg.upper ≡ high) × (seg.lower ≡ low)
 Joins high (seg ∷ next ∷ rest) low = (seg.upper ≡ high) × Joins seg.lower (next ∷ rest) low
 
--- the lower end lies below the upper one
+-- the lower end is below the upper one
 abbrev pub IsLong : Segment → Type 0
 IsLong seg = seg.lower < seg.upper
 
@@ -26,8 +26,8 @@ abbrev pub BeginsNormal : Network → List Term → List Segment → Type 0
 BeginsNormal net terms [] = ⊥
 BeginsNormal net terms (seg ∷ rest) = (a : ℕ) → a < length net.arcs → seg.duration a ≡ normal_of terms a
 
--- whole segments that join from a sum of normal durations over a walk from the start to the end, where all durations
--- are normal, down to a length
+-- complete segments that join, from a sum of normal durations over a walk from the start to the end, where all
+-- durations are normal, down to a length
 pub record IsFront (net : Network) (terms : List Term) (knees : Knees) (segments : List Segment) (high low : ℕ) : Type 0 where
   -- 5 to 14, and 15 in each
   pub each : All (IsSegment net terms knees) segments
@@ -45,7 +45,7 @@ pub record IsCovering (net : Network) (terms : List Term) (knees : Knees) (segme
   -- 3
   pub crash_walk : IsSumOfWalk net.arcs (crashes terms) net.start net.end low
 
--- The conditions of a whole certificate
+-- The conditions of a complete certificate
 
 -- the k-th segment; past the last one of zeros
 abbrev pub segment_at : List Segment → ℕ → Segment
@@ -83,7 +83,7 @@ pub record MeetsConditions (net : Network) (terms : List Term) (knees : Knees) (
 
 -- What is read for a length
 
--- what is read for a length from the first segment that holds it is right
+-- the reading for a length, from the first segment that holds it, is right
 abbrev pub IsReadRight : Network → List Term → Knees → List Segment → ℕ → Type 0
 IsReadRight net terms knees segments limit =
     IsSomeAnd (find (λ seg. nat_le seg.lower limit && nat_le limit seg.upper) segments) (λ seg. Holds seg limit × IsRight net terms knees seg limit)

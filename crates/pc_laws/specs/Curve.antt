@@ -10,7 +10,7 @@ pub record AreAround (curve : ℕ → ℕ → Type 0) (limit shorter here longer
   pub at : curve limit here
   pub above : curve (limit + 1) longer
 
--- the curve turns at a length: its least cost and those a unit below and above do not lie on a line
+-- the curve turns at a length: its least cost and those one unit below and above are not on one line
 abbrev pub IsTurn : (ℕ → ℕ → Type 0) → ℕ → Type 0
 IsTurn curve limit = (shorter here longer : ℕ) × AreAround curve limit shorter here longer × (shorter + longer ≢ 2 * here)
 
@@ -50,7 +50,7 @@ pub record Meet (earlier later : Segment) : Type 0 where
   pub first_long : earlier.lower < earlier.upper
   pub second_long : later.lower < later.upper
 
--- the list has the breakpoints of the curve that lie above a length, each once, from the longest length down
+-- the list has the breakpoints of the curve above a length, each once, from the longest length down
 pub record AreBreakpointsAbove (curve : ℕ → ℕ → Type 0) (shortest longest low : ℕ) (points : List Breakpoint) : Type 0 where
   pub each : (k : ℕ) → k < length points → IsBreakpoint curve shortest longest (breakpoint_at points k)
   pub every : (limit : ℕ) → IsBreak curve shortest longest limit → low < limit →
@@ -66,7 +66,8 @@ upper_point seg = record { limit = seg.upper; cost = seg.cost; slope = Some seg.
 abbrev pub lower_point : Segment → Breakpoint
 lower_point seg = record { limit = seg.lower; cost = cost_for seg seg.lower; slope = None }
 
--- the points after a segment: where the slope changes the later segment's upper end, and what is said of the last one
+-- the points after a segment: each later segment's upper end where the slope changes, and then `ends` of the last
+-- segment
 abbrev pub corners_after : (Segment → List Breakpoint) → Segment → List Segment → List Breakpoint
 corners_after ends last [] = ends last
 corners_after ends last (seg ∷ rest) =

@@ -1,6 +1,6 @@
--- Flows through a network, and the bound that a flow puts under the cost of every schedule.
+-- Flows through a network, and the lower bound that a flow gives for the cost of every schedule.
 --
--- An activity has a flow for each of its knees and one beside them: `flow a k` and `beside a`.
+-- An activity has a flow for each of its knees and one on its crash duration: `flow a k` and `beside a`.
 use Rattle.std.specs.Prelude.{◌≡◌, ◌≢◌, ℕ, ℤ, pos, ◌-ℤ◌, ◌+◌, ◌*◌, ◌<◌, ◌≤◌, List, length}
 use Rattle.pc_model.specs.declared.Term.{Term}
 use Rattle.pc_model.specs.Sums.{sum_to, at_event}
@@ -9,7 +9,8 @@ use Rattle.pc_model.specs.Network.{Network}
 use Rattle.pc_model.specs.Schedule.{crash_of, base_cost_of}
 use Rattle.pc_model.specs.Cost.{Knees}
 
--- the whole flow along activity a: at each knee on an arc of the knee's duration, beside them on one of its crash duration
+-- the total flow along activity a: at each knee on an arc of the knee's duration, and the rest on an arc of its crash
+-- duration
 abbrev pub whole_flow : Knees → (ℕ → ℕ → ℕ) → (ℕ → ℕ) → ℕ → ℕ
 whole_flow knees flow beside a = sum_to (knees.count a) (flow a) + beside a
 
@@ -26,15 +27,15 @@ abbrev pub IsConserved : Network → (ℕ → ℕ) → Type 0
 IsConserved net along =
     (e : ℕ) → e < net.events → e ≢ net.start → e ≢ net.end → inflow net along e ≡ outflow net along e
 
--- a flow of this value: at each knee at most the rise, beside them without a bound; what enters an event but the start
--- and the end leaves it, and the value leaves the start
+-- a flow of this value: at most the rise at each knee, and unbounded on the crash duration; at each event except the
+-- start and the end, as much leaves as enters; and the value leaves the start
 pub record IsFlow (net : Network) (knees : Knees) (flow : ℕ → ℕ → ℕ) (beside : ℕ → ℕ) (value : ℕ) : Type 0 where
   pub capacity : (a k : ℕ) → a < length net.arcs → k < knees.count a → flow a k ≤ knees.rise a k
   pub conserved : IsConserved net (whole_flow knees flow beside)
   pub leaves : outflow net (whole_flow knees flow beside) net.start ≡ value
 
--- what activity a adds to what a flow promises: its cost at its normal duration, each knee times the flow there, and its
--- crash duration times the flow beside them
+-- what activity a adds to the bound of a flow: its cost at its normal duration, each knee times the flow there, and its
+-- crash duration times the flow on that
 abbrev pub promise_of : List Term → Knees → (ℕ → ℕ → ℕ) → (ℕ → ℕ) → ℕ → ℕ
 promise_of terms knees flow beside a =
     base_cost_of terms a + (sum_to (knees.count a) (λ k. knees.knee a k * flow a k) + crash_of terms a * beside a)

@@ -1,5 +1,6 @@
--- Costs with one slope: what the words of flows and segments say where each activity has one knee, its normal duration.
--- The flow at this knee is then called f1, and the flow beside it f2.
+-- Costs with one slope: what the definitions of flows and segments say if each activity has one knee, its normal
+-- duration.
+-- The flow at this knee is then called f1, and the flow on the crash duration f2.
 use Rattle.std.specs.Prelude.{◌≡◌, ℕ, pos, ◌-ℤ◌, ◌+◌, ◌-◌, ◌*◌, ◌<◌, ◌≤◌, ◌⊎◌, ◌&&◌, if◌then◌else◌, nat_lt, Bool, true, false, List, length, All}
 use Rattle.pc_model.specs.declared.Term.{Term}
 use Rattle.pc_model.specs.Sums.{sum_to}
@@ -19,7 +20,7 @@ pub record HasOneSlope (net : Network) (terms : List Term) (knees : Knees) : Typ
 
 -- Costs
 
--- what durations cost: the slope for each unit by which an activity is shortened
+-- what durations cost: the slope for each unit that an activity is shortened
 abbrev pub plain_cost_of : List Term → (ℕ → ℕ) → ℕ
 plain_cost_of terms durations =
     sum_to (length terms) (λ a. base_cost_of terms a + slope_of terms a * (normal_of terms a - durations a))

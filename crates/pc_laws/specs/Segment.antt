@@ -10,9 +10,9 @@ use Rattle.pc_model.specs.Cost.{Knees, cost_of, IsLeastCost}
 use Rattle.pc_laws.specs.Flow.{whole_flow, outflow, IsConserved, IsFlow, promise, bound_of}
 use Rattle.pc_laws.specs.Tight.{HasRoom, IsSlack}
 
--- a stretch of the curve between two lengths: the cost at its upper end, what each unit of length less costs, a time at
--- the upper end and a moving bit for each event, and for each activity a duration there, a flow at each of its knees,
--- and the flow beside them
+-- a stretch of the curve between two lengths: the cost at its upper end, what each unit of length less costs, for each
+-- event a time at the upper end and whether it moves, and for each activity a duration there, a flow at each of its
+-- knees, and a flow on its crash duration
 pub record Segment : Type 0 where
   pub upper : ℕ
   pub lower : ℕ
@@ -24,11 +24,11 @@ pub record Segment : Type 0 where
   pub flow : ℕ → ℕ → ℕ
   pub beside : ℕ → ℕ
 
--- how far the lower end lies below the upper end
+-- how far the lower end is below the upper end
 abbrev pub span : Segment → ℕ
 span seg = seg.upper - seg.lower
 
--- the length lies between the ends of the segment
+-- the length is between the ends of the segment
 pub record Holds (seg : Segment) (limit : ℕ) : Type 0 where
   pub above : seg.lower ≤ limit
   pub below : limit ≤ seg.upper
@@ -47,7 +47,7 @@ times_for seg limit e = seg.time e - fall_of seg.moves (seg.upper - limit) e
 abbrev pub durations_for : Network → List Term → Segment → ℕ → ℕ → ℕ
 durations_for net terms seg limit = lesser_of net terms (times_for seg limit)
 
--- the cost: the cost at the upper end, and the slope for each unit by which the length is shorter
+-- the cost: the cost at the upper end, and the slope for each unit that the length is shorter
 abbrev pub cost_for : Segment → ℕ → ℕ
 cost_for seg limit = seg.cost + seg.slope * (seg.upper - limit)
 
@@ -95,7 +95,7 @@ pub record IsProper (net : Network) (knees : Knees) (seg : Segment) : Type 0 whe
   pub ordered : seg.lower ≤ seg.upper
   pub degenerate : seg.lower ≡ seg.upper → IsStill net knees seg
 
--- what makes that right which is read from a segment: conditions 5 to 12, and of condition 15 what its own lines show
+-- what makes the readings of a segment right: conditions 5 to 12, and the part of condition 15 that its own lines show
 pub record IsRightSegment (net : Network) (terms : List Term) (knees : Knees) (seg : Segment) : Type 0 where
   -- 5: the start and the end
   pub ends : HasEnds net seg
@@ -172,7 +172,7 @@ StopsAtLower net terms knees seg =
     × (StopsAtCrash net terms seg a
     ⊎ ((k : ℕ) × (k < knees.count a) × (FallsToKnee net knees seg a k ⊎ RisesToKnee net knees seg a k)))
 
--- a whole segment: what is read from it is right, its slope is its cut gain, and it ends where some activity stops
+-- a complete segment: its readings are right, its slope is its cut gain, and it ends where some activity stops
 pub record IsSegment (net : Network) (terms : List Term) (knees : Knees) (seg : Segment) : Type 0 where
   -- 5 to 12, and 15
   pub right : IsRightSegment net terms knees seg
@@ -183,7 +183,7 @@ pub record IsSegment (net : Network) (terms : List Term) (knees : Knees) (seg : 
 
 -- What a right segment gives at every length between its ends
 
--- what is read for a length cuts no time off at 0, is a schedule that ends at the length, and costs what is said; the
+-- the reading for a length puts no time below 0, is a schedule that ends at the length, and costs what it says; the
 -- segment's flow has the slope as its value and the cost as its bound; no schedule for the length costs less; and the
 -- slope is the cut gain
 pub record IsRight (net : Network) (terms : List Term) (knees : Knees) (seg : Segment) (limit : ℕ) : Type 0 where

@@ -1,5 +1,5 @@
--- The staircase of an activity. Each unit of its flow runs on an arc of its own length: the first ones on the first
--- knee, as many as the slope rises there, the next ones on the next knee, and all that are left on the crash duration.
+-- The staircase of an activity. Each unit of its flow runs on an arc of its own length: the first units on the first
+-- knee, as many as the slope rises there, the next on the next knee, and the rest on the crash duration.
 use Rattle.std.specs.Prelude.{◌≡◌, ℕ, ◌-◌, ◌<◌, ◌≤◌, min, nat_lt, if◌then◌else◌, zero, suc, List}
 use Rattle.pc_model.specs.declared.Term.{Term}
 use Rattle.pc_model.specs.Sums.{sum_to}
@@ -13,7 +13,7 @@ pub record Stair : Type 0 where
   pub rise : ℕ → ℕ
   pub crash : ℕ
 
--- the knees do not rise, and none lies below the crash duration
+-- no knee is longer than the ones before it, and none is below the crash duration
 pub record IsFalling (s : Stair) : Type 0 where
   pub ordered : (j k : ℕ) → j ≤ k → k < s.count → s.knee k ≤ s.knee j
   pub above : (k : ℕ) → k < s.count → s.crash ≤ s.knee k
@@ -61,11 +61,11 @@ pub record IsPiece (s : Stair) (x length below above : ℕ) : Type 0 where
   pub to : x < above
   pub level : (y : ℕ) → below ≤ y → y < above → unit_length s y ≡ length
 
--- of a whole flow, what runs on the k-th knee
+-- the part of a total flow that runs on the k-th knee
 abbrev pub knee_flow : Stair → ℕ → ℕ → ℕ
 knee_flow s flow k = min (s.rise k) (flow - reach s k)
 
--- of a whole flow, what runs on the crash duration, beside the knees
+-- the part of a total flow that runs on the crash duration
 abbrev pub crash_flow : Stair → ℕ → ℕ
 crash_flow s flow = flow - full_reach s
 

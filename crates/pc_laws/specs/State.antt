@@ -1,5 +1,5 @@
--- The state between two labellings of the events, what stays true of it, and the two ways on from it: a raising of
--- the flow, where the labels reach the end, and a fall of the length, where they do not.
+-- The state between two labellings of the events, what remains true of it, and its two next steps: an augmentation of
+-- the flow if the labels reach the end, and a shortening of the length if they do not.
 use Rattle.std.specs.Prelude.{◌≡◌, ◌≢◌, ◌==◌, if◌then◌else◌, ℕ, ◌+◌, ◌-◌, ◌<◌, ◌≤◌, ◌⊎◌, Bool, true, false, List, length}
 use Rattle.pc_model.specs.declared.Term.{Term}
 use Rattle.pc_model.specs.Walk.{from_of, to_of}
@@ -10,8 +10,8 @@ use Rattle.pc_laws.specs.Flow.{whole_flow, inflow, outflow, IsFlow}
 use Rattle.pc_laws.specs.Tight.{AreTight}
 use Rattle.pc_laws.specs.Segment.{Segment, fall_of, is_forward, is_backward}
 
--- the present length, a time for each event, a flow at each knee of each activity and one beside them, and the value of
--- the whole flow
+-- the present length, a time for each event, a flow at each knee of each activity and one on its crash duration, and
+-- the value of the total flow
 pub record State : Type 0 where
   pub limit : ℕ
   pub time : ℕ → ℕ
@@ -26,7 +26,7 @@ pub record IsOptimal (net : Network) (terms : List Term) (knees : Knees) (st : S
   pub ends : st.time net.end ≡ st.limit
   pub flow : IsFlow net knees st.flow st.beside st.value
 
--- all durations normal, with the times that leave them room, and nothing flows
+-- the state with this length and these times in which nothing flows
 abbrev pub opening : ℕ → (ℕ → ℕ) → State
 opening limit times = record { limit = limit; time = times; flow = λ a k. 0; beside = λ a. 0; value = 0 }
 
@@ -50,8 +50,8 @@ CanRaise net terms knees st a =
     ((k : ℕ) × (k < knees.count a) × IsAtKnee net knees st.time a k × (st.flow a k < knees.rise a k))
     ⊎ IsAtCrash net terms st.time a
 
--- less can flow along activity a: its gap is a knee at which something flows, or its gap is crash and something flows
--- beside the knees
+-- less can flow along activity a: its gap is a knee with some flow, or its gap is crash and there is some flow on the
+-- crash duration
 abbrev pub CanLower : Network → List Term → Knees → State → ℕ → Type 0
 CanLower net terms knees st a =
     ((k : ℕ) × (k < knees.count a) × IsAtKnee net knees st.time a k × (0 < st.flow a k))
@@ -59,16 +59,16 @@ CanLower net terms knees st a =
 
 -- The way on where the labels reach the end
 
--- the flow `now` is the flow `old` with `room` more from event x to the end: at each event the two differ in what
--- enters, less what leaves, by `room` at the end and by `room` the other way at x
+-- the flow `now` is the flow `old` with `room` more from event x to the end: what enters an event less what leaves it
+-- is `room` more at the end, `room` less at x, and the same at each other event
 abbrev pub IsPart : Network → (ℕ → ℕ) → (ℕ → ℕ) → ℕ → ℕ → Type 0
 IsPart net old now x room =
     (e : ℕ) → e < net.events →
     inflow net now e + outflow net old e + (if x == e then room else 0)
     ≡ outflow net now e + inflow net old e + (if net.end == e then room else 0)
 
--- a raising by `room`, walked back from the end to event x: the flows are those of the state with `room` more from x
--- to the end, each keeps below the rise, and it differs only where the gap is its knee
+-- an augmentation by `room`, walked back from the end to event x: the flows are those of the state with `room` more
+-- from x to the end, each stays within the rise, and a flow differs only if the gap is its knee
 pub record IsRaising (net : Network) (terms : List Term) (knees : Knees) (st : State) (flow : ℕ → ℕ → ℕ) (beside : ℕ → ℕ) (x room : ℕ) : Type 0 where
   pub part : IsPart net (whole_flow knees st.flow st.beside) (whole_flow knees flow beside) x room
   pub capacity : (a k : ℕ) → a < length net.arcs → k < knees.count a → flow a k ≤ knees.rise a k
@@ -90,8 +90,8 @@ augmented st flow beside room =
 
 -- The way on where they do not
 
--- the labels have come to a stand: the start has one and the end has none, so that the start rests and the end moves,
--- and no step with room leads from a resting to a moving event
+-- the labels cannot grow: the start has one and the end has none, so that the start rests and the end moves, and no
+-- step with residual capacity leads from a resting to a moving event
 pub record IsStuck (net : Network) (terms : List Term) (knees : Knees) (st : State) (moves : ℕ → Bool) : Type 0 where
   pub start_rests : moves net.start ≡ false
   pub end_moves : moves net.end ≡ true
@@ -125,7 +125,8 @@ StopsAfter net terms knees time moves a n =
     CrashesAfter net terms time moves a n
     ⊎ ((k : ℕ) × (k < knees.count a) × (FallsToKneeAfter net knees time moves a k n ⊎ RisesToKneeAfter net knees time moves a k n))
 
--- labels that have come to a stand, with the fall from there: the least number of units after which an activity stops
+-- labels that cannot grow, with the step of the times from there: the least number of units after which an activity
+-- stops
 pub record IsFall (net : Network) (terms : List Term) (knees : Knees) (st : State) (moves : ℕ → Bool) (fall : ℕ) : Type 0 where
   pub stuck : IsStuck net terms knees st moves
   pub stops : (a : ℕ) × (a < length net.arcs) × StopsAfter net terms knees st.time moves a fall

@@ -1,5 +1,5 @@
--- The state between two labellings in words of one whole flow an activity, and the two ways on from it. A solver keeps
--- no more than this flow: what runs on each knee follows from it, filled in the order of the knees.
+-- The state between two labellings, with one total flow per activity, and its two next steps. A solver keeps only this
+-- flow: the flow on each knee follows from it, filled in the order of the knees.
 use Rattle.std.specs.Prelude.{◌≡◌, ℕ, ◌+◌, ◌-◌, ◌<◌, ◌≤◌, ◌⊎◌, Bool, true, false, List, length}
 use Rattle.pc_model.specs.declared.Term.{Term}
 use Rattle.pc_model.specs.Walk.{from_of, to_of}
@@ -11,11 +11,11 @@ use Rattle.pc_laws.specs.Segment.{is_forward, is_backward}
 use Rattle.pc_laws.specs.State.{State, IsPart}
 use Rattle.pc_laws.specs.Stair.{stair_of, unit_length, IsOnStair, knee_flow, crash_flow}
 
--- on which arc the next unit of activity a runs, after so many
+-- the length of the arc on which the next unit of activity a runs
 abbrev pub next_unit : List Term → Knees → (ℕ → ℕ) → ℕ → ℕ
 next_unit terms knees along a = unit_length (stair_of terms knees a) (along a)
 
--- and on which the last of so many does
+-- and of the arc on which its last unit runs
 abbrev pub last_unit : List Term → Knees → (ℕ → ℕ) → ℕ → ℕ
 last_unit terms knees along a = unit_length (stair_of terms knees a) (along a - 1)
 
@@ -42,16 +42,16 @@ filled_state terms knees limit time along value = record {
 
 -- The way on where the labels reach the end
 
--- a raising by `room`, walked back from the end to event x: the flows are those of before with `room` more from x to
--- the end, and each fits its gap
+-- an augmentation by `room`, walked back from the end to event x: the flows are the earlier ones with `room` more from
+-- x to the end, and each fits its gap
 pub record IsStairRaising (net : Network) (terms : List Term) (knees : Knees) (time along now : ℕ → ℕ) (x room : ℕ) : Type 0 where
   pub part : IsPart net along now x room
   pub fits : (a : ℕ) → a < length net.arcs → IsOnStair (stair_of terms knees a) (gap_of net.arcs time a) (now a)
 
 -- The way on where they do not
 
--- the labels have come to a stand: the start rests and the end moves, the next unit of each forward activity has an
--- arc shorter than the gap, and the last unit of each backward one an arc longer than it
+-- the labels cannot grow: the start rests and the end moves, the next unit of each forward activity has an arc shorter
+-- than the gap, and the last unit of each backward one an arc longer than it
 pub record IsStairStuck (net : Network) (terms : List Term) (knees : Knees) (time along : ℕ → ℕ) (moves : ℕ → Bool) : Type 0 where
   pub start_rests : moves net.start ≡ false
   pub end_moves : moves net.end ≡ true
@@ -85,7 +85,8 @@ pub record HasNoStopBefore (net : Network) (terms : List Term) (knees : Knees) (
   pub backward : (a : ℕ) → a < length net.arcs → is_backward net.arcs moves a ≡ true → 0 < along a →
       gap_of net.arcs time a + n ≤ last_unit terms knees along a
 
--- labels that have come to a stand, with the fall from there: the least number of units after which an activity stops
+-- labels that cannot grow, with the step of the times from there: the least number of units after which an activity
+-- stops
 pub record IsStairFall (net : Network) (terms : List Term) (knees : Knees) (time along : ℕ → ℕ) (moves : ℕ → Bool) (fall : ℕ) : Type 0 where
   pub stuck : IsStairStuck net terms knees time along moves
   pub stops : HasStop net terms knees time along moves fall

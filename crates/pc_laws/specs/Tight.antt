@@ -17,7 +17,8 @@ pub record IsSlackAtKnee (tail head knee rise flow : ℕ) : Type 0 where
   pub above : tail + knee < head → flow ≡ 0
   pub below : head < tail + knee → flow ≡ rise
 
--- the flows of activity a fit its gap: at each knee, and where the gap is above crash nothing flows beside them
+-- the flows of activity a fit its gap: at each knee, and if the gap is above crash there is no flow on the crash
+-- duration
 pub record IsSlack (terms : List Term) (knees : Knees) (a tail head : ℕ) (flow : ℕ → ℕ) (beside : ℕ) : Type 0 where
   pub at_knees : (k : ℕ) → k < knees.count a → IsSlackAtKnee tail head (knees.knee a k) (knees.rise a k) (flow k)
   pub above_crash : tail + crash_of terms a < head → beside ≡ 0

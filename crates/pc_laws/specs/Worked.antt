@@ -6,7 +6,7 @@ use Rattle.pc_laws.specs.Segment.{Segment}
 use Rattle.pc_laws.specs.Curve.{Breakpoint}
 
 -- a segment as a certificate lists it: its ends, cost and slope; the events' times, and a 1 for each that moves; the
--- activities' durations, the flows at their knees, and those beside them
+-- activities' durations, the flows at their knees, and those on their crash durations
 abbrev pub worked_segment : ℕ → ℕ → ℕ → ℕ → List ℕ → List ℕ → List ℕ → List (List ℕ) → List ℕ → Segment
 worked_segment upper lower cost slope times bits durations flows besides = record {
   upper = upper;
@@ -27,7 +27,8 @@ point limit cost slope = record { limit = limit; cost = cost; slope = Some slope
 abbrev pub last_point : ℕ → ℕ → Breakpoint
 last_point limit cost = record { limit = limit; cost = cost; slope = None }
 
--- The small deck, where the second unit saved of A costs 6: A has the knees 4 and 3, at each of which its slope rises by 3
+-- The small deck, in which the second unit saved of A costs 6: A has the knees 4 and 3, and its slope rises by 3 at
+-- each
 
 abbrev pub small_1 : Segment
 small_1 = worked_segment 9 8 45 3 (0 ∷ 4 ∷ 9 ∷ []) (0 ∷ 1 ∷ 1 ∷ []) (4 ∷ 5 ∷ 7 ∷ []) ((3 ∷ 0 ∷ []) ∷ (3 ∷ []) ∷ (0 ∷ []) ∷ []) []

@@ -62,7 +62,7 @@ pub fn slopes_never_fall()
 /// States that a curve has one list of breakpoints, which segments that cover the range give: their upper ends where
 /// the slope differs from that of the segment before, and the last lower end.
 ///
-/// If the segments come down only to some length, these upper ends are the breakpoints above it.
+/// If the segments only reach down to some length, these upper ends are the breakpoints above it.
 pub fn segments_give_the_breakpoints()
     ensures above { (net : Network) (terms : List Term) (knees : Knees) (segments : List Segment)
         (high low shortest : ℕ) →

@@ -1,5 +1,6 @@
-//! What the words say for costs with one slope, in both directions: a flow at one knee, f1, and one beside it, f2.
-//! Who thinks of an activity as a normal and a crash duration and one slope between them finds the familiar facts here.
+//! What the definitions say for costs with one slope, in both directions: a flow at one knee, f1, and one on the crash
+//! duration, f2. If you think of an activity as a normal and a crash duration with one slope between them, the familiar
+//! facts are here.
 
 ghost use Rattle.std.specs.Prelude.{◌≡◌, ◌↔◌, ℕ, List, []};
 ghost use Rattle.pc_model.specs.declared.Term.{Term};

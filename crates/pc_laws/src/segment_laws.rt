@@ -1,5 +1,5 @@
-//! Why a segment of the time-cost curve is right at every length between its ends, and why segments that join are
-//! the whole curve.
+//! Why a segment of the time-cost curve is right at every length between its ends, and why segments that join are the
+//! complete curve.
 
 ghost use Rattle.std.specs.Prelude.{◌≡◌, ℕ, pos, ◌+◌, ◌<◌, ◌≤◌, List, [], ◌∷◌, ◌++◌, length};
 ghost use Rattle.pc_model.specs.declared.Term.{Term};
@@ -57,8 +57,8 @@ pub fn slope_is_cut_gain()
 
 /// States that complete segments which join from the sum of normal durations of a through walk downwards begin with the
 /// all-normal length, and that every reading of them is right.
-///
-/// If they come down to the sum of crash durations of a through walk, this is the all-crash length, and they are the
+/// If they reach down to the sum of crash durations of a through walk, this is the all-crash length, and they are the
+/// complete curve.
 /// complete curve.
 pub fn segments_cover_the_range()
     ensures longest { (net : Network) (terms : List Term) (knees : Knees) (segments : List Segment) (high low : ℕ) →

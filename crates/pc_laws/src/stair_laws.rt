@@ -61,7 +61,7 @@ pub fn units_fall()
     ensures lowest { (s : Stair) → IsFalling s → (x : ℕ) → s.crash ≤ unit_length s x }
     ensures highest { (s : Stair) → IsFalling s → 0 < s.count → (x : ℕ) → unit_length s x ≤ s.knee 0 }
 
-    // A unit's arc is not longer than a gap exactly where the unit comes behind the rises of all knees above the gap.
+    // A unit's arc is not longer than a gap if and only if the unit is after the rises of all knees above the gap.
     ensures behind { (s : Stair) → IsFalling s → (gap x : ℕ) → unit_length s x ≤ gap → rises_over s gap ≤ x }
     ensures short { (s : Stair) → IsFalling s → (gap x : ℕ) → s.crash ≤ gap → rises_over s gap ≤ x →
         unit_length s x ≤ gap }
@@ -95,17 +95,17 @@ pub fn gap_may_change()
     ensures room { (s : Stair) → IsFalling s → (gap flow : ℕ) → IsOnStair s gap flow → s.crash ≤ gap }
 {}
 
-/// States that a whole flow is distributed completely over the knees in their order and beyond them, with at most its
-/// rise at each knee.
+/// States that a total flow is distributed completely over the knees in their order and the crash duration, with at
+/// most its rise at each knee.
 pub fn filling_is_the_flow()
     ensures whole { (s : Stair) (flow : ℕ) → sum_to s.count (knee_flow s flow) + crash_flow s flow ≡ flow }
     ensures within { (s : Stair) (flow k : ℕ) → knee_flow s flow k ≤ s.rise k }
 {}
 
-/// States that a whole flow fits a gap if and only if the flows at the knees do.
+/// States that a total flow fits a gap if and only if the flows at the knees do.
 ///
-/// For such a flow, the knees and the crash duration ask as much of each unit as the gap does, and of each rise as much
-/// more as its knee is above the gap.
+/// For such a flow, the sum of flow times duration over the knees and the crash duration is the gap times the total
+/// flow, plus each rise times the excess of its knee over the gap.
 pub fn on_the_staircase_is_tight()
     ensures tight { (terms : List Term) (knees : Knees) (a : ℕ) → IsFalling (stair_of terms knees a) →
         (tail head gap : ℕ) → head ≡ tail + gap → (along : ℕ) → IsOnStair (stair_of terms knees a) gap along →

@@ -1,7 +1,8 @@
-//! What holds between two labellings of the events, and how it is kept (Fulkerson 1961).
+//! What holds between two labellings of the events, and how the steps preserve it (Fulkerson 1961).
 //!
 //! A state has the present length, a time for each event and a flow. From the start, events are labelled along steps
-//! with room. Where the labels reach the end the flow is raised; where they do not, the events without a label fall.
+//! with residual capacity. If the labels reach the end, the flow is augmented; if not, the events without a label
+//! become earlier.
 
 ghost use Rattle.std.specs.Prelude.{◌≡◌, ◌≤◌, ◌<◌, ◌+◌, ◌*◌, ℕ, Bool, List, length};
 ghost use Rattle.pc_model.specs.declared.Term.{Term};
@@ -87,7 +88,7 @@ pub fn raising_walks_back()
         IsRaising net terms knees st next_flow next_beside (to_of net.arcs a) room }
 {}
 
-/// States that an augmentation that has come back to the start gives the next state, with a higher value.
+/// States that an augmentation that has reached the start gives the next state, with a higher value.
 pub fn raising_keeps_optimal()
     ensures optimal { (net : Network) (terms : List Term) (knees : Knees) (st : State) (flow : ℕ → ℕ → ℕ)
         (beside : ℕ → ℕ) (room : ℕ) →

@@ -1,5 +1,5 @@
-//! What holds between two labellings, in words of one whole flow an activity. A solver that keeps this flow alone, and
-//! keeps it on the staircases, has all that the laws of states at knees give.
+//! What holds between two labellings, with one total flow per activity. A solver that keeps only this flow, on the
+//! staircases, has all that the laws of states at knees give.
 //!
 //! Each function here does nothing: its contract is the law, proved once, and a caller that calls it has the law
 //! as a fact.
@@ -51,8 +51,8 @@ ghost use Rattle.pc_laws.specs.Steps.{
   IsStairFall,
 };
 
-/// States that a state in terms of whole flows is a state at knees with the flows distributed over them, and the other
-/// way round.
+/// States that a state with total flows is a state at knees with the flows distributed over them, and the other way
+/// round.
 ///
 /// If the labels cannot grow in the one, they cannot in the other, and the step of the times is the same.
 pub fn whole_flows_are_states()

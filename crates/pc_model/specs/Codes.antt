@@ -5,6 +5,6 @@ use Rattle.std.specs.Prelude.{◌≢◌, ℕ, ◌<◌, List, [], length, slice_i
 abbrev pub text_at : List (List ℕ) → ℕ → List ℕ
 text_at texts i = slice_index_or texts i []
 
--- no code stands at two places
+-- no two places have the same code
 abbrev pub IsNamedOnce : List (List ℕ) → Type 0
 IsNamedOnce codes = (j k : ℕ) → j < k → k < length codes → text_at codes j ≢ text_at codes k

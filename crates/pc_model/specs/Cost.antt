@@ -12,8 +12,8 @@ pub record Knees : Type 0 where
   pub knee : ℕ → ℕ → ℕ
   pub rise : ℕ → ℕ → ℕ
 
--- the first knee of each activity is its normal duration, where the slope rises from 0 to the activity's own; the knees
--- that follow do not rise, and none lies below the crash duration
+-- the first knee of each activity is its normal duration, where the slope rises from 0 to the activity's own; later
+-- knees are no longer than the ones before, and none is below the crash duration
 pub record AreKnees (net : Network) (terms : List Term) (knees : Knees) : Type 0 where
   pub some : (a : ℕ) → a < length net.arcs → 0 < knees.count a
   pub first : (a : ℕ) → a < length net.arcs → knees.knee a 0 ≡ normal_of terms a

@@ -11,7 +11,7 @@ pub record IsFirst (P : ℕ → Type 0) (a : ℕ) : Type 0 where
   pub holds : P a
   pub first : (b : ℕ) → b < a → P b → ⊥
 
--- v stands among the first n elements of xs
+-- v is one of the first n elements of xs
 abbrev pub StandsBelow : List ℕ → ℕ → ℕ → Type 0
 StandsBelow xs n v = (j : ℕ) × (j < n) × (slice_index xs j ≡ v)
 

@@ -33,8 +33,8 @@ abbrev pub IsDangling : Network → ℕ → Type 0
 IsDangling net e =
     ((e ≢ net.start) × (IsEntered net e → ⊥)) ⊎ ((e ≢ net.end) × (IsLeft net e → ⊥))
 
--- nothing enters the start or leaves the end, every event lies on a walk from the start to the end, and no
--- walk comes back to where it began
+-- nothing enters the start or leaves the end, every event is on a walk from the start to the end, and no walk returns
+-- to where it began
 pub record IsSound (net : Network) : Type 0 where
   pub not_entered : IsEntered net net.start → ⊥
   pub not_left : IsLeft net net.end → ⊥

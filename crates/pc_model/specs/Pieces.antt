@@ -19,8 +19,8 @@ abbrev pub slope_in : Term → List PieceRow → ℕ → ℕ
 slope_in term pieces zero = term.slope
 slope_in term pieces (suc k) = (slice_index_or pieces k (record { activity = 0; units = 0; slope = 0 })).slope
 
--- the duration below which an activity's k-th piece begins: normal for the first, and for each later one what is left of the
--- pieces from there on above crash
+-- the duration below which an activity's k-th piece begins: normal for the first piece, and for a later one crash plus
+-- the units of this piece and the ones after it
 abbrev pub knee_in : Term → List PieceRow → ℕ → ℕ
 knee_in term pieces zero = term.normal
 knee_in term pieces (suc k) = term.crash + units_of (drop k pieces)

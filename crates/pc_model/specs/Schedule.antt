@@ -21,7 +21,7 @@ crash_of terms a = (term_at terms a).crash
 abbrev pub base_cost_of : List Term → ℕ → ℕ
 base_cost_of terms a = (term_at terms a).cost
 
--- what each of the first units by which activity a is shortened costs
+-- what each of the first units saved of activity a costs
 abbrev pub slope_of : List Term → ℕ → ℕ
 slope_of terms a = (term_at terms a).slope
 
@@ -59,8 +59,8 @@ IsAllCrashLength net terms n = IsLongest net (crashes terms) n
 abbrev pub HasSchedule : Network → List Term → ℕ → Type 0
 HasSchedule net terms limit = (durations times : ℕ → ℕ) × IsSchedule net terms limit durations times
 
--- the gap of activity a: the time of its ending event less that of its beginning event, and 0 where it is negative,
--- which no gap with room for the crash duration is
+-- the gap of activity a: the time of its ending event less that of its beginning event, or 0 if that is negative, as it
+-- never is if the crash duration fits between them
 abbrev pub gap_of : List Arc → (ℕ → ℕ) → ℕ → ℕ
 gap_of arcs times a = times (to_of arcs a) - times (from_of arcs a)
 

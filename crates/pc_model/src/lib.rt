@@ -24,8 +24,8 @@ pub struct Arc {
 
 /// What the duration of an activity may be, in units, and what it costs.
 ///
-/// The activity costs `cost` at its normal duration and `slope` more for each unit by which it is shortened. If its
-/// cost has further pieces, `slope` applies to the first of these units only.
+/// The activity costs `cost` at its normal duration and `slope` more for each unit that it is shorter. If its cost has
+/// further pieces, `slope` applies to the first of these units only.
 #[derive(Clone, Copy, Debug, PartialEq, Eq)]
 pub struct Term {
     pub normal: u64,

@@ -55,5 +55,5 @@ pub const MAX_COST: u64 = 1_000_000_000_000;
 /// The greatest overhead, target, bonus and penalty of a project.
 pub const MAX_TERMS: u64 = 1_000_000_000;
 
-/// The greatest cost of one unit by which an activity is shortened.
+/// The greatest cost of one unit saved of an activity.
 pub const MAX_SLOPE: u64 = 100_000_000;

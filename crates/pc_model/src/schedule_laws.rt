@@ -52,9 +52,9 @@ pub fn pieces_make_knees()
         ≡ slope_in (term_at terms a) (pieces_of pieces a) (length (pieces_of pieces a)) }
 {}
 
-/// States what shortening a duration by one unit costs: the slope of the piece in which that unit lies.
+/// States what shortening a duration by one unit costs: the slope of the piece that contains that unit.
 ///
-/// Piece `k` lies below knee `k`, down to the next knee or to the crash duration. At their normal durations the
+/// Piece `k` goes from knee `k` down to the next knee or to the crash duration. At their normal durations the
 /// activities cost what their terms say. Without pieces, or with one knee, each unit below normal costs the slope.
 pub fn a_unit_costs_its_slope()
     ensures piece { (net : Network) (terms : List Term) (pieces : List PieceRow) (a d k : ℕ) → AreTerms net terms →
