@@ -11,7 +11,7 @@ Numbered = ℕ × List (List ℕ)
 abbrev pub is_card : Numbered → Bool
 is_card numbered = not (is_blank numbered.1)
 
--- the cards among records, the first of which has the number `row`
+-- the cards among records, numbered from `row`
 abbrev pub cards_from : ℕ → List (List (List ℕ)) → List Numbered
 cards_from row records = filter is_card (enumerate_from row records)
 

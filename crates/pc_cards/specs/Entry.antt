@@ -1,5 +1,5 @@
--- What a kind of cards is: all that is asked of its cards, and what they say; and how they are written. Each kind's own file gives its entry, over the
--- lists in which a deck has its cards.
+-- A kind of cards: what it asks of its cards, what they say, and how they are written. Each kind's own file gives its
+-- entry, over the lists in which a deck has its cards.
 use Rattle.std.specs.Prelude.{ℕ, Bool, ◌==◌, List, [], Option, Some, None, if◌then◌else◌}
 use Rattle.pc_cards.specs.Forms.{Slot}
 use Rattle.pc_cards.specs.Named.{HeldBy}
@@ -44,7 +44,7 @@ no_code card = []
 pub record Entry (Lists : Type 0) : Type 1 where
   -- a card as plain data
   pub Card : Type 0
-  -- the card that a record spells, of the record's number and its fields
+  -- the card in a record, from the record's number and its fields
   pub spelled : ℕ → List (List ℕ) → Card
   -- what the fields must be in decks of a sort, after the kind itself
   pub slots : Sort → List Slot
@@ -52,11 +52,11 @@ pub record Entry (Lists : Type 0) : Type 1 where
   pub least : ℕ
   -- how many fields it may have
   pub most : ℕ
-  -- whether a second card is a fault of its own
+  -- whether a second card of the kind is a fault
   pub once : Bool
-  -- the cards that a deck has of the kind: one or none where it stands once, or else a list
+  -- the cards of the kind in a deck: at most one if the kind is allowed once, else a list
   pub held : Lists → HeldBy once Card
-  -- how many cards a deck of a sort may have; where the sort has not the kind, none
+  -- how many cards of the kind a deck of a sort may have; none if the sort does not have the kind
   pub limit : Sort → Limit
   -- whether the cards have codes of their own, no two of them the same
   pub is_coded : Bool
@@ -65,7 +65,7 @@ pub record Entry (Lists : Type 0) : Type 1 where
 
 -- how the cards of a kind are written
 pub record Written (Card : Type 0) : Type 0 where
-  -- the fields of a card as they are written, after the kind itself, each in the one spelling that its form has
+  -- the fields of a card as they are written, after the kind itself, each in canonical form
   pub written : Card → List (List ℕ)
   -- the same card in another record
   pub at_row : ℕ → Card → Card

@@ -29,7 +29,8 @@ duration = form.Number 0 MAX_DURATION
 abbrev pub money : FieldForm
 money = form.Number 0 MAX_COST
 
--- a code that a card gives to what it stands for: in a deck of tasks it is none of those that are added to such a deck
+-- the code that a card gives to what it represents: in a deck of tasks it is not one of the codes that are added to
+-- such a deck
 abbrev pub own_code : Sort → FieldForm
 own_code Plan = form.Code
 own_code Tasks = form.GivenCode
@@ -50,7 +51,7 @@ is_of_other_years (Err Years) = true
 abbrev pub is_reserved : List ℕ → Bool
 is_reserved field = starts_with nat_eq field (codes "_")
 
--- the field has the shape of what it must be: a code, a title, a date of the calendar, a number, or `S` or `F`
+-- the field has the shape that it must have: a code, a title, a date of the calendar, a number, or `S` or `F`
 abbrev pub has_shape : FieldForm → List ℕ → Bool
 has_shape form.Code field = is_code field
 has_shape form.GivenCode field = is_code field && not (is_reserved field)
@@ -94,7 +95,7 @@ AllFit (slot ∷ slots) fields = Fits slot.1 (field_numbered fields slot.0) × A
 abbrev pub is_whole : ℕ → ℕ → List (List ℕ) → Bool
 is_whole least most fields = nat_le least (length fields) && is_blank (drop most fields)
 
--- the first field that has not the shape of what it must be
+-- the slot of the first field that does not have the shape that it must have
 abbrev pub first_misshapen : List Slot → List (List ℕ) → Option Slot
 first_misshapen slots fields = find (λ slot. not (has_shape slot.1 (field_numbered fields slot.0))) slots
 
@@ -102,7 +103,7 @@ first_misshapen slots fields = find (λ slot. not (has_shape slot.1 (field_numbe
 abbrev pub first_over_limit : List Slot → List (List ℕ) → Option Slot
 first_over_limit slots fields = find (λ slot. is_over_limit slot.1 (field_numbered fields slot.0)) slots
 
--- the number that a field spells
+-- the number in a field
 abbrev pub number_in : List ℕ → ℕ
 number_in field = unwrap_or (number_of field) 0
 
@@ -110,12 +111,12 @@ number_in field = unwrap_or (number_of field) 0
 abbrev pub day_in : List ℕ → ℤ
 day_in field = result_unwrap_or (day_of field) (pos 0)
 
--- a code as it is written; nothing where there is none
+-- a code as it is written, or nothing
 abbrev pub code_text : Option (List ℕ) → List ℕ
 code_text None = []
 code_text (Some code) = code
 
--- a number as it is written, in decimal form; nothing where there is none
+-- a number as it is written, in decimal form, or nothing
 abbrev pub number_text : Option ℕ → List ℕ
 number_text None = []
 number_text (Some number) = decimal number

@@ -7,12 +7,12 @@ use Rattle.std.specs.Cmp.Lexicographic.{pointwise}
 abbrev pub is_among : List ℕ → List (List ℕ) → Bool
 is_among code codes = list_any (pointwise nat_eq code) codes
 
--- the cards of a kind: one or none where the kind stands once, or else a list
+-- the cards of a kind: at most one if the kind is allowed once, else a list
 abbrev pub HeldBy : Bool → Type 0 → Type 0
 HeldBy true C = Option C
 HeldBy false C = List C
 
--- the cards of a kind as a list, also where the kind stands once
+-- the cards of a kind as a list, also if the kind is allowed once
 abbrev pub listed_by : (once : Bool) (C : Type 0) → HeldBy once C → List C
 listed_by true C held = option_to_list held
 listed_by false C held = held

@@ -15,7 +15,7 @@ use pc_text::{Code, Title, is_title_shape, read_number};
 /// What is wrong with a field.
 #[derive(Clone, Copy)]
 pub enum Flaw {
-    /// It does not have the shape of what it must be.
+    /// It does not have the shape that its form asks for.
     Shape,
     /// It has that shape and is over its limit.
     Limit,
@@ -80,7 +80,7 @@ pub fn read_given_code<F: Fields>(fields: &F, number: u8) -> Result<Code, Misfit
     }
 }
 
-/// Whether a code is for what is added to a deck of tasks: whether it begins with `_`.
+/// Whether a code belongs to what is added to a deck of tasks: whether it begins with `_`.
 fn is_reserved(field: &[u8]) -> bool
     ensures { result ≡ is_reserved field.now }
 {

@@ -68,7 +68,7 @@ fn misfit_of<F: Fields>(slot: &Slot, fields: &F) -> Option<Misfit>
     }
 }
 
-/// Whether the field of a slot has not the shape of what it must be.
+/// Whether the field of a slot does not have the shape that it must have.
 #[tactic(auto, using(crate::proofs::MisfitLemmas::shape_told))]
 fn is_misshapen<F: Fields>(slot: &Slot, fields: &F) -> bool
     ensures { result ≡ not (has_shape slot.now.1 (field_numbered (F.fields fields.now) slot.now.0)) }

@@ -1,9 +1,9 @@
-//! The cards of a deck of any sort: how a field is read, and what it must be; what a kind of cards is; where a card
-//! stands, and what is wrong with it; the cards of one kind, and how they are written; and the cards among the records
-//! of a deck.
+//! The cards of a deck of any sort: how a field is read, and what it must be; what a kind of cards is; where a card is,
+//! and what is wrong with it; the cards of one kind, and how they are written; and the cards among the records of a
+//! deck.
 //!
-//! Nothing here knows which kinds a deck has. So decks of both sorts are read by the same parts: what a sort changes
-//! comes as an argument.
+//! Nothing here depends on which kinds a deck has, so decks of both sorts are read by the same parts: the differences
+//! between the sorts are passed as arguments.
 #![tactic(auto)]
 
 pub mod card;

@@ -1,4 +1,4 @@
-//! Where a card stands among those before it, and what may be wrong with that.
+//! The place of a card among those before it, and what may be wrong with that.
 ghost use Rattle.std.specs.Prelude.{◌≡◌};
 ghost use Rattle.pc_cards.specs.inside.Findings.{fault_of_place, not_alone};
 

@@ -1,7 +1,7 @@
 -- Regions: a number of cells, and live spans of them, one after the other.
 use Rattle.std.specs.Prelude.{ℕ, List}
 
--- how many cells there are, and what stands in the cells of each live span
+-- how many cells there are, and the contents of each live span
 pub record Cells : Type 0 where
   pub capacity : ℕ
   pub spans : List (List ℕ)

@@ -1,5 +1,5 @@
-//! A region of memory: a fixed number of cells, taken once, of which spans are handed out one after the other and given
-//! back from the last on. What works in its spans takes no memory.
+//! A region of memory: a fixed number of cells, allocated once. Spans of it are handed out one after the other and
+//! returned in reverse order. Code that works in its spans allocates nothing.
 #![tactic(auto)]
 
 mod region;

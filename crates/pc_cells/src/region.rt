@@ -33,8 +33,8 @@ use std::marker::Model;
 /// The first live span begins at the first cell, and each later one where the one before ends.
 pub struct Region {
     cells: Vec<u64>,
-    /// Where each live span begins and then where the next one will; what stands behind these `count + 1` means
-    /// nothing.
+    /// Where each live span begins, and then where the next one will; the entries after these `count + 1` have no
+    /// meaning.
     starts: Vec<usize>,
     count: usize,
 }

@@ -20,7 +20,7 @@ next_day today =
     else if nat_lt today.month 12 then record { year = today.year; month = today.month + 1; day = 1 }
     else record { year = today.year + 1; month = 1; day = 1 }
 
--- so many days after 1 January 1900
+-- this many days after 1 January 1900
 unfoldable pub calendar_day : ℕ → CalendarDay
 calendar_day zero = first_day
 calendar_day (suc n) = next_day (calendar_day n)
@@ -34,7 +34,7 @@ text_of_day number =
 abbrev pub no_date : List ℕ
 no_date = codes "----------"
 
--- the date of a day, or ten hyphens where it is none of the days that are printed, 1900-01-01 to 9999-12-31
+-- the date of a day, or ten hyphens if it is not one of the days that are printed, 1900-01-01 to 9999-12-31
 abbrev pub date_or_none : ℤ → List ℕ
 date_or_none day =
     if int_le (neg_ℤ (pos 25_567)) day && int_le day (pos 2_932_896) then text_of_day day else no_date

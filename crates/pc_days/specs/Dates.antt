@@ -1,4 +1,4 @@
--- The dates of a deck: how one is spelled, and the number of its day.
+-- The dates of a deck: the form of a date, and the number of its day.
 use Rattle.std.specs.Prelude.{◌≡◌, ℕ, ◌+◌, ◌-◌, ◌*◌, ◌/◌, ◌%◌, Bool, ◌&&◌, ◌==◌, nat_le, if◌then◌else◌, List, [], ◌∷◌}
 use Rattle.std.specs.Prelude.{length, slice_index, Result, Ok, Err, ℤ, pos, neg_ℤ, ◌+ℤ◌, ◌-ℤ◌, ◌*ℤ◌, ◌≤ℤ◌, ◌<ℤ◌}
 use Rattle.std.specs.Char.{is_ascii_digit}
@@ -10,12 +10,12 @@ use Rattle.pc_days.specs.declared.day.DayError.TheVariants.{Shape, Years}
 abbrev pub IsPrintedDay : ℤ → Type 0
 IsPrintedDay day = IsBetween (neg_ℤ (pos 25_567)) (pos 2_932_896) day
 
--- so many days are so many sixths of a day, rounded up
+-- the days are the sixths of a day, rounded up
 abbrev pub IsRoundedUp : ℤ → ℤ → Type 0
 IsRoundedUp sixths days =
     (sixths ≤ℤ (pos 6 *ℤ days)) × ((pos 6 *ℤ days) <ℤ (sixths +ℤ pos 6))
 
--- the day is the start and so many sixths of a day, rounded up to whole days
+-- the day is the start plus these sixths of a day, rounded up to complete days
 abbrev pub IsAfterSixths : ℤ → ℤ → ℤ → Type 0
 IsAfterSixths start sixths day = IsRoundedUp sixths (day -ℤ start)
 
@@ -61,7 +61,7 @@ has_day y m d =
 abbrev pub is_deck_year : ℕ → Bool
 is_deck_year y = nat_le 1900 y && nat_le y 2199
 
--- what reading a field gives: the day that it names, or what is wrong with it
+-- the result of reading a field: the day that it names, or what is wrong with it
 unfoldable pub day_of : List ℕ → Result ℤ DayError
 day_of text =
     let y = year_of text in

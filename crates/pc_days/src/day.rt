@@ -190,7 +190,7 @@ pub fn date_of_sixths(start: Day, t: i64) -> Option<Day>
     })
 }
 
-/// The whole days of so many sixths of a day, rounded up.
+/// The sixths of a day in complete days, rounded up.
 fn whole_days(sixths: i64) -> i64
     requires early { neg_ℤ (pos (2 ^ 40)) <ℤ sixths }
     requires late { sixths <ℤ pos (2 ^ 40) }

@@ -1,4 +1,4 @@
-//! A hash of codes that has a key, and keys for callers that draw none by chance.
+//! A hash of codes with a key, and keys for callers that have no random one.
 ghost use Rattle.std.specs.Prelude.{fold};
 ghost use Rattle.std.specs.Hash as fed;
 ghost use Rattle.std.specs.Hash.FoldHasher as folding;
@@ -39,11 +39,11 @@ impl BuildHasher for CodeHash {
     }
 }
 
-/// Hashes the key, what is written, and the key again.
+/// Hashes the key, the written bytes, and the key again.
 ///
-/// The key before a code hides which codes meet in the state. The key after it hides which states meet in a slot of the
-/// table: without it, codes that differ only in a few bits would share the bits that choose the slot, whatever the key
-/// is.
+/// The key before a code hides which codes collide in the state. The key after it hides which states collide in a slot
+/// of the table: without it, codes that differ only in a few bits would share the bits that choose the slot, whatever
+/// the key is.
 #[derive(Clone, Copy)]
 pub(crate) struct CodeHasher {
     inner: FoldHasher,

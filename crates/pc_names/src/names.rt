@@ -33,7 +33,7 @@ impl Model for Names {
 impl Names {
     /// Creates an empty list whose hash has this key. Allocates nothing.
     ///
-    /// If others choose the codes, draw the key by chance, or take it from [`key_of_bytes`](crate::key_of_bytes).
+    /// If others choose the codes, use a random key, or take it from [`key_of_bytes`](crate::key_of_bytes).
     pub fn new(alloc: Global, key: u128) -> Names
         ensures { result ≡ [] }
     {

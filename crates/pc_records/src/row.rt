@@ -125,7 +125,7 @@ impl Fields for Row {
 
 /// The fields of a record, each of any bytes.
 ///
-/// Code that reads fields through this trait does not depend on how they are kept, so no crate above carries the
+/// Code that reads fields through this trait does not depend on how they are stored, so no crate above has the
 /// interface of `csv`.
 pub trait Fields {
     // The fields in their order.

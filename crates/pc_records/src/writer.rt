@@ -27,8 +27,8 @@ impl Model for RowWriter {
 }
 
 impl RowWriter {
-    /// Creates an empty text with capacity for this many bytes: that of `room`, and more if it is less. It allocates
-    /// more for longer texts.
+    /// Creates an empty text with capacity for this many bytes, in the buffer `room`, which grows if its capacity is
+    /// less. It allocates more for longer texts.
     ///
     /// # Errors
     ///

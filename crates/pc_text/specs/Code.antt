@@ -11,6 +11,6 @@ is_code_byte b = is_ascii_alphanumeric b || (b == 46 || (b == 95 || b == 45))
 abbrev pub is_code : List ℕ → Bool
 is_code field = nat_le 1 (length field) && (nat_le (length field) 16 && list_all is_code_byte field)
 
--- the code that a field spells, where it is one
+-- the code in a field, if it has the form of a code
 abbrev pub code_of : List ℕ → Option (List ℕ)
 code_of field = if is_code field then Some field else None

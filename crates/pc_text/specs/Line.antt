@@ -1,6 +1,6 @@
 -- Spaces on a line.
 use Rattle.std.specs.Prelude.{ℕ, List, replicate}
 
--- so many spaces
+-- this many spaces
 abbrev pub spaces : ℕ → List ℕ
 spaces count = replicate count 32

@@ -28,7 +28,7 @@ impl Line {
     ///
     /// # Errors
     ///
-    /// `AllocError` if there is no memory for so many bytes.
+    /// `AllocError` if there is no memory for this many bytes.
     pub fn with_room(alloc: Global, room: usize) -> Result<Line, AllocError>
         ensures empty { IfOk result (λ line. line.bytes ≡ []) }
         ensures room { IfOk result (λ line. line.room ≡ room) }

@@ -51,7 +51,7 @@ fn value_of(word: &[u8]) -> Option<u64>
 {
     let mut number = 0;
     for byte in word {
-        // One subtraction tests for a digit and gives its value: any other byte comes out above 9.
+        // One subtraction tests for a digit and gives its value: any other byte gives more than 9.
         let digit = u64::from(*byte).wrapping_sub(u64::from(b'0'));
         if digit > 9 {
             return None;
@@ -152,7 +152,7 @@ fn ones(number: usize) -> u8
     PAIRS[2 * number + 1]
 }
 
-/// The decimal form of a number without a sign, in at most so many bytes. It finds two digits with each division, and
+/// The decimal form of a number without a sign, in at most `$most` bytes. It finds two digits with each division, and
 /// divides numbers of the type that the number has.
 macro_rules! unsigned {
     ($n:expr, $most:expr) => {{

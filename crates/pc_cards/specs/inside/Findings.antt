@@ -12,7 +12,7 @@ use Rattle.pc_cards.specs.Named.{is_among}
 use Rattle.pc_cards.specs.declared.place.CardPlace.{CardPlace}
 use Rattle.pc_cards.specs.Findings.{width_wanted}
 
--- a card behind others of its kind, where there may be one alone
+-- the fault of a card after others of its kind, if only one is allowed
 abbrev pub not_alone : CardPlace → ℕ → Option Fault
 not_alone place count = then_some (nat_lt 0 count) (fault.second_card place.row place.kind)
 
@@ -44,7 +44,7 @@ abbrev pub one_too_many : Kind → ℕ → ℕ → Option ℕ → Option Fault
 one_too_many kind row count None = None
 one_too_many kind row count (Some limit) = then_some (count == limit) (fault.too_many row kind limit)
 
--- F10 and F11, of a card behind so many of its kind
+-- F10 and F11, of a card after `count` others of its kind
 abbrev pub fault_of_place : CardPlace → ℕ → Option Fault
 fault_of_place place count = option_or (one_too_many place.kind place.row count place.limit) (then_some place.has_ended (fault.behind_end place.row))
 

@@ -12,11 +12,11 @@ abbrev pub is_of_shape : Flaw → Bool
 is_of_shape flaw.Shape = true
 is_of_shape flaw.Limit = false
 
--- what is wrong with a field that must be this, if anything is
+-- what is wrong with a field of this form, if anything is
 abbrev pub flaw_of : FieldForm → List ℕ → Option Flaw
 flaw_of form field = if has_shape form field then (if is_over_limit form field then Some flaw.Limit else None) else Some flaw.Shape
 
--- this is what is wrong with the field that has the number and must be this
+-- the field error names this field number and what is wrong with the field, which must have this form
 abbrev pub IsMisfit : ℕ → FieldForm → List ℕ → Misfit → Type 0
 IsMisfit number form field misfit = (number ≡ misfit.number) × (flaw_of form field ≡ Some misfit.flaw)
 
@@ -27,7 +27,7 @@ IsFirstMisfit (slot ∷ slots) fields misfit =
     IsMisfit slot.0 slot.1 (field_numbered fields slot.0) misfit
     ⊎ (Fits slot.1 (field_numbered fields slot.0) × IsFirstMisfit slots fields misfit)
 
--- the slots behind the first with a number
+-- the slots after the first with a number
 abbrev pub slots_behind : ℕ → List Slot → List Slot
 slots_behind number [] = []
 slots_behind number (slot ∷ slots) = if slot.0 == number then slots else slots_behind number slots

@@ -7,7 +7,7 @@ use Rattle.pc_cards.specs.Named.{is_among, HeldBy}
 abbrev pub has_code : {C : Type 0} → (C → List ℕ) → List C → List ℕ → Bool
 has_code code_of cards code = is_among code (map code_of cards)
 
--- how many cards there are of a kind that stands once
+-- how many cards there are of a kind that is allowed once
 abbrev pub count_once : {C : Type 0} → Option C → ℕ
 count_once card = length (option_to_list card)
 

@@ -22,7 +22,8 @@ pub record AreStarts (starts : List ℕ) (n cells : ℕ) : Type 0 where
   pub rising : (k : ℕ) → k < n → slice_index starts k < slice_index starts (k + 1)
   pub within : slice_index starts n ≤ cells
 
--- places fit their type, there is room for a start at each cell and for the end, and the live spans stand in the cells
+-- places fit their type, there is one entry for the start of a span per cell and one for the end, and the cells hold
+-- the live spans
 pub record IsLaidOut (r : Inside) : Type 0 where
   pub few : length r.cells.items < 2 ^ 63
   pub room : length r.starts.items ≡ length r.cells.items + 1

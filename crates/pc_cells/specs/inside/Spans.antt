@@ -13,7 +13,7 @@ free_of region = region.capacity - sum_by length region.spans
 abbrev pub cells_before : List (List ℕ) → ℕ → ℕ
 cells_before spans k = sum_by length (take k spans)
 
--- what stands in the cells of the k-th span
+-- the contents of the k-th span
 abbrev pub span_at : List (List ℕ) → ℕ → List ℕ
 span_at spans k = slice_index_or spans k []
 
@@ -21,7 +21,7 @@ span_at spans k = slice_index_or spans k []
 abbrev pub with_span : Cells → ℕ → List ℕ → Cells
 with_span region k xs = record { capacity = region.capacity; spans = slice_set region.spans k xs }
 
--- s is the k-th live span: it begins behind those before it, and has its length
+-- s is the k-th live span: it begins after those before it, and has its length
 pub record IsSpan (spans : List (List ℕ)) (k : ℕ) (s : Span) : Type 0 where
   pub known : k < length spans
   pub begins : s.place ≡ cells_before spans k
@@ -31,7 +31,7 @@ pub record IsSpan (spans : List (List ℕ)) (k : ℕ) (s : Span) : Type 0 where
 abbrev pub IsLive : List (List ℕ) → Span → Type 0
 IsLive spans s = (k : ℕ) × IsSpan spans k s
 
--- the region has one more span, of so many zeros, behind the others
+-- the region has one more span after the others, of `len` zeros
 pub record IsTaken (old new : Cells) (len : ℕ) (s : Span) : Type 0 where
   pub region : new ≡ record { capacity = old.capacity; spans = old.spans ++ replicate len 0 ∷ [] }
   pub span : IsSpan new.spans (length old.spans) s

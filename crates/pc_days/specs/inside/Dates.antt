@@ -1,4 +1,4 @@
--- The dates of a deck: how one is spelled, and the number of its day.
+-- The dates of a deck: the form of a date, and the number of its day.
 -- Here is what no clause of a top call and no law reaches.
 use Rattle.std.specs.Prelude.{◌≡◌, ℕ, ◌<◌, ◌≤◌, ◌⊎◌, List, ℤ, pos}
 use Rattle.jiff_core.specs.Calendar.{days_from_civil}

@@ -12,11 +12,11 @@ use Rattle.pc_records.specs.declared.rows.RowReader.TheInside.{Inside}
 abbrev pub ByteReader : Type 0
 ByteReader = Reader (Bor (List ℕ))
 
--- the bytes that it has not read, where it has not failed
+-- the bytes that it has not read, if it has not failed
 abbrev pub bytes_left : ByteReader → Option (List ℕ)
 bytes_left reader = source_of (λ bytes. Some bytes.now) reader
 
--- the records of the bytes that are left, from where the reader stands
+-- the records of the bytes that are left, from the reader's state on
 abbrev pub records_after : State → Option (List ℕ) → List (List (List ℕ))
 records_after state None = []
 records_after state (Some bytes) = records_from default_config (length bytes + 1) state bytes
@@ -25,8 +25,8 @@ records_after state (Some bytes) = records_from default_config (length bytes + 1
 abbrev pub rows_left : Inside → List (List (List ℕ))
 rows_left rows = if rows.is_done then [] else records_after (reader_state rows.reader) (bytes_left rows.reader)
 
--- the reader gives one record after the other: it takes no header row, changes no field, refuses no number of
--- fields, has not failed, and stands between two records
+-- the reader gives one record after the other: it takes no header row, changes no field, refuses no number of fields,
+-- has not failed, and is between two records
 pub record IsGoing (reader : ByteReader) : Type 0 where
   pub untrimmed : reader_trim reader ≡ trim.None
   pub ready : Ready reader

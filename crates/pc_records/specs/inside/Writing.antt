@@ -13,7 +13,7 @@ any_length = with_flexible default_writer true
 abbrev pub text_put : Inside → List ℕ
 text_put rows = if rows.has_failed then [] else (writer_under rows.writer).items ++ writer_pending rows.writer
 
--- the writer stands between two records of any length
+-- the writer is between two records of any length
 pub record IsBetween {W : Type 0} (writer : Writer W) : Type 0 where
   pub setup : writer_setup writer ≡ any_length
   pub fields : fields_written writer ≡ 0

@@ -1,4 +1,4 @@
--- How a code lies in its cells.
+-- How a code is stored in its cells.
 use Rattle.std.specs.Prelude.{◌≡◌, ℕ, List, [], ◌∷◌, take, true, nat_eq, Option, Some, None, if◌then◌else◌}
 use Rattle.std.specs.List.{list_all}
 use Rattle.std.specs.Cmp.Lexicographic.{pointwise, same_text}
@@ -6,11 +6,11 @@ use Rattle.std.proofs.Common.{ap, sym}
 use Rattle.pc_text.specs.inside.Words.{IsPadded, padded}
 use Rattle.pc_text.specs.Code.{is_code, is_code_byte}
 
--- the cells of a text of at most 16 bytes, where each may stand in a code
+-- the cells of a text of at most 16 bytes, if each of them may occur in a code
 abbrev pub cells_of : List ℕ → Option (List ℕ)
 cells_of field = if list_all is_code_byte field then Some (padded 16 field) else None
 
--- the first `len` of 16 cells are a code, and zeros stand behind it
+-- the first `len` of 16 cells are a code, and zeros follow it
 pub record IsCodeCells (len : ℕ) (cells : List ℕ) : Type 0 where
   pub padded : IsPadded 16 len cells
   pub code : is_code (take len cells) ≡ true

@@ -4,12 +4,12 @@ use Rattle.std.specs.List.{take_while}
 use Rattle.pc_text.specs.Code.{is_code_byte}
 use Rattle.pc_text.specs.inside.Words.{padded}
 
--- the number of which these are the bytes, the lowest first
+-- the number with these bytes, the lowest first
 abbrev pub value_of : List ℕ → ℕ
 value_of [] = 0
 value_of (b ∷ bs) = b + 256 * value_of bs
 
--- so many bytes of a number, the lowest first
+-- this many bytes of a number, the lowest first
 abbrev pub bytes_of : ℕ → ℕ → List ℕ
 bytes_of zero number = []
 bytes_of (suc k) number = number % 256 ∷ bytes_of k (number / 256)

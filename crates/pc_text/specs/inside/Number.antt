@@ -10,7 +10,7 @@ use Rattle.pc_text.specs.Number.{is_numeral, value_after}
 abbrev pub is_number : List ℕ → Bool
 is_number field = is_numeral 13 field
 
--- 1 to so many bytes, and no zero in front of others
+-- 1 to `most` bytes, and no zero before others
 abbrev pub is_unpadded : ℕ → List ℕ → Bool
 is_unpadded most word = nat_le 1 (length word) && (nat_le (length word) most && (not (slice_index word 0 == 48) || length word == 1))
 
@@ -18,7 +18,7 @@ is_unpadded most word = nat_le 1 (length word) && (nat_le (length word) most && 
 abbrev pub value_of : List ℕ → Option ℕ
 value_of word = if list_all is_ascii_digit word then Some (value_after 0 word) else None
 
--- the word is the decimal form of n, and has at most so many digits
+-- the word is the decimal form of n, which is below 10 to the power of `most`
 abbrev pub Spells : ℕ → List ℕ → ℕ → Type 0
 Spells most word n = (n < 10 ^ most) × (word ≡ decimal n)
 

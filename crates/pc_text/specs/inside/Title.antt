@@ -3,6 +3,6 @@
 use Rattle.std.specs.Prelude.{ℕ, ◌&&◌, nat_le, List, length, Option, Some, None, if◌then◌else◌}
 use Rattle.pc_text.specs.Title.{is_title_shape}
 
--- the title that a field spells, where it has a title's shape and at most 80 bytes
+-- the title in a field, if it has a title's shape and at most 80 bytes
 abbrev pub title_of : List ℕ → Option (List ℕ)
 title_of field = if is_title_shape field && nat_le (length field) 80 then Some field else None

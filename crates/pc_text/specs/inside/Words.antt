@@ -1,12 +1,12 @@
--- A text that lies in a value itself: its bytes, and zeros behind them up to the value's room.
+-- A text that is stored in a value itself: its bytes, and zeros after them up to the value's capacity.
 use Rattle.std.specs.Prelude.{◌≡◌, ℕ, ◌-◌, ◌≤◌, List, ◌++◌, length, take, replicate}
 use Rattle.std.proofs.Common.{arith, length-take-le}
 
--- the bytes, and zeros behind them up to `room` bytes
+-- the bytes, and zeros after them up to `room` bytes
 abbrev pub padded : ℕ → List ℕ → List ℕ
 padded room bytes = bytes ++ replicate (room - length bytes) 0
 
--- the first `len` of `room` cells are the text, and zeros stand behind them
+-- the first `len` of `room` cells are the text, and zeros follow them
 pub record IsPadded (room len : ℕ) (cells : List ℕ) : Type 0 where
   pub fits : len ≤ room
   pub full : length cells ≡ room
