@@ -1,10 +1,10 @@
 -- Counts of faults.
 use Rattle.std.specs.Prelude.{ℕ, ◌+◌, ◌-◌, ◌^◌, ◌≤◌, min}
 
--- the count after one more, which stands still at the end of its type
+-- the count after one more, which does not pass the end of its type
 abbrev pub raised : ℕ → ℕ
 raised count = min (count + 1) (2 ^ 64 - 1)
 
--- the count rose, or stands at the end of its type
+-- the count rose, or is at the end of its type
 abbrev pub Rose : ℕ → ℕ → Type 0
 Rose before after = raised before ≤ after

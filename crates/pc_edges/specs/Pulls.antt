@@ -2,7 +2,7 @@
 use Rattle.std.specs.Prelude.{◌≡◌, ℕ, ◌+◌, ◌<◌, ◌≤◌, List, [], ◌∷◌, ◌++◌, length, Option, Some, None, ⊤}
 use Rattle.std.specs.Io.KnownBytes.{Consumes}
 
--- at most so many pulls came between the two counts, where the source counts its pulls
+-- there were at most `most` pulls between the two counts, if the source counts its pulls
 abbrev pub TakesPulls : ℕ → Option ℕ → Option ℕ → Type 0
 TakesPulls most (Some before) (Some after) = after ≤ before + most
 TakesPulls most (Some before) None = ⊥

@@ -1,9 +1,9 @@
--- What a call that writes to a sink leaves behind.
+-- What a call that writes to a sink has done to it.
 use Rattle.std.specs.Prelude.{◌≡◌, ℕ, List, take, Option}
 use Rattle.std.specs.Io.KnownBytes.{Appends}
 use Rattle.pc_edges.specs.Faults.{Rose}
 
--- the sink took the whole text, and no fault came
+-- the sink took the complete text, and no fault occurred
 pub record Wrote (old new : Option (List ℕ)) (before after : ℕ) (text : List ℕ) : Type 0 where
   pub whole : Appends old new text
   pub no_fault : after ≡ before

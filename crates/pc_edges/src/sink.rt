@@ -30,7 +30,7 @@ pub trait Sink {
         ensures kept { OnErr result (Keeps (taken self.old) (taken self.new)) }
         ensures count { faults self.old ≤ faults self.new };
 
-    /// Passes on what the sink may have gathered.
+    /// Passes on what the sink may have buffered.
     ///
     /// # Errors
     ///

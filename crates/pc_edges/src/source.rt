@@ -42,8 +42,8 @@ pub trait Source {
 
     /// Returns the key of the hash by which names in these bytes are looked up.
     ///
-    /// The key changes how long a look-up takes, never what it returns. A source whose bytes others choose has a key
-    /// that was drawn by chance, so that no choice of names makes look-ups slow.
+    /// The key changes how long a look-up takes, never what it returns. A source whose bytes others choose has a random
+    /// key, so that no choice of names makes look-ups slow.
     fn key(&self) -> u128 {
         FIXED_KEY
     }

@@ -1,4 +1,4 @@
-//! A source and a sink that never fail: bytes in memory, and a count of bytes that are not kept.
+//! A source and a sink that never fail: bytes in memory, and a count of bytes that are not stored.
 ghost use Rattle.std.specs.Prelude.{◌≡◌, ◌+◌, ◌-◌, ◌^◌, Some, Ok, length, min, IsOk};
 
 use crate::{Failed, Sink, Source};

@@ -1,4 +1,4 @@
--- What reading a source to its end comes to.
+-- The result of reading a source to its end.
 -- Here is what no clause of a top call and no law reaches.
 use Rattle.std.specs.Prelude.{◌≡◌, ℕ, ◌+◌, ◌<◌, ◌≤◌, List, length, Option, Vec, vec_len, Result, IfOk, OnOk, IsErrOf}
 use Rattle.std.specs.Io.KnownBytes.{Consumes, IsAtEnd}
@@ -7,8 +7,8 @@ use Rattle.pc_edges.specs.Pulls.{CameIn, TakesPulls}
 use Rattle.pc_edges.specs.declared.loading.LoadError.{LoadError}
 use Rattle.pc_edges.specs.declared.loading.LoadError.TheVariants as error
 
--- the bytes are all that the source had left, at most `limit`, and no fault was counted; ReadFault is the answer only if the count
--- of faults rose, and the count never falls
+-- the bytes are all that the source had left, at most `limit`, and no fault was counted; ReadFault is returned only if
+-- the count of faults rose, and the count never decreases
 pub record HasLoaded {X A : Type 0} (result : Result (Vec ℕ A) LoadError) (limit : ℕ) (left : X → Option (List ℕ)) (faults : X → ℕ) (old new : X) : Type 0 where
   pub all : IfOk result (λ v. Consumes (left old) (left new) v.items)
   pub end : OnOk result (IsAtEnd (left new))
@@ -17,7 +17,7 @@ pub record HasLoaded {X A : Type 0} (result : Result (Vec ℕ A) LoadError) (lim
   pub fault : IsErrOf result error.ReadFault → Rose (faults old) (faults new)
   pub count : faults old ≤ faults new
 
--- reading stopped as `IsReadWithin` says, and TooLong is the answer exactly if the last pull passed the limit
+-- reading stopped as `IsReadWithin` says, and TooLong is returned if and only if the last pull passed the limit
 pub record LoadsWithin {X : Type 0} (TooLong : Type 0) (limit room : ℕ) (left : X → Option (List ℕ)) (faults : X → ℕ) (pulls : X → Option ℕ) (old new : X) : Type 0 where
   pub before : X
   pub pieces : List (List ℕ)

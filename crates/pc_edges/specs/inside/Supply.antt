@@ -8,7 +8,7 @@ pub record Supply : Type 0 where
   pub piece : ℕ
   -- the pulls that fail, counted from 1
   pub failing : List ℕ
-  -- how many pulls on a buffer with room there were
+  -- how many pulls there were with a buffer that is not empty
   pub pulls : ℕ
   -- how many of them failed
   pub faults : ℕ

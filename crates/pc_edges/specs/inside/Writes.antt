@@ -1,4 +1,4 @@
--- What a call that writes to a sink leaves behind.
+-- What a call that writes to a sink has done to it.
 -- Here is what no clause of a top call and no law reaches.
 use Rattle.std.specs.Prelude.{◌≡◌, ℕ, ◌≤◌, List, ◌++◌, Option, Result, OnOk, OnErr}
 use Rattle.std.specs.Io.KnownBytes.{Appends}
@@ -10,7 +10,7 @@ pub record Writes {A E : Type 0} (result : Result A E) (old new : Option (List �
   pub err : OnErr result (Stopped old new before after text)
   pub count : before ≤ after
 
--- the sink took a front of the text, what is pending is the rest of it, and no fault came
+-- the sink took a front of the text, the rest of it is pending, and no fault occurred
 pub record Gathered (old now : Option (List ℕ)) (pending : List ℕ) (before after : ℕ) (text : List ℕ) : Type 0 where
   pub pushed : (front : List ℕ) × Appends old now front × (text ≡ front ++ pending)
   pub no_fault : after ≡ before

@@ -1,7 +1,7 @@
--- The lines of a text: each is what stands before an end of a line (10), and what stands behind the last of them, where it is not empty.
+-- The lines of a text: the bytes before each end of a line (10), and those after the last one, if there are any.
 use Rattle.std.specs.Prelude.{ℕ, ◌==◌, List, [], ◌∷◌, ◌++◌, if◌then◌else◌}
 
--- the whole lines of a text that goes on behind an open line
+-- the complete lines of a text that continues an open line
 abbrev pub lines_behind : List ℕ → List ℕ → List (List ℕ)
 lines_behind open_line [] = []
 lines_behind open_line (b ∷ bytes) =
@@ -11,7 +11,7 @@ lines_behind open_line (b ∷ bytes) =
 abbrev pub whole_lines : List ℕ → List (List ℕ)
 whole_lines bytes = lines_behind [] bytes
 
--- what stands behind the last end of a line, where the text goes on behind an open line
+-- the bytes after the last end of a line, if the text continues an open line
 abbrev pub open_behind : List ℕ → List ℕ → List ℕ
 open_behind open_line [] = open_line
 open_behind open_line (b ∷ bytes) = if b == 10 then open_behind [] bytes else open_behind (open_line ++ b ∷ []) bytes

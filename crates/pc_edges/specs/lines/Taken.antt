@@ -20,20 +20,20 @@ pub record IsTakenWithin {X : Type 0} (left : X → Option (List ℕ)) (faults :
   pub short : length last ≤ STREAM_ROOM
   pub once : TakesPulls 1 (pulls before) (pulls new)
 
--- the same, and no other lines than these were whole before the last pull
+-- the same, and no lines other than these were complete before the last pull
 pub record IsTakenFor {X : Type 0} (left : X → Option (List ℕ)) (faults : X → ℕ) (pulls : X → Option ℕ) (old new : X) (lines : List (List ℕ)) : Type 0 where
   pub taken : IsTakenWithin left faults pulls old new
   pub others : List (List ℕ)
   pub whole : lines ≡ whole_lines taken.front ++ others
 
--- nothing is pulled while a whole line is there: the last of the lines was not whole before the last pull
+-- nothing is pulled while there is a complete line: the last of the lines was not complete before the last pull
 pub record IsTakenForLast {X : Type 0} (left : X → Option (List ℕ)) (faults : X → ℕ) (pulls : X → Option ℕ) (old new : X) (lines : List (List ℕ)) : Type 0 where
   pub earlier : List (List ℕ)
   pub line : List ℕ
   pub are : lines ≡ earlier ++ line ∷ []
   pub taken : IsTakenFor left faults pulls old new earlier
 
--- the lines are the first of the whole ones within the limit; or of all lines, where the input was read to its end
+-- the lines are the first of the complete ones within the limit; or of all lines, if the input was read to its end
 pub data AreFirst (left_after : Option (List ℕ)) (bytes : List ℕ) (lines : List (List ℕ)) : Type 0 where
   of_whole : (others : List (List ℕ)) → whole_lines (take INPUT_LIMIT bytes) ≡ lines ++ others → AreFirst left_after bytes lines
   of_all : IsAtEnd left_after → length bytes ≤ INPUT_LIMIT → (others : List (List ℕ)) → lines_of bytes ≡ lines ++ others → AreFirst left_after bytes lines

@@ -2,11 +2,11 @@
 use Rattle.std.specs.Prelude.{ℕ, ◌-◌, List, [], ◌∷◌, ◌++◌, length}
 use Rattle.pc_text.specs.Line.{spaces}
 
--- a cell with the text at its left; a longer text stands whole
+-- a cell with the text at its left; a longer text is not shortened
 abbrev pub left : ℕ → List ℕ → List ℕ
 left width text = text ++ spaces (width - length text)
 
--- a cell with the text at its right; a longer text stands whole
+-- a cell with the text at its right; a longer text is not shortened
 abbrev pub right : ℕ → List ℕ → List ℕ
 right width text = spaces (width - length text) ++ text
 

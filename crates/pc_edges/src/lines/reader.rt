@@ -26,13 +26,13 @@ use crate::{Failed, STREAM_ROOM, Source};
 use std::alloc::{AllocError, Global};
 use std::marker::Model;
 
-/// The most bytes of a line that is kept completely. Of a longer line the reader keeps one byte more than these.
+/// The greatest length of a line that is stored completely. Of a longer line the reader stores one byte more than this.
 pub const LINE_LIMIT: usize = 96;
 
 /// The most bytes that an input can have.
 pub const INPUT_LIMIT: usize = 134_217_728;
 
-/// How many bytes of a line are kept: enough to see whether it is too long.
+/// How many bytes of a line are stored: enough to see whether it is too long.
 const LINE_ROOM: usize = LINE_LIMIT + 1;
 
 /// What a reader found.
@@ -109,11 +109,10 @@ impl LineReader {
     /// - `ReadFault` if a pull failed.
     /// - `TooLong` if more than `INPUT_LIMIT` bytes were pulled and no further line ends within the limit.
     pub fn next<S: Source>(&mut self, source: &mut S) -> Result<Next, LineError>
-        // a reader that gave these lines of these bytes gives the next line of them and of the bytes that were pulled
-        // behind them
+        // a reader that gave these lines of these bytes gives the next line of them and of the bytes pulled after them
         ensures stepped { (lines : List (List ℕ)) (bytes : List ℕ) → StandsFor self.old lines bytes
             → Stepped S.left S.faults S.pulls source.old source.new lines bytes self.new result }
-        // nothing is pulled while a whole line is there
+        // nothing is pulled while there is a complete line
         ensures unpulled { Contains self.old.ahead 10 → (source.new ≡ source.old) × (result ≡ Ok Next.Line) }
         ensures left { IfOk result (λ next. next ≡ Next.Line → bytes_left self.new < bytes_left self.old) }
         ensures no_fault { OnOk result (S.faults source.new ≡ S.faults source.old) }
@@ -185,7 +184,7 @@ impl LineReader {
         &self.buffer[self.from..self.to]
     }
 
-    /// Adds so many of the bytes ahead to those of the line, as far as they fit.
+    /// Adds this many of the bytes ahead to those of the line, as far as they fit.
     fn hold(&mut self, count: usize)
         requires { count ≤ length self.old.ahead }
         ensures { self.new ≡ record self.old { line = take LINE_ROOM (self.old.line ++ take count self.old.ahead) } }

@@ -10,7 +10,7 @@ use crate::{Failed, Sink, Source};
 
 /// Something that answers lines. An answer may depend on the lines before.
 pub trait Answers {
-    // it answers the line with the text, and is then the other
+    // it answers the line with the text, and then is the second value
     ghost Says: { Self → List ℕ → List ℕ → Self → Type 0 };
 
     /// Writes the answer to a line, and flushes the sink. It takes no memory.

@@ -1,7 +1,7 @@
-//! Pages: where a text is gathered before it goes to a sink, in few and large pushes.
+//! Pages: buffers for a text that goes to a sink in few and large pushes.
 //!
-//! A writer puts one piece after another and tests nothing: a page keeps its first failure, and the call that ends the
-//! text (`finish` or `push_out`) returns whether the sink took all of it.
+//! A writer puts one piece after another and tests nothing: a page remembers its first failure, and the call that ends
+//! the text (`finish` or `push_out`) returns whether the sink took all of it.
 ghost use Rattle.std.specs.Prelude.{◌≡◌, ℕ, List, [], ◌++◌, IfOk, IsTrue, IsFalse, decimal};
 ghost use Rattle.std.specs.Fmt.{signed_decimal};
 ghost use Rattle.pc_edges.specs.inside.Writes.{Writes};
@@ -20,7 +20,7 @@ use pc_text::{digits, signed};
 use std::alloc::{AllocError, Global};
 use std::marker::Model;
 
-/// The capacity in bytes of a page on which the output of a program is gathered.
+/// The capacity in bytes of the page for the output of a program.
 pub const PAGE_ROOM: usize = STREAM_ROOM;
 
 /// A page of a text on its way to a sink.
@@ -53,7 +53,7 @@ impl Page {
     ///
     /// # Errors
     ///
-    /// `AllocError` if there is no memory for so many bytes.
+    /// `AllocError` if there is no memory for this many bytes.
     pub fn with_capacity(alloc: Global, room: usize) -> Result<Page, AllocError>
         ensures { IfOk result (λ page. page ≡ fresh) }
     {

@@ -1,4 +1,4 @@
--- The lines of a text: each is what stands before an end of a line (10), and what stands behind the last of them, where it is not empty.
+-- The lines of a text: the bytes before each end of a line (10), and those after the last one, if there are any.
 -- Here is what no clause of a top call and no law reaches.
 use Rattle.std.specs.Prelude.{ℕ, ◌≢◌, List, [], ◌∷◌, ◌++◌}
 

@@ -1,4 +1,4 @@
--- What a reader of lines stands for, and what a step leaves.
+-- What a reader of lines represents, and what a step of it does.
 use Rattle.std.specs.Prelude.{◌≡◌, ℕ, ◌+◌, ◌-◌, ◌<◌, ◌≤◌, List, [], ◌∷◌, ◌++◌, length, take, Bool, true, false, Option, Result, Ok, Err}
 use Rattle.std.specs.Io.KnownBytes.{Consumes, IsAtEnd, Keeps}
 use Rattle.pc_edges.specs.Pulls.{CameIn, TakesPulls}
@@ -12,14 +12,14 @@ use Rattle.pc_edges.specs.declared.lines.reader.TheConstants.{INPUT_LIMIT, LINE_
 use Rattle.pc_edges.specs.lines.Lines.{whole_lines, lines_of}
 use Rattle.pc_edges.specs.inside.lines.Lines.{text_of, IsOpen, AreOpen}
 
--- what contracts see of a reader: the line that was given last, as far as it is kept; the bytes that were pulled, lie within the limit
--- and were not given yet; and how many bytes were pulled
+-- what contracts see of a reader: the line that it gave last, as far as it stores it; the bytes that were pulled, are
+-- within the limit and were not given yet; and how many bytes were pulled
 pub record Reading : Type 0 where
   pub line : List ℕ
   pub ahead : List ℕ
   pub taken : ℕ
 
--- what is kept of a line
+-- the part of a line that the reader stores
 abbrev pub kept : List ℕ → List ℕ
 kept line = take LINE_ROOM line
 
@@ -35,8 +35,8 @@ bytes_left reading = (INPUT_LIMIT - reading.taken) + length reading.ahead
 
 -- ---- what a step leaves
 
--- what a step of a reader pulls that gave these lines of these bytes: nothing; or some bytes, up to the last pull by pulls that each gave
--- at least one and had no fault, and before the last pull no other line was whole
+-- what a step of a reader that gave these lines of these bytes pulls: nothing; or some bytes, up to the last pull by
+-- pulls that each gave at least one and had no fault, and before the last pull no other line was complete
 pub data HasPulled {X : Type 0} (left : X → Option (List ℕ)) (faults : X → ℕ) (pulls : X → Option ℕ) (source source_after : X) (lines : List (List ℕ)) (bytes : List ℕ) : Type 0 where
   no_pull : source_after ≡ source → HasPulled left faults pulls source source_after lines bytes
   some_pulls : (before : X) (pieces : List (List ℕ)) (more last : List ℕ) → CameIn left faults pulls pieces more source before → length (bytes ++ more) ≤ INPUT_LIMIT
@@ -74,7 +74,7 @@ module _ {X : Type 0} (left : X → Option (List ℕ)) (faults : X → ℕ) (pul
     pub short : length (bytes ++ more) ≤ INPUT_LIMIT
     pub all : lines_of (bytes ++ more) ≡ lines
 
-  -- a pull failed, and all whole lines were given
+  -- a pull failed, and all complete lines were given
   pub record FailedBehind : Type 0 where
     pub more : List ℕ
     pub taken : Consumes (left source) (left source_after) more
@@ -82,7 +82,7 @@ module _ {X : Type 0} (left : X → Option (List ℕ)) (faults : X → ℕ) (pul
     pub short : length (bytes ++ more) ≤ INPUT_LIMIT
     pub all : whole_lines (bytes ++ more) ≡ lines
 
-  -- more bytes were pulled than an input may have, and all whole lines among the first of them were given
+  -- more bytes were pulled than an input may have, and all complete lines among the first of them were given
   pub record PassedLimit : Type 0 where
     pub more : List ℕ
     pub taken : Consumes (left source) (left source_after) more
@@ -100,7 +100,7 @@ module _ {X : Type 0} (left : X → Option (List ℕ)) (faults : X → ℕ) (pul
 
 -- ---- within a step
 
--- what is ahead was taken up to the end of a line; or all of it, where no line ends in it
+-- the bytes ahead were taken up to the end of a line, or all of them if no line ends in them
 pub record TookLine (old new : Reading) (front : List ℕ) : Type 0 where
   pub split : old.ahead ≡ front ++ 10 ∷ new.ahead
   pub no_end : IsOpen front

@@ -10,19 +10,20 @@ use Rattle.pc_edges.specs.inside.lines.Reading.{kept}
 use Rattle.pc_edges.specs.declared.lines.talking.TalkError.{TalkError}
 use Rattle.pc_edges.specs.declared.lines.talking.TalkError.TheVariants.{ReadFault, WriteFault, TooLong}
 
--- the lines are answered one after the other, each as the ones before it left the talker; the text is the answers together
+-- the lines are answered one after the other, each in the state after the ones before it; the text is all answers
+-- together
 abbrev pub Talks : {T : Type 0} → (T → List ℕ → List ℕ → T → Type 0) → T → List (List ℕ) → List ℕ → T → Type 0
 Talks {T} says old [] text new = (text ≡ []) × (new ≡ old)
 Talks {T} says old (line ∷ lines) text new =
     (first : List ℕ) × (rest : List ℕ) × (next : T) × (text ≡ first ++ rest) × says old line first next × Talks says next lines rest new
 
--- what comes of lines of a source: of each the reader keeps what it takes to answer it
+-- the answers to lines of a source, each cut to what the reader stores of it
 abbrev pub Answered : {T : Type 0} → (T → List ℕ → List ℕ → T → Type 0) → T → List (List ℕ) → List ℕ → T → Type 0
 Answered says old lines text new = Talks says old (map kept lines) text new
 
 module _ {T C O : Type 0} (says : T → List ℕ → List ℕ → T → Type 0) (left : C → Option (List ℕ)) (source_faults : C → ℕ) (pulls : C → Option ℕ)
     (taken : O → Option (List ℕ)) (sink_faults : O → ℕ) (talker talker_after : T) (source source_after : C) (out out_after : O) where
-  -- the source was read to its end without a fault, its bytes lie within the limit, and all its lines were answered
+  -- the source was read to its end without a fault, its bytes are within the limit, and all its lines were answered
   pub record IsDone : Type 0 where
     pub bytes : List ℕ
     pub text : List ℕ
@@ -33,7 +34,7 @@ module _ {T C O : Type 0} (says : T → List ℕ → List ℕ → T → Type 0) 
     pub answered : Answered says talker (lines_of bytes) text talker_after
     pub wrote : Wrote (taken out) (taken out_after) (sink_faults out) (sink_faults out_after) text
 
-  -- a fault of the source came, and all whole lines before it were answered
+  -- a fault of the source occurred, and all complete lines before it were answered
   pub record IsUnread : Type 0 where
     pub bytes : List ℕ
     pub text : List ℕ
@@ -43,7 +44,8 @@ module _ {T C O : Type 0} (says : T → List ℕ → List ℕ → T → Type 0) 
     pub answered : Answered says talker (whole_lines bytes) text talker_after
     pub wrote : Wrote (taken out) (taken out_after) (sink_faults out) (sink_faults out_after) text
 
-  -- more bytes were taken than an input may have, without a fault, and all whole lines among the first of them were answered
+  -- more bytes were taken than an input may have, without a fault, and all complete lines among the first of them were
+  -- answered
   pub record IsTooLong : Type 0 where
     pub bytes : List ℕ
     pub text : List ℕ
@@ -53,8 +55,8 @@ module _ {T C O : Type 0} (says : T → List ℕ → List ℕ → T → Type 0) 
     pub answered : Answered says talker (whole_lines (take INPUT_LIMIT bytes)) text talker_after
     pub wrote : Wrote (taken out) (taken out_after) (sink_faults out) (sink_faults out_after) text
 
-  -- a fault of the sink came when it had taken a front of the answers to the first lines of the bytes that were taken, each of them whole
-  -- unless the source was read to its end; and nothing was pulled behind the last of them
+  -- a fault of the sink occurred when it had taken a front of the answers to the first lines of the bytes that were
+  -- taken, each of them complete unless the source was read to its end; and nothing was pulled after the last of them
   pub record IsCut : Type 0 where
     pub bytes : List ℕ
     pub text : List ℕ

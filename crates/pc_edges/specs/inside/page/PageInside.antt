@@ -6,7 +6,7 @@ abbrev pub pending_in : {A : Type 0} → Option (Vec ℕ A) → List ℕ
 pending_in None = []
 pending_in (Some bytes) = bytes.items
 
--- the buffer, where there is one, holds so many bytes without taking memory
+-- the buffer, if there is one, holds this many bytes without allocating
 abbrev pub HasRoomFor : {A : Type 0} → ℕ → Option (Vec ℕ A) → Type 0
 HasRoomFor room None = ⊤
 HasRoomFor room (Some bytes) = (vec_len bytes ≤ room) × (room ≤ vec_capacity bytes)
