@@ -36,15 +36,15 @@ pub record IsDue (rows : List MoneyRow) (as_of : ℤ) (a k : ℕ) : Type 0 where
   pub account : (money_at rows k).account ≡ a
   pub due : (money_at rows k).day ≤ℤ as_of
 
--- what is to go: the amount to go with the latest date up to as-of; where there is none, what actual leaves of the
--- budget, and nothing where it leaves none
+-- what is to go: the amount to go with the latest date up to as-of; if there is none, the budget less actual, or 0 if
+-- actual is greater
 abbrev pub IsToGo : List MoneyRow → ℤ → ℕ → Entry → Type 0
 IsToGo togos as_of a entry =
     ((k : ℕ) × IsDue togos as_of a k × ((j : ℕ) → IsDue togos as_of a j → (money_at togos j).day ≤ℤ (money_at togos k).day)
     × (entry.to_go ≡ (money_at togos k).amount))
     ⊎ (((k : ℕ) → IsDue togos as_of a k → ⊥) × (entry.to_go ≡ entry.budget - entry.actual))
 
--- the entry says the budget of account a, the sum of its charges up to as-of, and what is to go
+-- the entry has the budget of account a, the sum of its charges up to as-of, and what is to go
 pub record IsEntryOf (accounts : List AcctRow) (charges togos : List MoneyRow) (as_of : ℤ) (a : ℕ) (entry : Entry) : Type 0 where
   pub budget : entry.budget ≡ budget_of accounts a
   pub actual : entry.actual ≡ actual_of charges as_of a
@@ -55,7 +55,7 @@ pub record AreEntriesOf (accounts : List AcctRow) (charges togos : List MoneyRow
   pub one_each : length entries ≡ length accounts
   pub each : (a : ℕ) → a < length accounts → IsEntryOf accounts charges togos as_of a (entry_at entries a)
 
--- all accounts as one: their budgets, all charges dated up to as-of, and what is to go of them
+-- all accounts as one: their budgets, all charges dated up to as-of, and the sum of what is to go
 abbrev pub entry_of_project : List AcctRow → List MoneyRow → ℤ → List Entry → Entry
 entry_of_project accounts charges as_of entries = record {
   budget = sum_by (λ account. account.budget) accounts;

@@ -24,7 +24,7 @@ pub record IsEntryWithinLimits (entry : Entry) : Type 0 where
   pub actual : entry.actual ≤ MAX_CHARGES * MAX_COST
   pub to_go : entry.to_go ≤ MAX_COST
 
--- the same of a whole book, where all actual amounts together are no more than all charges can be
+-- the same for a complete book, in which the sum of all actual amounts is at most what all charges can be
 pub record AreEntriesWithinLimits (entries : List Entry) : Type 0 where
   pub few : length entries ≤ MAX_ACCOUNTS
   pub each : (a : ℕ) → a < length entries → IsEntryWithinLimits (entry_at entries a)

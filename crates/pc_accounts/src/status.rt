@@ -145,7 +145,7 @@ fn firsts_of(
     Ok(firsts)
 }
 
-/// The first so far, or this one where there is none and it counts.
+/// The first so far, or this one if there is none and it counts.
 fn first_or(first: Option<u32>, counts: bool, k: u32) -> Option<u32>
     ensures { result ≡ first_or first counts k }
 {

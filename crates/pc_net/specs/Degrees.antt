@@ -2,7 +2,7 @@
 use Rattle.std.specs.Prelude.{◌≢◌, ℕ, ◌<◌, List, length, sum_by, slice_index}
 use Rattle.pc_model.specs.Greatest.{places}
 
--- no event stands in the list twice
+-- no event is in the list twice
 abbrev pub AreDistinct : List ℕ → Type 0
 AreDistinct events = (j k : ℕ) → j < k → k < length events → slice_index events j ≢ slice_index events k
 

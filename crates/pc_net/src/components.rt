@@ -121,8 +121,8 @@ pub(crate) enum Turn {
 /// The events in the order in which a depth-first search against the activities finishes them. Linear in events and
 /// activities.
 ///
-/// There are turns enough to finish all: each event is entered as a root and finished, and each activity leads to
-/// one more turn. That each event is finished once is tested, and not proved.
+/// The turns suffice to finish all: each event is entered as a root and finished, and each activity leads to one more
+/// turn. That each event is finished once is tested, and not proved.
 pub(crate) fn finished(alloc: Global, graph: &Graph) -> Result<Vec<u32>, AllocError>
     ensures { IfOk result (λ order. AreEvents graph.now.events order.items) }
 {
@@ -134,7 +134,7 @@ pub(crate) fn finished(alloc: Global, graph: &Graph) -> Result<Vec<u32>, AllocEr
     Ok(order)
 }
 
-/// A stack with room for so many turns, on which each event is to be entered.
+/// A stack with capacity for this many turns, on which each event is to be entered.
 fn roots(alloc: Global, graph: &Graph, turns: u32) -> Result<Vec<Turn>, AllocError>
     ensures { IfOk result (λ stack. AreTurns graph.now.events stack.items) }
 {
@@ -145,7 +145,7 @@ fn roots(alloc: Global, graph: &Graph, turns: u32) -> Result<Vec<Turn>, AllocErr
     Ok(stack)
 }
 
-/// Takes so many turns from the stack.
+/// Takes this many turns from the stack.
 fn take_turns(
     graph: &Graph,
     turns: u32,

@@ -34,10 +34,10 @@ pub(crate) fn first_cycle(alloc: Global, graph: &Graph) -> Result<Option<Vec<u32
     Ok(None)
 }
 
-/// Searches back from the event where the activity begins for those from which a way leads there.
+/// Searches backwards from the event where the activity begins for the events from which a walk leads there.
 ///
-/// `steps` gets for each event found the activity by which the way leaves it, first the given one, and `ranks` for
-/// each event its place among them and 1, or 0 where it was not found.
+/// For each event found, `steps` gets the activity by which its walk leaves it, the given activity first. `ranks` gets
+/// for each event its place among those found, counted from 1, or 0 if it was not found.
 fn search(
     graph: &Graph,
     a: u32,

@@ -1,4 +1,4 @@
-//! A network of which it is not known yet whether it is sound, and the two ends of an activity.
+//! A network that may not be sound, and the two ends of an activity.
 ghost use Rattle.std.specs.Prelude.{◌≡◌, ◌<◌, ◌≤◌, IfOk, length};
 ghost use Rattle.pc_model.specs.Greatest.{places};
 ghost use Rattle.pc_model.specs.inside.Greatest.{IsListed};
@@ -13,7 +13,7 @@ use pc_model::{Arc, MAX_ACTIVITIES, MAX_EVENTS};
 use std::alloc::{AllocError, Global};
 use std::marker::Model;
 
-/// A network with the activities at each event, of which it is not known yet whether it is sound.
+/// A network that may not be sound, with the activities at each event.
 pub(crate) struct Graph {
     events: u32,
     start: u32,
@@ -75,7 +75,7 @@ impl Graph {
         })
     }
 
-    // Does nothing. Says what is known of every graph.
+    // Does nothing. States what holds of every graph.
     pub(crate) fn facts(&self)
         ensures events { self.now.events ≤ MAX_EVENTS }
         ensures activities { length self.now.arcs ≤ MAX_ACTIVITIES }

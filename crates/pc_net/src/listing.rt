@@ -8,8 +8,8 @@ use crate::graph::Side;
 use pc_model::Arc;
 use std::alloc::{AllocError, Global};
 
-/// For each event the activities at it, in card order: those of event e stand in `items` from `starts[e]` up to
-/// `starts[e + 1]`.
+/// For each event the activities at it, in card order: those of event e are in `items` from `starts[e]` up to `starts[e
+/// + 1]`.
 #[derive(Drop)]
 pub(crate) struct Listing {
     pub(crate) items: Vec<u32>,
@@ -71,8 +71,8 @@ fn list(
     Ok(())
 }
 
-/// The activities at each event as linked lists: for each event the first, for each activity the next at the
-/// same event. The number of activities stands for none.
+/// The activities at each event as linked lists: for each event the first, for each activity the next at the same
+/// event. The number of activities means that there is none.
 #[derive(Drop)]
 pub(crate) struct Chains {
     pub(crate) heads: Vec<u32>,

@@ -92,7 +92,7 @@ impl Net {
         Ok(Net { graph, order })
     }
 
-    /// Does nothing. Says what is known of every network, for a proof that needs it and asks for nothing else.
+    /// Does nothing. States what holds of every network, for a proof that needs only that.
     pub fn facts(&self)
         ensures events { self.now.events ≤ MAX_EVENTS }
         ensures activities { length self.now.arcs ≤ MAX_ACTIVITIES }

@@ -50,7 +50,7 @@ fn free_events(alloc: Global, missing: &[u32]) -> Result<Vec<u32>, AllocError>
     Ok(order)
 }
 
-/// Crosses the activities that begin at the event at a place of the queue, and puts the events behind it that
+/// Crosses the activities that begin at the event at a place of the queue, and appends to the queue the events that
 /// nothing else enters.
 fn cross(
     order: &mut Vec<u32>,

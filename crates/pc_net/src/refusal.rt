@@ -89,7 +89,7 @@ fn dangling(graph: &Graph) -> Option<u32>
     None
 }
 
-/// Whether the event lies on no way from the start to the end because nothing enters it or nothing leaves it.
+/// Whether the event is on no walk from the start to the end because nothing enters it or nothing leaves it.
 fn is_dangling(graph: &Graph, event: u32) -> bool
     requires { event < graph.now.events }
     ensures { MatchBool result (IsDangling graph.now event) (IsDangling graph.now event → ⊥) }

@@ -1,4 +1,4 @@
--- When events and activities are expected from what is known of the activities.
+-- When events and activities are expected, given the states of the activities.
 use Rattle.std.specs.Prelude.{◌≡◌, ◌≢◌, ℕ, ◌+◌, ◌<◌, ◌==◌, ◌^◌, max, if◌then◌else◌, List, length, slice_index, slice_index_or}
 use Rattle.pc_model.specs.Greatest.{IsGreatest}
 use Rattle.pc_model.specs.Walk.{from_of, to_of}
@@ -28,7 +28,7 @@ abbrev pub IsFinishAt : Network → List ℕ → ℕ → ℕ → Type 0
 IsFinishAt net finishes e n =
     (a : ℕ) × ((a < length net.arcs) × (to_of net.arcs a ≡ e) × (slice_index finishes a ≡ n))
 
--- the start is expected at 0 and each other event with the last of the activities that end there; each activity is
+-- the start is expected at 0 and each other event when the last of the activities that end there is; each activity is
 -- expected to be finished as its state says
 pub record IsForecast (net : Network) (lengths : List ℕ) (states : List ActState) (as_of : ℕ) (expected : Expected) : Type 0 where
   pub one_each : length expected.times ≡ net.events

@@ -1,4 +1,4 @@
--- Latest times: what is left for the start of the walks to the end, where the end is to be met at a given time.
+-- Latest times: what the walks to the end leave, if the end is to be met at a given time.
 use Rattle.std.specs.Prelude.{◌≡◌, ℕ, ◌<◌, ℤ, pos, ◌-ℤ◌, List, length, slice_index_or}
 use Rattle.pc_model.specs.Network.{Network}
 use Rattle.pc_times.specs.Times.{IsTail}

@@ -9,16 +9,16 @@ abbrev pub IsLongestWalk : Network → List ℕ → List ℕ → Type 0
 IsLongestWalk net lengths walk =
     IsWalk net.arcs net.start walk net.end × IsLongest net lengths (walk_sum lengths walk)
 
--- activity a lies on a longest walk
+-- activity a is on a longest walk
 abbrev pub IsCritical : Network → List ℕ → ℕ → Type 0
 IsCritical net lengths a = (walk : List ℕ) × IsLongestWalk net lengths walk × Contains walk a
 
--- activity a begins at event e and lies on a longest walk
+-- activity a begins at event e and is on a longest walk
 abbrev pub IsCriticalAt : Network → List ℕ → ℕ → ℕ → Type 0
 IsCriticalAt net lengths e a =
     (a < length net.arcs) × (from_of net.arcs a ≡ e) × IsCritical net lengths a
 
--- from event e to the end, at each event by the first activity that begins there and lies on a longest walk
+-- from event e to the end, at each event by the first activity that begins there and is on a longest walk
 abbrev pub IsPickedFrom : Network → List ℕ → ℕ → List ℕ → Type 0
 IsPickedFrom net lengths e [] = e ≡ net.end
 IsPickedFrom net lengths e (a ∷ walk) =

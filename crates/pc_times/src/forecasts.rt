@@ -1,4 +1,4 @@
-//! When events and activities are expected from what is known of the activities.
+//! When events and activities are expected, given the states of the activities.
 ghost use Rattle.std.specs.Prelude.{◌≡◌, ℕ, ◌^◌, ◌<◌, ◌≤◌, length, slice_index, IfOk, OnOk};
 ghost use Rattle.pc_model.specs.Network.{IsInRange, IsSound};
 ghost use Rattle.pc_times.specs.Times.{AreLengths};
@@ -61,7 +61,7 @@ fn event_times(
     Ok(times)
 }
 
-/// When the last of the activities that end at the event is finished; 0 where there is none.
+/// When the last of the activities that end at the event is finished, or 0 if there is none.
 fn last_finish(
     net: &Net,
     lengths: &[u64],

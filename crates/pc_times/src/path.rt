@@ -114,7 +114,7 @@ pub fn critical_path_into(
     count
 }
 
-/// The first activity at the event that lies on a longest walk.
+/// The first activity at the event that is on a longest walk.
 fn first_without_slack(
     net: &Net,
     lengths: &[u64],

@@ -4,8 +4,8 @@ use Rattle.pc_model.specs.Greatest.{StandsBelow}
 use Rattle.pc_wbs.specs.declared.tree.ItemRow.{ItemRow}
 use Rattle.pc_wbs.specs.Climb.{parent_of, IsBelow}
 
--- all rows, each once; each behind its parent; those below an item right behind it, with no other row between
--- them; and the children of an item in row order
+-- all rows, each once; each after its parent; those below an item directly after it, with no other row between them;
+-- and the children of an item in row order
 pub record IsPreorder (rows : List ItemRow) (order : List ℕ) : Type 0 where
   pub whole : length order ≡ length rows
   pub range : (k : ℕ) → k < length order → slice_index order k < length rows

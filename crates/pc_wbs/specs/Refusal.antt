@@ -12,7 +12,7 @@ pub record IsSecondTop (rows : List ItemRow) (item : ℕ) : Type 0 where
   pub is_top : IsTop rows item
   pub earlier : (first : ℕ) × ((first < item) × (IsTop rows first × ((x : ℕ) → x < item → IsTop rows x → x ≡ first)))
 
--- the rows of a loop from x on, each followed by its parent, until the parent is x; none stands twice
+-- the rows of a loop from x on, each followed by its parent, until the parent is x; none occurs twice
 pub record IsLoopFrom (rows : List ItemRow) (x : ℕ) (loop : List ℕ) : Type 0 where
   pub some : 0 < length loop
   pub starts : slice_index loop 0 ≡ x
@@ -20,7 +20,7 @@ pub record IsLoopFrom (rows : List ItemRow) (x : ℕ) (loop : List ℕ) : Type 0
   pub closes : (k : ℕ) → k + 1 ≡ length loop → parent_of rows (slice_index loop k) ≡ Some x
   pub once : (j k : ℕ) → j < k → k < length loop → slice_index loop j ≢ slice_index loop k
 
--- row x lies on a loop
+-- row x is on a loop
 abbrev pub IsLooped : List ItemRow → ℕ → Type 0
 IsLooped rows x = (x < length rows) × IsOnLoop rows x
 

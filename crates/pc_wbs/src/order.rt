@@ -10,7 +10,7 @@ use crate::tree::{ItemRow, parent_of};
 use pc_model::MAX_LEVEL;
 use std::alloc::{AllocError, Global};
 
-/// The items in preorder: behind each its first child, or else the next sibling of the nearest item that has one.
+/// The items in preorder: after each its first child, or else the next sibling of the nearest item that has one.
 pub(crate) fn preorder(
     alloc: Global,
     rows: &[ItemRow],
@@ -34,7 +34,7 @@ pub(crate) fn preorder(
     Ok(order)
 }
 
-/// The item behind this one in preorder.
+/// The item after this one in preorder.
 fn next_after(rows: &[ItemRow], links: &Links, item: u32) -> Option<u32>
     requires in_range { AreInRange rows.now }
     requires tree { IsTree rows.now }

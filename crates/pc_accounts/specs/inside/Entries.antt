@@ -4,7 +4,7 @@ use Rattle.std.specs.Prelude.{ℕ, ◌+◌, ◌*◌, ◌<◌, ◌≤◌, List, s
 use Rattle.pc_accounts.specs.declared.book.Entry.{Entry}
 use Rattle.pc_accounts.specs.Entries.{latest_of}
 
--- what all entries come to: their budgets, what they have spent, and what is to go
+-- the sums over all entries: their budgets, what they have spent, and what is to go
 abbrev pub entry_of_all : List Entry → Entry
 entry_of_all entries = record {
   budget = sum_by (λ entry. entry.budget) entries;

@@ -1,4 +1,4 @@
--- What the passes over charges, amounts to go, budgets and costs have found of the rows so far.
+-- What the passes over charges, amounts to go, budgets and costs have found in the rows so far.
 use Rattle.std.specs.Prelude.{◌≡◌, ◌≢◌, ℕ, ◌*◌, ◌-◌, ◌<◌, ◌≤◌, ℤ, ◌≤ℤ◌, int_lt, if◌then◌else◌, List, length, take, slice_index, slice_index_or, sum, sum_by, Option, Some, None}
 use Rattle.pc_model.specs.declared.limits.TheConstants.{MAX_COST}
 use Rattle.pc_accounts.specs.declared.book.AcctRow.{AcctRow}
@@ -9,7 +9,7 @@ use Rattle.pc_accounts.specs.Entries.{entry_at}
 use Rattle.pc_accounts.specs.Amounts.{money_at, budget_of, actual_of, IsDue}
 use Rattle.pc_accounts.specs.Packages.{work_at, budgets_of, costs_of}
 
--- for each account the sum of those of the first n charges that are its own and dated up to as-of
+-- for each account the sum of its own charges among the first n that are dated up to as-of
 pub record AreActuals (accounts : ℕ) (charges : List MoneyRow) (as_of : ℤ) (n : ℕ) (actuals : List ℕ) : Type 0 where
   pub one_each : length actuals ≡ accounts
   pub each : (a : ℕ) → a < accounts → slice_index actuals a ≡ actual_of (take n charges) as_of a
@@ -39,7 +39,7 @@ pub record AreLatest (accounts : ℕ) (togos : List MoneyRow) (as_of : ℤ) (n :
 abbrev pub AreKnown : List MoneyRow → List (Option ℕ) → Type 0
 AreKnown togos latest = (a k : ℕ) → a < length latest → option_at latest a ≡ Some k → k < length togos
 
--- the amount to go that counts, or what is left of the budget where there is none
+-- the amount to go that counts, or what is left of the budget if there is none
 abbrev pub to_go_from : List MoneyRow → ℕ → Option ℕ → ℕ
 to_go_from togos left None = left
 to_go_from togos left (Some k) = (money_at togos k).amount

@@ -7,11 +7,11 @@ use Rattle.pc_faults.specs.declared.fault.StatusFault.{StatusFault}
 use Rattle.pc_faults.specs.declared.fault.StatusFault.TheVariants.{Second, Early, Late, NoStart, FinishFirst}
 use Rattle.pc_accounts.specs.declared.status.StatusRow.{StatusRow}
 
--- the k-th status; past the end of the list that activity 0 was begun on day 0
+-- the k-th status; past the end of the list, that activity 0 began on day 0
 abbrev pub status_at : List StatusRow → ℕ → StatusRow
 status_at statuses k = slice_index_or statuses k (record { activity = 0; finished = false; day = pos 0 })
 
--- the k-th status says that activity a was ended, or that it was begun
+-- the k-th status says that activity a ended, or that it began
 pub record IsOf (statuses : List StatusRow) (ended : Bool) (a k : ℕ) : Type 0 where
   pub known : k < length statuses
   pub activity : (status_at statuses k).activity ≡ a

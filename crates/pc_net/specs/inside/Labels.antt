@@ -10,12 +10,12 @@ abbrev pub NeverFalls : List Arc → List ℕ → Type 0
 NeverFalls arcs labels =
     (a : ℕ) → a < length arcs → slice_index labels (from_of arcs a) ≤ slice_index labels (to_of arcs a)
 
--- event v stands among those reached, at place `at` or behind it
+-- event v is among those reached, at place `at` or after it
 abbrev pub IsQueued : List ℕ → ℕ → ℕ → Type 0
 IsQueued reached at v = (k : ℕ) × (at ≤ k) × (k < length reached) × (slice_index reached k ≡ v)
 
--- the events reached so far have labels, those from place `at` on `label`, and no event has a smaller one but 0, which
--- is none; the labels fall along no activity, unless it begins at an event from place `at` on
+-- the events reached so far have labels, those from place `at` on the label `label`, and the only smaller label is 0,
+-- which means none; the labels decrease along no activity, unless it begins at an event from place `at` on
 pub record IsSpread (net : Network) (label : ℕ) (reached labels : List ℕ) (at : ℕ) : Type 0 where
   pub labels_len : length labels ≡ net.events
   pub some : 0 < label

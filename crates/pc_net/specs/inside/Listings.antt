@@ -1,4 +1,4 @@
--- For each event the places where it stands, one event after another in one list.
+-- For each event the places at which it occurs, one event after another in one list.
 use Rattle.std.specs.Prelude.{◌≡◌, ℕ, ◌+◌, ◌<◌, ◌≤◌, List, length, slice_index, slice_range}
 use Rattle.pc_model.specs.Greatest.{places}
 use Rattle.pc_net.specs.declared.listing.Listing.{Listing}
@@ -15,7 +15,7 @@ pub record AreListed (xs : List ℕ) (events : ℕ) (items starts : List ℕ) : 
 abbrev pub IsListing : List ℕ → ℕ → Listing → Type 0
 IsListing xs events listing = AreListed xs events listing.items.items listing.starts.items
 
--- the part of the items that belongs to event x stands within them
+-- the part of the items that belongs to event x is within them
 pub record HasPart (listing : Listing) (x : ℕ) : Type 0 where
   pub known : x + 1 < length listing.starts.items
   pub rises : slice_index listing.starts.items x ≤ slice_index listing.starts.items (x + 1)

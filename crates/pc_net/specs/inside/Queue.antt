@@ -28,11 +28,11 @@ abbrev pub IsQueue : Network → List ℕ → List ℕ → ℕ → Type 0
 IsQueue net order missing at =
     (at ≤ length order) × ((waits : List ℕ) × IsWaiting net order missing waits (λ a. StandsBelow order at (from_of net.arcs a)))
 
--- event v does not stand in the order
+-- event v is not in the order
 abbrev pub IsMissing : List ℕ → ℕ → Type 0
 IsMissing order v = (k : ℕ) → k < length order → slice_index order k ≢ v
 
--- each event that does not stand in the order is entered from another that does not
+-- each event that is not in the order is entered from another that is not
 abbrev pub IsBlocked : Network → List ℕ → Type 0
 IsBlocked net order =
     (v : ℕ) → v < net.events → IsMissing order v → (a : ℕ) × (a < length net.arcs) × (to_of net.arcs a ≡ v) × IsMissing order (from_of net.arcs a)

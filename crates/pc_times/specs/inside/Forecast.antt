@@ -1,4 +1,4 @@
--- When events and activities are expected from what is known of the activities.
+-- When events and activities are expected, given the states of the activities.
 -- Here is what no clause of a top call and no law reaches.
 use Rattle.std.specs.Prelude.{◌≡◌, ◌≢◌, ℕ, ◌+◌, ◌<◌, ◌≤◌, ◌^◌, List, length, slice_index}
 use Rattle.pc_model.specs.Walk.{from_of, to_of}
@@ -12,13 +12,13 @@ abbrev pub finish_at : Network → List ℕ → List ActState → ℕ → List �
 finish_at net lengths states as_of times a =
     finish_of (state_at states a) (slice_index lengths a) as_of (slice_index times (from_of net.arcs a))
 
--- n is the greatest of what g gives for the activities that end at event e, or 0 where none does
+-- n is the greatest value of g for the activities that end at event e, or 0 if there are none
 pub record IsLastAt (net : Network) (g : ℕ → ℕ) (e n : ℕ) : Type 0 where
   pub above : (a : ℕ) → a < length net.arcs → to_of net.arcs a ≡ e → g a ≤ n
   pub met : (e ≢ net.start) → (a : ℕ) × ((a < length net.arcs) × (to_of net.arcs a ≡ e) × (g a ≡ n))
   pub none : e ≡ net.start → n ≡ 0
 
--- so many finishes, from the times of all events
+-- the finishes of the first n activities, from the times of all events
 pub record AreFinishes (net : Network) (lengths : List ℕ) (states : List ActState) (as_of : ℕ) (times : List ℕ) (n : ℕ) (finishes : List ℕ) : Type 0 where
   pub one_each : length finishes ≡ n
   pub each : (a : ℕ) → a < n → slice_index finishes a ≡ finish_at net lengths states as_of times a

@@ -1,4 +1,4 @@
--- Latest times: what is left for the start of the walks to the end, where the end is to be met at a given time.
+-- Latest times: what the walks to the end leave, if the end is to be met at a given time.
 -- Here is what no clause of a top call and no law reaches.
 use Rattle.std.specs.Prelude.{ℤ, pos, ◌+ℤ◌, ◌≤ℤ◌}
 use Rattle.pc_times.specs.declared.TheConstants.{MAX_TIME}

@@ -7,7 +7,7 @@ use Rattle.pc_model.specs.Greatest.{IsFirst, StandsBelow}
 use Rattle.pc_wbs.specs.inside.Links.{link_at}
 use Rattle.pc_wbs.specs.Refusal.{IsLooped}
 
--- the ends of climbs of so many steps, one from each of the first n rows
+-- the ends of climbs of this many steps, one from each of the first n rows
 pub record AreEnds (rows : List ItemRow) (n steps : ℕ) (ends : List (Option ℕ)) : Type 0 where
   pub one_each : length ends ≡ n
   pub end : (x : ℕ) → x < n → link_at ends x ≡ climb rows steps x

@@ -7,7 +7,7 @@ use Rattle.pc_wbs.specs.Climb.{parent_of, IsBelow}
 abbrev pub IsUnder : List ItemRow → ℕ → ℕ → Type 0
 IsUnder rows u y = (p : ℕ) × ((parent_of rows u ≡ Some p) × IsBelow rows p y)
 
--- u lies below the earlier, and v below the later of two siblings
+-- u is the earlier of two siblings or below it, and v is the later one or below it
 pub record Parts (rows : List ItemRow) (u v : ℕ) : Type 0 where
   pub earlier : ℕ
   pub later : ℕ
@@ -22,7 +22,7 @@ pub record Parts (rows : List ItemRow) (u v : ℕ) : Type 0 where
 abbrev pub Precedes : List ItemRow → ℕ → ℕ → Type 0
 Precedes rows u v = IsUnder rows v u ⊎ Parts rows u v
 
--- the row right behind x, or none where x is the last
+-- the row directly after x, or none if x is the last
 abbrev pub IsSuccessor : List ItemRow → ℕ → Option ℕ → Type 0
 IsSuccessor rows x None = (u : ℕ) → u < length rows → Precedes rows x u → ⊥
 IsSuccessor rows x (Some next) =

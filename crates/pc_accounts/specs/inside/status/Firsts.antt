@@ -15,7 +15,7 @@ pub record AreFirsts (activities : ℕ) (statuses : List StatusRow) (ended : Boo
   pub one_each : length firsts ≡ activities
   pub each : (a : ℕ) → a < activities → FirstBelow statuses ended a n (option_at firsts a)
 
--- the first so far, or this one where there is none and it counts
+-- the first so far, or this one if there is none and it counts
 abbrev pub first_or : Option ℕ → Bool → ℕ → Option ℕ
 first_or None counts k = if counts then Some k else None
 first_or (Some first) counts k = Some first
