@@ -1,4 +1,4 @@
--- Certificates of a deck's project, and what is said of them.
+-- Certificates of a deck's project, and the verdicts on them.
 use Rattle.std.specs.Prelude.{◌≡◌, ℕ, List, [], ◌∷◌, ◌++◌, codes, decimal, Option}
 use Rattle.pc_crash.specs.Priced.{PricedNetwork}
 use Rattle.pc_check.specs.declared.checker.Verdict.{Verdict}
@@ -22,7 +22,7 @@ use Rattle.pc_project.specs.shell.Verdict.{IsAccepted, IsProjectOf}
 abbrev pub check_usage_text : List ℕ
 check_usage_text = codes "usage: pert_check DECK" ++ 10 ∷ []
 
--- the line of a certificate that is certified, with so many segments
+-- the line for a certified certificate with this many segments
 abbrev pub certified_text : ℕ → List ℕ
 certified_text segments = codes "certified " ++ (decimal segments ++ 10 ∷ [])
 
@@ -37,14 +37,14 @@ verdict_text (No line reason) = failing_text line reason
 
 -- ---- what certificates mean
 
--- the deck is accepted, and the text is found to be this of its project: certified, with so many segments, or failing, first
--- at this line for this reason
+-- the deck is accepted, and this is the verdict on the text for its project: certified, with a number of segments, or
+-- failing, first at a line for a reason
 pub record HasVerdict (deck text : List ℕ) (verdict : Verdict) : Type 0 where
   pub project : Project
   pub accepted : IsProjectOf deck project
   pub finds : Finds (priced_in project) text verdict
 
--- the text is a certificate of the deck's project with so many segments
+-- the text is a certificate of the deck's project, with some number of segments
 abbrev pub Certifies : List ℕ → List ℕ → Type 0
 Certifies deck text = (segments : ℕ) × HasVerdict deck text (Yes segments)
 
@@ -52,8 +52,8 @@ Certifies deck text = (segments : ℕ) × HasVerdict deck text (Yes segments)
 abbrev pub FailsAsCertificate : List ℕ → List ℕ → Type 0
 FailsAsCertificate deck text = (line reason : ℕ) × HasVerdict deck text (No line reason)
 
--- the bytes are those of an accepted deck, and the text says the whole time-cost curve of its network; it is the text of no other lines,
--- so these are what it says
+-- the bytes are those of an accepted deck, and the text states the complete time-cost curve of its network; it is the
+-- text of no other lines, so these are what it states
 pub record ProvesCurve (bytes text : List ℕ) : Type 0 where
   pub deck : Deck
   pub accepted : IsAccepted bytes deck
@@ -62,8 +62,8 @@ pub record ProvesCurve (bytes text : List ℕ) : Type 0 where
 
 -- ---- what a check leaves
 
--- the bytes that were taken of the certificate are found to be this of the network, and nothing was pulled behind the first failing line or
--- after the end
+-- the bytes that were taken of the certificate have this verdict for the network, and nothing was pulled after the
+-- first failing line or after the end
 abbrev pub IsSettledIn : {X : Type 0} → PricedNetwork → Verdict → Side X → Type 0
 IsSettledIn net verdict cert =
     IsSettled net verdict STREAM_ROOM cert.bytes cert.faults cert.pulls cert.old cert.new

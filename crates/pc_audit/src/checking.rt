@@ -59,8 +59,8 @@ pub fn check_run<D: Source, C: Source, O: Sink, E: Sink>(
     ensures certified_read { result ≡ 0 → IsReadToEnd (pulled_side C.left C.faults C.pulls cert.old cert.new) }
     ensures certified_only { result ≡ 0 → err.new ≡ err.old }
 
-    // The headline: at 0 the certificate says the whole curve, and for every length between the all-crash and the
-    // all-normal length what is read from it is a cheapest schedule.
+    // The headline: at 0 the certificate states the complete curve, and for every length between the all-crash and the
+    // all-normal length its reading is a cheapest schedule.
     ensures headline { result ≡ 0 → OfBoth (side D.left D.faults deck.old deck.new)
         (pulled_side C.left C.faults C.pulls cert.old cert.new) ProvesCurve }
 
@@ -90,8 +90,8 @@ pub fn check_run<D: Source, C: Source, O: Sink, E: Sink>(
     // ran out.
     ensures no_memory { result ≡ 3 → (cert.new ≡ cert.old) × (out.new ≡ out.old) × (err.new ≡ err.old) }
 
-    // 4: the deck could not be read, of which no more was taken than a deck may have; or the certificate, of which no
-    // line had failed, and nothing is pulled after the pull that failed.
+    // 4: the deck could not be read, and no more of it was taken than a deck may have; or the certificate could not be
+    // read before any line of it failed, and nothing is pulled after the pull that failed.
     ensures read_fault { result ≡ 4 → IsUnread (side D.left D.faults deck.old deck.new)
         (pulled_side C.left C.faults C.pulls cert.old cert.new) }
     ensures read_fault_only { result ≡ 4 → (out.new ≡ out.old) × (err.new ≡ err.old) }

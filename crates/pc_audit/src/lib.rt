@@ -1,5 +1,5 @@
-//! The top call of `pert_check`. It uses nothing of what makes certificates: no crate below this one belongs to the
-//! curve's solver.
+//! The top call of `pert_check`. It shares no code with the programs that make certificates: no crate below this one
+//! belongs to the curve's solver.
 #![tactic(auto)]
 
 mod checking;

@@ -42,7 +42,7 @@ fn verdict_line(verdict: Verdict) -> ArrayVec<u8, VERDICT_ROOM>
     }
 }
 
-/// Returns the line for a certified certificate with so many segments.
+/// Returns the line for a certified certificate with this many segments.
 fn certified_line(segments: u64) -> ArrayVec<u8, VERDICT_ROOM>
     ensures { result.items ≡ certified_text segments }
 {

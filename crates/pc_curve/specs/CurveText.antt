@@ -5,7 +5,7 @@ use Rattle.pc_laws.specs.Curve.{Breakpoint, AreBreakpoints}
 use Rattle.pc_crash.specs.Priced.{PricedNetwork}
 use Rattle.pc_curve.specs.Points.{curve_in}
 
--- a slope, or a dash where there is none
+-- a slope, or a dash if there is none
 abbrev pub slope_text : Option ℕ → List ℕ
 slope_text None = codes "-"
 slope_text (Some slope) = decimal slope

@@ -80,9 +80,9 @@ impl Breaks {
     /// Returns the next breakpoint: the first one, or the longest that is shorter than the last. After the one at the
     /// all-crash length it returns `None` and changes nothing.
     ///
-    /// The solver goes on until its present segment begins or ends there; consecutive segments of the same slope have
-    /// no breakpoint between them. It takes at most four looks at each activity for each unit by which the slope rises
-    /// or the lower end comes down. Allocates nothing.
+    /// The solver advances until its present segment begins or ends there; consecutive segments of the same slope have
+    /// no breakpoint between them. It takes at most four looks at each activity for each unit that the slope rises or
+    /// the lower end decreases. Allocates nothing.
     ///
     /// # Examples
     ///

@@ -17,8 +17,8 @@ use std::sync::ledger::Ledger;
 /// Puts the breakpoints of the curve of a solver's network on a page: one line each, from the all-normal length down,
 /// with its length, its least cost, and the extra cost of one unit less, or a dash at the all-crash length.
 ///
-/// The solver goes from before its first segment to the last one: at most four looks at each activity for each unit by
-/// which the slope rises or the lower end comes down. Allocates nothing.
+/// The solver goes from before its first segment to the last one: at most four looks at each activity for each unit
+/// that the slope rises or the lower end decreases. Allocates nothing.
 pub fn put_curve<O: Sink, L: Ledger>(
     page: &mut Page,
     sink: &mut O,

@@ -1,4 +1,4 @@
-//! A schedule of least cost for a length, and what is read from the segment of a solver that holds the length.
+//! A schedule of least cost for a length, and the reading of the segment of a solver that holds the length.
 ghost use Rattle.std.specs.Prelude.{◌≡◌, ◌+◌, ◌<◌, ◌≤◌, ℕ, length, slice_index, ◌↔◌, true, false, IsTrue};
 ghost use Rattle.pc_model.specs.Schedule.{IsSchedule, lesser_of};
 ghost use Rattle.pc_model.specs.Walk.{from_of, to_of};
@@ -17,11 +17,11 @@ use std::sync::ledger::Ledger;
 
 /// Computes a cheapest schedule for a length, in units, and returns its cost.
 ///
-/// The solver goes on until its present segment holds the length. `times` gets one time per event and `durations` one
-/// duration per activity, in card order: those of the upper end, where each event that moves is earlier by as much as
-/// the length is shorter, and each activity lasts as long as this allows, at most its normal duration. It takes at most
-/// four looks at each activity for each unit by which the slope rises or the lower end comes down, and is then linear
-/// in events and activities. Allocates nothing.
+/// The solver advances until its present segment holds the length. `times` gets one time per event and `durations` one
+/// duration per activity, in card order: those of the upper end, with each event that moves earlier by as much as the
+/// length is shorter, and each activity as long as this allows, up to its normal duration. It takes at most four looks
+/// at each activity for each unit that the slope rises or the lower end decreases, and is then linear in events and
+/// activities. Allocates nothing.
 ///
 /// # Examples
 ///
@@ -66,7 +66,7 @@ pub fn point_at<L: Ledger>(
     ensures counted { steps.new ≤ steps.old + most_looks solver.old solver.new }
 {
     let net = solver.net();
-    // What is known of the network says that what is read is a cheapest schedule.
+    // What holds of the network implies that the reading is a cheapest schedule.
     net.facts();
     let cost = cost_at(solver, length, steps);
     read_times(net, solver, length, times);
@@ -109,8 +109,8 @@ fn read_durations(net: &CrashNet<'_>, times: &[u64], durations: &mut [u64])
 
 /// Returns the least cost of a schedule for a length, in units.
 ///
-/// The solver goes on until its present segment holds the length. It takes at most four looks at each activity for each
-/// unit by which the slope rises or the lower end comes down. Allocates nothing.
+/// The solver advances until its present segment holds the length. It takes at most four looks at each activity for
+/// each unit that the slope rises or the lower end decreases. Allocates nothing.
 pub fn cost_at<L: Ledger>(solver: &mut Solver<'_>, length: u64, steps: &mut Steps<L>) -> u64
     requires { IsToCome solver.old length }
     ensures least { curve_in solver.old.net length result }
@@ -125,7 +125,8 @@ pub fn cost_at<L: Ledger>(solver: &mut Solver<'_>, length: u64, steps: &mut Step
     least_cost_for(solver, length)
 }
 
-/// The cost of the schedule for a length: that at the upper end, and the slope for each unit by which it is shorter.
+/// The cost of the schedule for a length: that at the upper end, and the slope for each unit that the length is
+/// shorter.
 pub(crate) fn least_cost_for(solver: &Solver<'_>, length: u64) -> u64
     requires { IsThere solver.now length }
     ensures read { result ≡ cost_for (present solver.now) length }
@@ -150,7 +151,7 @@ fn come_to<L: Ledger>(solver: &mut Solver<'_>, length: u64, steps: &mut Steps<L>
     }
 }
 
-// Whether there is a segment that comes down to a length.
+// Whether there is a segment that reaches down to a length.
 fn is_as_low(solver: &Solver<'_>, length: u64) -> bool
     ensures low { IsTrue result ↔ ((solver.now.given ≡ true) × (lower_of solver.now ≤ length)) }
     ensures level { solver.now.given ≡ false → IsLevel solver.now }

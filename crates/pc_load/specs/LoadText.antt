@@ -39,8 +39,8 @@ resource_rows project loading i = amount_rows loading.resources (slice_index_or 
 abbrev pub head_line : List ℕ → ℕ → List ℕ
 head_line code days = named_line (codes "LOAD ") code days
 
--- the project's code and the days of a period, a row for each period, a row for each item in preorder and each period in which
--- it has a part, and the same for each resource in card order
+-- the project's code and the days of a period, a row for each period, a row for each item in preorder and each period
+-- in which it has a part, and the same for each resource in card order
 unfoldable pub load_text : Project → Loading → List ℕ
 load_text project loading =
     head_line project.heading.code loading.days
@@ -50,7 +50,7 @@ load_text project loading =
     ++ (codes "RESOURCES" ++ 10 ∷ [])
     ++ texts_to (length project.resources) (resource_rows project loading)
 
--- the text is the report of the project's loads for periods of so many days
+-- the text is the report of the project's loads for periods of `days` days
 pub record IsLoadText (project : Project) (days : ℕ) (text : List ℕ) : Type 0 where
   pub loading : Loading
   pub are : IsLoading project days loading

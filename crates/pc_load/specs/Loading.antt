@@ -48,15 +48,15 @@ load_part project times width k l =
 
 -- ---- periods
 
--- how wide a period of so many days is, in sixths of a day
+-- the width of a period of this many days, in sixths of a day
 abbrev pub period_width : ℕ → ℕ
 period_width days = 6 * days
 
--- how many periods of so many days hold a project that ends at a time
+-- how many periods of `days` days cover a project that ends at a time
 abbrev pub periods_for : ℕ → ℕ → ℕ
 periods_for days end = end / period_width days + 1
 
--- so many periods of so many days hold the project: the last one has the earliest time of its end event
+-- `periods` periods of `days` days cover the project: the last one contains the earliest time of its end event
 pub record ArePeriods (project : Project) (days periods : ℕ) : Type 0 where
   pub end : ℕ
   pub early : IsEarly project.network project.expected project.network.end end
@@ -95,15 +95,16 @@ ResourcesAddUp project resources =
     (r : ℕ) → r < length project.resources
     → IsSumOver (λ l. (load_at project l).resource ≡ r) (length project.loads) (λ l. pos (load_at project l).quantity) (total_of resources r)
 
--- what a project spends by item and takes by resource in each period: the days of a period, the items in the order in which
--- they are told, and the two tables
+-- what a project spends by item and uses by resource in each period: the days of a period, the items in the order of
+-- the report, and the two tables
 pub record Loading : Type 0 where
   pub days : ℕ
   pub order : List ℕ
   pub items : Table
   pub resources : Table
 
--- the tables are the project's, items in preorder, for periods of so many days, no more than a report may have; and they add up
+-- the tables are the project's, items in preorder, for periods of `days` days, no more than a report may have; and they
+-- add up
 pub record IsLoading (project : Project) (days : ℕ) (loading : Loading) : Type 0 where
   pub of_days : loading.days ≡ days
   pub preorder : IsPreorder project.tree loading.order

@@ -1,9 +1,9 @@
--- The share of a spread amount that has come by a time, and its part between two times.
+-- The share of a spread amount up to a time, and its part between two times.
 use Rattle.std.specs.Prelude.{ℕ, ◌+◌, ◌-◌, ◌*◌, ◌/◌, nat_le, if◌then◌else◌}
 use Rattle.pc_load.specs.declared.spread.Spread.{Spread}
 
--- the share by a time: nothing up to the beginning; behind it the whole from the end on; and before the end as much of the
--- amount as the time since the beginning is of the length, rounded down
+-- the share up to a time: nothing up to the beginning; the complete amount from the end on; and between them as much of
+-- the amount as the time since the beginning is of the length, rounded down
 abbrev pub share : Spread → ℕ → ℕ
 share s time =
     if nat_le time s.begin then 0

@@ -4,13 +4,14 @@ use Rattle.pc_rollup.specs.Totals.{amount_at}
 
 -- ---- tables
 
--- an amount for each of so many rows in each of so many periods: those of the first period row by row, then those of the next
+-- an amount for each of `rows` rows in each of `periods` periods: those of the first period row by row, then those of
+-- the next
 pub record Table : Type 0 where
   pub rows : ℕ
   pub periods : ℕ
   pub cells : List ℤ
 
--- the amounts of period k, one for each of so many rows
+-- the amounts of period k, one for each of `rows` rows
 abbrev pub column_of : ℕ → List ℤ → ℕ → List ℤ
 column_of rows cells k = take rows (drop (k * rows) cells)
 

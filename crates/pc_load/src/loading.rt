@@ -19,7 +19,7 @@ pub const MAX_DAYS: u64 = 3_660;
 /// The reason why there is no report of loads.
 #[derive(Drop)]
 pub enum NoLoad {
-    /// The project takes so many periods, more than `MAX_PERIODS`.
+    /// The project takes this many periods, more than `MAX_PERIODS`.
     TooMany(u64),
     /// There is no memory for the tables.
     OutOfMemory,
@@ -46,9 +46,9 @@ pub(crate) struct PrintedLoad<'a> {
     pub(crate) resources: &'a Table,
 }
 
-/// What a project spends by item and takes by resource in periods of so many days.
+/// What a project spends by item and uses by resource in periods of a number of days.
 ///
-/// It keeps the order of the items in the report: preorder.
+/// It has the order of the items in the report: preorder.
 pub struct Loading {
     days: u64,
     order: Vec<u32>,
@@ -79,7 +79,7 @@ impl Model for Loading {
 }
 
 impl Loading {
-    /// Returns the loading of the project in periods of so many days.
+    /// Returns the loading of the project in periods of `days` days.
     ///
     /// Costs and quantities are spread evenly over the expected time of their activity, from its earliest time on. The
     /// time that it takes is linear in the cells of the tables and in the periods that each activity and each load

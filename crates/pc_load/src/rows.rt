@@ -142,7 +142,7 @@ fn put_amount<O: Sink>(page: &mut Page, sink: &mut O, code: &Code, k: u64, amoun
     put_row(page, sink, &cells);
 }
 
-/// Returns the date so many days after a day, or ten hyphens if it is past the days that are printed.
+/// Returns the date `days` days after a day, or ten hyphens if it is past the days that are printed.
 fn date_after(start: Day, days: u64) -> [u8; 10]
     requires { days < 10_000_000 }
     ensures { result ≡ date_or_none (start +ℤ pos days) }

@@ -28,7 +28,7 @@ pub fn part(s: &Spread, from: u64, to: u64) -> u64
     share(s, to) - share(s, from)
 }
 
-/// The share of an amount that has come by a time.
+/// The share of an amount up to a time.
 pub(crate) fn share(s: &Spread, time: u64) -> u64
     requires spread { IsSpread s.now }
     requires time { time < 2 ^ 40 }

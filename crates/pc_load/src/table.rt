@@ -85,7 +85,7 @@ impl Table {
         })
     }
 
-    /// Does nothing. Says what is known of every table, for a proof that needs it and asks for nothing else.
+    /// Does nothing. States what holds of every table, for a proof that needs only that.
     pub(crate) fn facts(&self)
         ensures limit { self.now.periods ≤ MAX_PERIODS }
     {

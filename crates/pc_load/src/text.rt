@@ -19,8 +19,8 @@ use pc_project::Project;
 ///
 /// The tables can be any that have the project's items and resources as rows, and as many periods as each other.
 ///
-/// Each piece of the text is pushed as it comes. So it takes no memory, and it does not flush the sink. With a page at
-/// hand, [`put_loading`] pushes less often.
+/// Each piece of the text is pushed at once, so that no memory is needed; the sink is not flushed. If you have a page,
+/// [`put_loading`] pushes less often.
 ///
 /// # Errors
 ///

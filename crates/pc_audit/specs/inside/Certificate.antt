@@ -1,4 +1,4 @@
--- Certificates of a deck's project, and what is said of them.
+-- Certificates of a deck's project, and the verdicts on them.
 -- Here is what no clause of a top call and no law reaches.
 use Rattle.std.specs.Prelude.{◌≡◌}
 use Rattle.pc_crash.specs.Priced.{PricedNetwork}
@@ -15,15 +15,15 @@ use Rattle.pc_audit.specs.Certificate.{verdict_text, IsSettledIn, IsUnsettledIn}
 
 -- ---- what a check leaves
 
--- what the source had left is found to be this without a fault of it, a certified text was read to its end, and nothing was pulled behind
--- the first failing line
+-- what the source had left has this verdict without a fault of the source, a certified text was read to its end, and
+-- nothing was pulled after the first failing line
 pub record IsFound {X : Type 0} (net : PricedNetwork) (cert : Side X) (verdict : Verdict) : Type 0 where
   pub finds : OfBytes cert (λ text. Finds net text verdict)
   pub end : OnYes verdict (IsReadToEnd cert)
   pub settled : IsSettledIn net verdict cert
   pub no_fault : cert.faults cert.new ≡ cert.faults cert.old
 
--- the status of a verdict that was told
+-- the status for a verdict that was reported
 abbrev pub status_for : Verdict → Status
 status_for (Yes segments) = Done
 status_for (No line reason) = NotCertified
@@ -33,8 +33,8 @@ pub data Told {X : Type 0} (verdict : Verdict) (out : Side X) : Status → Type 
   told : (status : Status) → status ≡ status_for verdict → Took out (verdict_text verdict) → Told verdict out status
   cut : TookFront out (verdict_text verdict) → Told verdict out WriteFault
 
--- how the check of a certificate of the project ends: with a verdict, with a fault of the source before any line failed, or for want of
--- memory before anything was pulled
+-- how the check of a certificate of the project ends: with a verdict, with a fault of the source before any line
+-- failed, or out of memory before anything was pulled
 pub data Answered {C O : Type 0} (project : Project) (cert : Side C) (out : Side O) : Status → Type 0 where
   found : (verdict : Verdict) (status : Status) → IsFound (priced_in project) cert verdict → Told verdict out status → Answered project cert out status
   unread : HadFault cert → IsUnsettledIn (priced_in project) cert → IsUntouched out → Answered project cert out ReadFault

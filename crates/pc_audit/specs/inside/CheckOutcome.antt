@@ -1,4 +1,4 @@
--- What a check of a certificate means and leaves behind, by its status.
+-- What a check of a certificate means and has done, by its status.
 -- Here is what no clause of a top call and no law reaches.
 use Rattle.std.specs.Prelude.{ℕ, List, String}
 use Rattle.std.specs.declared.alloc.Global.{Global}
@@ -10,7 +10,7 @@ use Rattle.pc_project.specs.shell.Sides.{Side, IsReadToEnd, IsUntouched, Took}
 use Rattle.pc_project.specs.shell.OneWord.{IsDeckRefused, IsOneWord}
 use Rattle.pc_audit.specs.CheckOutcome.{IsChecked, IsCheckCut, IsUnread}
 
--- what a check that ended with the status means and leaves behind
+-- what a check that ended with the status means and has done
 pub data CheckOutcome {D C O E : Type 0} (words : List (String Global)) (deck : Side D) (cert : Side C) (out : Side O) (err : Side E) : Status → Type 0 where
   certified : (segments : ℕ) → IsChecked words deck cert out (Yes segments) → IsReadToEnd cert → IsUntouched err → CheckOutcome words deck cert out err Done
   not_certified : (line reason : ℕ) → IsChecked words deck cert out (No line reason) → IsUntouched err → CheckOutcome words deck cert out err NotCertified

@@ -13,7 +13,7 @@ pub record IsSumOfCosts (curve : ℕ → ℕ → Type 0) (shortest longest sum :
   pub least : (limit : ℕ) → shortest ≤ limit → limit ≤ longest → curve limit (costs limit)
   pub total : sum ≡ sum_to (longest - shortest + 1) (λ k. costs (longest - k))
 
--- the curve has so many breakpoints
+-- the curve has this many breakpoints
 pub record HasBreaks (curve : ℕ → ℕ → Type 0) (shortest longest number : ℕ) : Type 0 where
   pub points : List Breakpoint
   pub breaks : AreBreakpoints curve shortest longest points

@@ -15,14 +15,14 @@ point_of b = record { limit = b.length; cost = b.cost; slope = b.slope }
 abbrev pub IsNextBreak : Course → Option ℕ → Break → Type 0
 IsNextBreak c last b = IsNextBreakpoint (curve_in c.net) c.shortest c.longest last (point_of b)
 
--- a solver stands at a length of the range: its present segment holds it
+-- a solver is at a length of the range: its present segment holds it
 pub record StandsAt (last : ℕ) (c : Course) : Type 0 where
   pub given : c.given ≡ true
   pub above : lower_of c ≤ last
   pub below : last ≤ upper_of c
   pub within : last ≤ c.longest
 
--- a solver stands where its breakpoints were given to: at the last one, or before the first segment
+-- a solver is where its breakpoints were given up to: at the last one, or before the first segment
 abbrev pub StandsBy : Option ℕ → Course → Type 0
 StandsBy None c = c.given ≡ false
 StandsBy (Some last) c = StandsAt last c

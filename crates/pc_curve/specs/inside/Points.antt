@@ -6,13 +6,13 @@ use Rattle.pc_crash.specs.Priced.{PricedNetwork}
 use Rattle.pc_flow.specs.Courses.{Course, upper_of}
 use Rattle.pc_flow.specs.inside.Courses.{present, IsOnCurve}
 
--- a solver comes down to the length: it lies in the range, and not above the present segment
+-- a solver can reach the length: it is in the range, and not above the present segment
 pub record IsToCome (c : Course) (limit : ℕ) : Type 0 where
   pub above : c.shortest ≤ limit
   pub within : limit ≤ c.longest
   pub below : c.given ≡ true → limit ≤ upper_of c
 
--- the solver has a whole segment, and it holds the length
+-- the solver has a complete segment, and it holds the length
 pub record IsThere (c : Course) (limit : ℕ) : Type 0 where
   pub given : c.given ≡ true
   pub whole : IsOnCurve c

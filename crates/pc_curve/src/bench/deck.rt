@@ -1,4 +1,4 @@
-//! The text of the benchmark's deck, and the numbers that it is drawn from.
+//! The text of the benchmark's deck, and the random numbers from which it is generated.
 ghost use Rattle.std.specs.Prelude.{◌≡◌, ◌≤◌, ◌++◌, IfOk, OnOk, string_bytes, ℕ, ◌+◌, ◌<◌, ◌-◌};
 ghost use Rattle.pc_curve.specs.bench.Deck.{
   activities_text,
@@ -24,7 +24,7 @@ pub const MOST_ACTIVITIES: u64 = 4_000;
 /// deck. Linear in `n`.
 ///
 /// The first activities form a row through all events, and the others skip up to three events. Durations and costs are
-/// drawn.
+/// random.
 ///
 /// # Errors
 ///
@@ -127,7 +127,7 @@ impl Model for Draws {
 }
 
 impl Draws {
-    /// The draws behind a number.
+    /// The draws after a number.
     pub(in crate::bench) fn behind(start: u64) -> Draws
         requires { start < 65_537 }
         ensures { result ≡ start }
@@ -163,7 +163,7 @@ pub(in crate::bench) fn last_event(n: u64) -> u64
     (n + 1) / 2
 }
 
-/// Draws activity `i` of `n`, from 1, where those before it have made their draws.
+/// Draws activity `i` of `n`, from 1, after those before it have made their draws.
 pub(in crate::bench) fn draw_activity(draws: &mut Draws, n: u64, i: u64) -> BenchActivity
     requires most { n ≤ MOST_ACTIVITIES }
     requires first { 0 < i }

@@ -29,12 +29,12 @@ pub struct CurveFigures {
     pub sum: u128,
 }
 
-/// What the segments so far come to.
+/// The figures of the segments so far.
 #[derive(Clone, Copy)]
 pub(in crate::bench) struct CurveTally {
     /// The slope of the last one.
     pub(in crate::bench) slope: u64,
-    /// How many breakpoints lie above its lower end.
+    /// How many breakpoints are above its lower end.
     pub(in crate::bench) breaks: u64,
     /// The sum of the least costs of all lengths down to its lower end.
     pub(in crate::bench) sum: u128,
@@ -43,8 +43,8 @@ pub(in crate::bench) struct CurveTally {
 /// Returns the figures of the curve of a solver's network. The solver goes from before its first segment to the last
 /// one.
 ///
-/// It takes a few steps per segment, and at most four looks at each activity for each unit by which the slope rises or
-/// the lower end comes down. Allocates nothing.
+/// It takes a few steps per segment, and at most four looks at each activity for each unit that the slope rises or the
+/// lower end decreases. Allocates nothing.
 pub fn figures_of<L: Ledger>(solver: &mut Solver<'_>, steps: &mut Steps<L>) -> CurveFigures
     requires { solver.old.given ≡ false }
     ensures figures { IsFiguresOf solver.old.net result }
@@ -91,7 +91,7 @@ fn lower_ends(shortest: u64, longest: u64) -> u64
     if shortest < longest { 1 } else { 0 }
 }
 
-/// What the first segment comes to.
+/// The figures of the first segment.
 fn first_tally(solver: &Solver<'_>) -> CurveTally
     requires given { solver.now.given ≡ true }
     requires small { IsSmall (present solver.now) }
@@ -104,7 +104,7 @@ fn first_tally(solver: &Solver<'_>) -> CurveTally
     }
 }
 
-/// What it comes to with one segment more.
+/// The figures with one segment more.
 fn next_tally(tally: CurveTally, solver: &Solver<'_>) -> CurveTally
     requires given { solver.now.given ≡ true }
     requires small { IsSmall (present solver.now) }
@@ -139,7 +139,7 @@ fn costs_below(solver: &Solver<'_>) -> u128
     )
 }
 
-/// The sum of so many costs, each by as much above the one before, from the first one above the cost that is given.
+/// The sum of `count` costs, each `slope` above the one before, from the first one above `cost`.
 fn rising_sum(cost: u64, slope: u64, count: u64) -> u128
     requires cost { cost < 10 ^ 18 }
     requires slope { slope < 10 ^ 18 }

@@ -1,4 +1,4 @@
-//! The benchmark: a deck that is the same on every machine, and what is said of its time-cost curve.
+//! The benchmark: a deck that is the same on every machine, and the figures of its time-cost curve.
 
 mod deck;
 mod figures;

@@ -17,8 +17,8 @@ use std::sync::ledger::Ledger;
 /// the all-crash length, each with its least cost, the number of breakpoints, and the sum of the least costs of all
 /// lengths.
 ///
-/// The solver goes from before its first segment to the last one: at most four looks at each activity for each unit by
-/// which the slope rises or the lower end comes down. Allocates nothing.
+/// The solver goes from before its first segment to the last one: at most four looks at each activity for each unit
+/// that the slope rises or the lower end decreases. Allocates nothing.
 pub fn put_bench<O: Sink, L: Ledger>(
     page: &mut Page,
     sink: &mut O,

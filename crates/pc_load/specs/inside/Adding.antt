@@ -15,7 +15,7 @@ abbrev pub IsGrown : ℕ → LoadRow → ℕ → List ℤ → List ℤ → ℕ �
 IsGrown rows entry width old new k =
     column_of rows new k ≡ set (column_of rows old k) entry.row (amount_at (column_of rows old k) entry.row +ℤ pos (part entry.spread (width * k) (width * (k + 1))))
 
--- the same in each of so many periods
+-- the same in each of `periods` periods
 pub record IsAdded (rows periods : ℕ) (entry : LoadRow) (width : ℕ) (old new : List ℤ) : Type 0 where
   pub one_each : length new ≡ length old
   pub each : (k : ℕ) → k < periods → IsGrown rows entry width old new k

@@ -5,7 +5,7 @@ use Rattle.pc_wbs.specs.declared.tree.ItemRow.{ItemRow}
 use Rattle.pc_rollup.specs.inside.Totals.{AreRolledUp}
 use Rattle.pc_load.specs.Table.{Table, column}
 
--- in each period each item has the sum of the amounts of the leaves that are it or lie below it
+-- in each period each item has the sum of the amounts of the leaves that are it or are below it
 pub record IsItemTable (tree : List ItemRow) (leaves items : Table) : Type 0 where
   pub rows : items.rows ≡ length tree
   pub periods : items.periods ≡ leaves.periods

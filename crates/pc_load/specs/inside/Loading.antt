@@ -11,7 +11,7 @@ use Rattle.pc_load.specs.Loading.{IsTooMany, Loading}
 
 -- ---- periods
 
--- why there is no report of loads: the project has too many periods; want of memory comes at any time
+-- why there is no report of loads: the project has too many periods, or memory ran out, which may happen at any time
 abbrev pub HasNoLoad : Project → ℕ → NoLoad → Type 0
 HasNoLoad project days (TooMany have) = IsTooMany project days have
 HasNoLoad project days OutOfMemory = ⊤

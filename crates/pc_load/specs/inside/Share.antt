@@ -1,4 +1,4 @@
--- The share of a spread amount that has come by a time, and its part between two times.
+-- The share of a spread amount up to a time, and its part between two times.
 -- Here is what no clause of a top call and no law reaches.
 use Rattle.std.specs.Prelude.{◌<◌, ◌≤◌, ◌^◌}
 use Rattle.pc_model.specs.declared.limits.TheConstants.{MAX_COST}

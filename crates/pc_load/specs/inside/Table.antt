@@ -24,7 +24,7 @@ row_of entries e = (entry_at entries e).row
 abbrev pub spread_of : List LoadRow → ℕ → Spread
 spread_of entries e = (entry_at entries e).spread
 
--- no more entries than a project may have loads, each on one of so many rows, with a spread of a project
+-- no more entries than a project may have loads, each on one of `rows` rows, with a spread of a project
 pub record AreEntries (rows : ℕ) (entries : List LoadRow) : Type 0 where
   pub few : length entries ≤ MAX_LOADS
   pub known : (e : ℕ) → e < length entries → row_of entries e < rows
@@ -60,7 +60,8 @@ pub record IsTableOf (rows : ℕ) (entries : List LoadRow) (width periods : ℕ)
 abbrev pub IsOver : Spread → ℕ → Type 0
 IsOver s time = (s.begin < time) × (s.begin + s.length ≤ time)
 
--- where the last period holds the end of all entries, each row has in all periods what its entries come to
+-- if the last period contains the end of all entries, the amounts of each row in all periods add up to those of its
+-- entries
 abbrev pub RowsAddUp : ℕ → List LoadRow → ℕ → ℕ → Table → Type 0
 RowsAddUp rows entries width periods table =
     ((e : ℕ) → e < length entries → IsOver (spread_of entries e) (width * periods))

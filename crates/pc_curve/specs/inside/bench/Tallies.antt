@@ -1,4 +1,4 @@
--- What the segments of a curve come to, one after another.
+-- The figures of the segments of a curve, added one after another.
 use Rattle.std.specs.Prelude.{ℕ, ◌+◌, ◌-◌, ◌*◌, ◌^◌, ◌<◌, ◌≤◌, ◌==◌, if◌then◌else◌}
 use Rattle.pc_model.specs.Sums.{sum_to}
 use Rattle.pc_laws.specs.Segment.{Segment, cost_for, span}
@@ -9,7 +9,7 @@ use Rattle.pc_curve.specs.declared.bench.figures.CurveTally.{CurveTally}
 abbrev pub costs_below : Segment → ℕ
 costs_below seg = sum_to (span seg) (λ k. cost_for seg (seg.upper - (k + 1)))
 
--- what the first segment comes to
+-- the figures of the first segment
 abbrev pub first_tally : Segment → CurveTally
 first_tally seg = record { slope = seg.slope; breaks = 1; sum = seg.cost + costs_below seg }
 
@@ -32,7 +32,7 @@ pub record IsSmall (seg : Segment) : Type 0 where
 abbrev pub most_cost : ℕ
 most_cost = 2 * 10 ^ 27
 
--- a tally leaves room for a segment more
+-- a tally has capacity for another segment
 pub record HasRoomFor (tally : CurveTally) (seg : Segment) : Type 0 where
   pub breaks : tally.breaks ≤ MAX_LENGTH + 1
   pub sum : tally.sum ≤ MAX_LENGTH * most_cost + most_cost
