@@ -1,4 +1,4 @@
--- Lines that were heard on a deck's project, and their answers.
+-- Lines that a session received on a deck's project, and their answers.
 use Rattle.std.specs.Prelude.{◌≡◌, ℕ, ◌<◌, ◌≤◌, List, [], ◌∷◌, ◌++◌, length, take, codes}
 use Rattle.std.specs.Io.KnownBytes.{Consumes}
 use Rattle.pc_edges.specs.declared.lines.reader.TheConstants.{INPUT_LIMIT}
@@ -63,7 +63,7 @@ pub record IsHeard {D C O : Type 0} (means : Meaning) (deck : Side D) (edits : S
 abbrev pub first_lines : List ℕ → List (List ℕ)
 first_lines bytes = whole_lines (take INPUT_LIMIT bytes)
 
--- the edits were read to their end, without a fault, and lie within the limit, and all their lines were answered
+-- the edits were read to their end, without a fault, and are within the limit, and all their lines were answered
 pub record IsHeardOut {D C O : Type 0} (means : Meaning) (deck : Side D) (edits : Side C) (out : Side O) : Type 0 where
   pub heard : IsHeard means deck edits out lines_of
   pub end : IsReadToEnd edits
@@ -82,7 +82,8 @@ pub record IsHeardUnread {D C O : Type 0} (means : Meaning) (deck : Side D) (edi
   pub fault : HadFault edits
   pub short : length heard.answered.bytes ≤ INPUT_LIMIT
 
--- a fault of the output came when it had taken a front of the answers to the first lines of the bytes that were taken
+-- a fault of the output occurred when it had taken a front of the answers to the first lines of the bytes that were
+-- taken
 pub record IsHeardCut {D C O : Type 0} (means : Meaning) (deck : Side D) (edits : Side C) (out : Side O) : Type 0 where
   pub read : IsReadToEnd deck
   pub accepted : OfBytes deck AcceptedBy

@@ -33,8 +33,8 @@ project_as project editing = record project {
 abbrev pub net_tried : Editing → Trial → ℕ → PricedNetwork
 net_tried editing trial a = net_trying editing.net (record { activity = a; term = term_tried trial (term_at editing.net.terms a) })
 
--- the answer to a trial: why it is refused; or else, with its numbers in place, that the length is outside the range, or the least cost
--- for it
+-- the answer to a trial: why it is refused; or else, with its numbers in place, that the length is outside the range,
+-- or the least cost for it
 pub data IsTrialText (editing : Editing) (trial : Trial) (text : List ℕ) : Type 0 where
   refused : (reason : Reason) → trial_refusal editing.net editing.estimates trial ≡ Some reason → text ≡ refused_text reason → IsTrialText editing trial text
   outside : (a : ℕ) → trial_refusal editing.net editing.estimates trial ≡ None → activity_named editing.net trial.act ≡ Some a
@@ -42,7 +42,8 @@ pub data IsTrialText (editing : Editing) (trial : Trial) (text : List ℕ) : Typ
   costs : (a cost : ℕ) → trial_refusal editing.net editing.estimates trial ≡ None → activity_named editing.net trial.act ≡ Some a
       → IsLengthInRange (net_tried editing trial a) trial.length → curve_in (net_tried editing trial a) trial.length cost → text ≡ cost_text cost → IsTrialText editing trial text
 
--- the text answers what a line asks of the project as it is edited; a line that asks nothing has none of the forms
+-- the text answers the request in a line, on the project as it is edited; a line without a request has none of the
+-- forms
 abbrev pub IsLineAnswer : Project → Editing → Option Ask → List ℕ → Type 0
 IsLineAnswer project editing None text = text ≡ refused_text Form
 IsLineAnswer project editing (Some (ask.Edit edit)) text = text ≡ outcome_text (edit_refusal editing.net editing.estimates edit)
@@ -51,8 +52,8 @@ IsLineAnswer project editing (Some ask.Times) text = IsTimesText (project_as pro
 IsLineAnswer project editing (Some ask.Curve) text = IsCurveText editing.net text
 IsLineAnswer project editing (Some (ask.Try trial)) text = IsTrialText editing trial text
 
--- the project as it is edited after a line: an edit that is accepted is in place, an UNDO takes the latest kept edit back, and all else
--- leaves it as it is
+-- the project as it is edited after a line: an accepted edit is in place, an UNDO reverts the latest kept edit, and any
+-- other line changes nothing
 abbrev pub editing_after : Editing → Option Ask → Editing
 editing_after editing None = editing
 editing_after editing (Some (ask.Edit edit)) = option_map_or (λ reason. editing) (edit_refusal editing.net editing.estimates edit) (edited editing edit)

@@ -6,14 +6,14 @@ use Rattle.pc_project.specs.shell.Sides.{Side, HadFault, IsUntouched, TookAtMost
 use Rattle.pc_project.specs.shell.OneWord.{IsOneWord, IsRefusalCut}
 use Rattle.pc_whatif.specs.Heard.{session_usage_text, Meaning, IsHeardUnread, IsHeardCut}
 
--- what could not be read: the deck, of which no more was taken than a deck may have, and nothing of the edits; or the edits, whose
--- complete lines before that were answered
+-- what could not be read: the deck, and then no more of it was taken than a deck may have, and nothing of the edits; or
+-- the edits, and then the complete lines before the fault were answered
 pub data IsSessionUnread {D C O : Type 0} (means : Meaning) (deck : Side D) (edits : Side C) (out : Side O) : Type 0 where
   deck_unread : HadFault deck → TookAtMost longest_deck deck → IsUntouched edits → IsUntouched out → IsSessionUnread means deck edits out
   edits_unread : IsHeardUnread means deck edits out → IsSessionUnread means deck edits out
 
--- where a write fault came: in the answers, in the line of a fault, or in the usage line. The other output is as it was, and the
--- edits are unread where no line was answered
+-- where a write fault occurred: in the answers, in the line of a fault, or in the usage line. The other output is
+-- unchanged, and the edits are unread if no line was answered
 pub data IsSessionCut {D C O E : Type 0} (means : Meaning) (words : List (String Global)) (deck : Side D) (edits : Side C) (out : Side O) (err : Side E) : Type 0 where
   in_answers : IsOneWord words → IsHeardCut means deck edits out → IsUntouched err → IsSessionCut means words deck edits out err
   in_refusal : IsRefusalCut words deck err → IsUntouched edits → IsUntouched out → IsSessionCut means words deck edits out err

@@ -1,4 +1,4 @@
-//! A session, the answers to its lines, the side of a talk that it is, and the laws of its answers to any lines.
+//! A session, the answers to its lines, its implementation of `Answers`, and the laws of its answers to any lines.
 ghost use Rattle.std.specs.Prelude.{◌≡◌, length, IfOk, ℕ, List, None, Some};
 ghost use Rattle.pc_whatif.specs.edits.Editing.{begun};
 ghost use Rattle.pc_whatif.specs.inside.trials.Trials.{trial_cells};
@@ -136,8 +136,8 @@ pub(crate) fn renew(region: &mut SessionRegion, edits: &Edits<'_>, a: u32, proje
 impl Session<'_> {
     /// Answers a line and flushes the sink. `line` has no LF.
     ///
-    /// Takes no memory. The session moves on even if the sink fails. A trial or a curve looks at most four times at
-    /// each activity for each unit by which the slope rises or the length falls; any other line takes a few passes.
+    /// Takes no memory. The session changes even if the sink fails. A trial or a curve looks at most four times at each
+    /// activity for each unit that the slope rises or the length decreases; any other line takes a few passes.
     ///
     /// # Errors
     ///
@@ -293,8 +293,8 @@ fn refuse<O: Sink>(reason: Reason, page: &mut Page, out: &mut O) -> Result<(), F
 
 /// Shows that after any lines the project is the deck's with the standing edits applied in order.
 ///
-/// An edit stands if it was accepted and not taken back. Each line is answered on the project with the edits that stand
-/// at that line.
+/// An edit is in effect if it was accepted and not reverted. Each line is answered on the project with the edits that
+/// are in effect at that line.
 pub fn edits_stand_in_order()
     ensures stands { (project : Project) (lines : List (List ℕ)) →
         IsEditedBy project (journal_of project empty lines) (editing_of (begun project) lines) }

@@ -40,8 +40,8 @@ pub fn session_run<D: Source, C: Source, O: Sink, E: Sink>(
 ) -> u8
     ensures statuses { (result ≤ 5) ⊎ (result ≡ 8) }
 
-    // 0: the deck is accepted, the edits were read to their end, and `out` took the answers to all their lines, each by
-    // the project that the lines before it leave.
+    // 0: the deck is accepted, the edits were read to their end, and `out` took the answers to all their lines, each on
+    // the project as the lines before it left it.
     ensures heard { result ≡ 0 → IsHeardOut AnswersLines (side D.left D.faults deck.old deck.new)
         (pulled_side C.left C.faults C.pulls edits.old edits.new) (side O.taken O.faults out.old out.new) }
     ensures heard_only { result ≡ 0 → err.new ≡ err.old }
@@ -73,7 +73,7 @@ pub fn session_run<D: Source, C: Source, O: Sink, E: Sink>(
         (pulled_side C.left C.faults C.pulls edits.old edits.new) (side O.taken O.faults out.old out.new) }
     ensures read_fault_only { result ≡ 4 → err.new ≡ err.old }
 
-    // 5: a fault of `out` or `err` came in the answers, the line of a fault or the usage line.
+    // 5: a fault of `out` or `err` occurred in the answers, the line of a fault or the usage line.
     ensures write_fault { result ≡ 5 → IsSessionCut AnswersLines words.now (side D.left D.faults deck.old deck.new)
         (pulled_side C.left C.faults C.pulls edits.old edits.new) (side O.taken O.faults out.old out.new)
         (side E.taken E.faults err.old err.new) }
@@ -102,19 +102,19 @@ pub fn session_run<D: Source, C: Source, O: Sink, E: Sink>(
         → HadNoFault (pulled_side C.left C.faults C.pulls edits.old edits.new)
         → HadNoFault (side O.taken O.faults out.old out.new) → (result ≡ 0) ⊎ ((result ≡ 3) ⊎ (result ≡ 8))) }
 
-    // Where more is taken of the edits than they may have, and no fault of `out` came, that is the answer.
+    // If more is taken of the edits than they may have, and no fault of `out` occurred, the status is 8.
     ensures long_edits { HadNoFault (side O.taken O.faults out.old out.new) →
         OfBytes (pulled_side C.left C.faults C.pulls edits.old edits.new)
         (λ before. IfSome (C.left edits.new) (λ after. INPUT_LIMIT + length after < length before → result ≡ 8)) }
 
-    // The answers depend on the deck and the lines alone, not on how the bytes are cut into pieces, nor on anything
+    // The answers depend only on the deck and the lines, not on how the bytes are split into pieces, nor on anything
     // else.
     ensures one_text { (bytes : List ℕ) (lines : List (List ℕ)) (text other : List ℕ)
         → AnswersOn AnswersLines bytes lines text
         → AnswersOn AnswersLines bytes lines other → text ≡ other }
 
-    // Each line is answered on the deck's project with the edits applied that stand at that line, in order: those that
-    // were accepted and not taken back.
+    // Each line is answered on the deck's project with the edits that are in effect at that line, applied in order:
+    // those that were accepted and not reverted.
     ensures in_order { (bytes : List ℕ) (lines : List (List ℕ)) (text : List ℕ)
         → AnswersOn AnswersLines bytes lines text
         → AnswersOn AnswersInOrder bytes lines text }

@@ -1,4 +1,4 @@
--- What `arrows` leaves: a deck of the plan that is drawn of the tasks, by which nothing of their schedules and costs is lost.
+-- What `arrows` writes: a deck of the plan that is generated from the tasks, with the same schedules and costs.
 use Rattle.std.specs.Prelude.{ℕ, List}
 use Rattle.pc_deck.specs.Deck.{Deck}
 use Rattle.pc_project.specs.deck_text.Written.{migrated}
@@ -10,8 +10,8 @@ use Rattle.pc_tasks.specs.Text.{KeepsTasks}
 use Rattle.pert_cli.specs.Migrate.{TookDeckOf}
 use Rattle.pert_cli.specs.Tasks.{IsAcceptedTasks}
 
--- the deck is an accepted one of tasks, and the output took a deck of the plan that is drawn of them. For every length there is a schedule
--- of the tasks exactly where there is one of that deck's project, and the least cost of the one is that of the other
+-- the deck is an accepted one of tasks, and the output took a deck of the plan that is generated from them. For every
+-- length the tasks have a schedule if and only if that deck's project has one, and their least costs are equal
 pub record TookArrows {X : Type 0} (out : Side X) (deck : List ℕ) : Type 0 where
   pub tasks : Deck
   pub accepted : IsAcceptedTasks deck tasks

@@ -1,4 +1,4 @@
--- Which deck a form speaks of: that of the source, or one of its own, for which nothing is read; and of which sort it is.
+-- Which deck a form is about: that of the source, or one of its own, for which nothing is read; and its sort.
 use Rattle.std.specs.Prelude.{◌≡◌, ℕ, List, Option, Some, None, String}
 use Rattle.std.specs.declared.alloc.Global.{Global}
 use Rattle.pc_curve.specs.bench.Deck.{bench_deck_text}
@@ -13,7 +13,7 @@ use Rattle.pc_project.specs.shell.Reading.{HasProjectBy, HasRefusalBy}
 use Rattle.pert_cli.specs.Verdicts.{IsFaultAs, IsMadeAs}
 use Rattle.pert_cli.specs.Words.{AskFor}
 
--- the deck that a form has of its own; the other forms read that of the source
+-- the deck that a form has of its own; the other forms read the source's
 abbrev pub own_deck : Form → Option (List ℕ)
 own_deck (Bench n) = Some (bench_deck_text n)
 own_deck _ = None
@@ -35,8 +35,8 @@ IsOwnDeck form deck = own_deck form ≡ Some deck
 abbrev pub AskToRead : List (String Global) → Type 0
 AskToRead words = (form : Form) × AskFor form words × ReadsSource form
 
--- the form's deck is accepted, and this is its project: the source's, which was read to its end, or its own, and then nothing
--- was read
+-- the form's deck is accepted, and this is its project: the source's, which was read to its end, or the form's own, for
+-- which nothing was read
 pub data HasProjectFor {X : Type 0} (form : Form) (source : Side X) (project : Project) : Type 0 where
   project_read : ReadsSource form → HasProjectBy (IsMadeAs (sort_of form)) source project → HasProjectFor form source project
   project_owned : (deck : List ℕ) → IsOwnDeck form deck → IsUntouched source → IsMadeAs (sort_of form) deck project → HasProjectFor form source project

@@ -1,5 +1,5 @@
--- The table of the forms: the words of each, its name in the usage line, which texts answer it for a project, and with which
--- faults it refuses the project of an accepted deck.
+-- The table of the forms: the words of each, its name in the usage line, which texts answer it for a project, and the
+-- faults with which it refuses the project of an accepted deck.
 use Rattle.std.specs.Prelude.{◌≡◌, ℕ, ◌^◌, ◌<◌, ◌≤◌, ⊤, List, [], ◌∷◌, get_or, codes, decimal}
 use Rattle.pc_faults.specs.declared.fault.Fault.{Fault}
 use Rattle.pc_reports.specs.Check.{check_text}
@@ -54,7 +54,7 @@ pub record IsAskedBy (form : Form) (words : List (List ℕ)) : Type 0 where
   pub are : words ≡ form_words form
   pub numbered : IsNumbered form
 
--- the forms, in the order of the usage line; one with a number stands for all its numbers
+-- the forms, in the order of the usage line; a form with a number represents all its numbers
 abbrev pub forms : List Form
 forms = Check ∷ Normal ∷ Times ∷ Summary ∷ Value ∷ Curve ∷ Certify ∷ Point 0 ∷ Outlook 0 ∷ Bench 0 ∷ Migrate ∷ Optimum ∷ Arrows ∷ Load 0 ∷ []
 
@@ -67,13 +67,13 @@ form_name (Load days) = codes "load P"
 form_name form = get_or (form_words form) 0 []
 
 -- the text answers the form: `check` with the project's code and the counts of its cards, `normal` with the schedule at
--- the all-normal length, `times` with the times of the events and the critical path, `summary` with what the accounts add up
--- to by item and by level, `value` with the forecast and what the work is worth, `curve` with the breakpoints of the
--- time-cost curve, `certify` with a certified text of the whole time-cost curve, whose two walks are the picked ones, `point`
--- with a schedule of least cost for the length, `outlook` with such a schedule and what each item costs by it, `bench` with
--- the figures of the curve of its own deck, `migrate` with the text of the deck in its one form,
--- `optimum` with the length for which the project costs least in all and a schedule for it, `arrows` with the text of the plan's
--- deck in its one form, `load` with what is spent by item and taken by resource in each period
+-- the all-normal length, `times` with the times of the events and the critical path, `summary` with the sums of the
+-- accounts by item and by level, `value` with the forecast and the value of the work, `curve` with the breakpoints of
+-- the time-cost curve, `certify` with a certified text of the complete time-cost curve, whose two walks are the picked
+-- ones, `point` with a schedule of least cost for the length, `outlook` with such a schedule and what each item costs
+-- by it, `bench` with the figures of the curve of its own deck, `migrate` with the text of the deck in canonical form,
+-- `optimum` with the length of least total cost and a schedule for it, `arrows` with the text of the plan's deck in
+-- canonical form, `load` with what is spent by item and used by resource in each period
 abbrev pub IsTextOf : Form → Project → List ℕ → Type 0
 IsTextOf Check project text = text ≡ check_text project
 IsTextOf Normal project text = IsNormalText project text
@@ -90,7 +90,7 @@ IsTextOf Optimum project text = IsOptimumText project text
 IsTextOf Arrows project text = IsDeckText project text
 IsTextOf (Load days) project text = IsLoadText project days text
 
--- a deck has one text that answers the form; of least schedules, and of certificates, there may be several
+-- a deck has only one text that answers the form; there may be several least schedules and certificates
 abbrev pub HasOneText : Form → Type 0
 HasOneText Certify = ⊥
 HasOneText (Point limit) = ⊥
@@ -98,8 +98,8 @@ HasOneText (Outlook limit) = ⊥
 HasOneText Optimum = ⊥
 HasOneText _ = ⊤
 
--- the form refuses the project with the fault: `point` and `outlook` where the length lies outside the range of the project,
--- `load` where the project takes too many periods
+-- the form refuses the project with the fault: `point` and `outlook` if the length is outside the range of the project,
+-- `load` if the project takes too many periods
 abbrev pub IsDenial : Form → Project → Fault → Type 0
 IsDenial (Point limit) project fault = IsOutside (priced_in project) limit fault
 IsDenial (Outlook limit) project fault = IsOutside (priced_in project) limit fault

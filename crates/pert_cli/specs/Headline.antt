@@ -1,4 +1,4 @@
--- What the program exists for: the whole time-cost curve of an accepted deck, printed with what proves it.
+-- The purpose of the program: the complete time-cost curve of an accepted deck, printed with its proof.
 use Rattle.std.specs.Prelude.{◌≡◌, ℕ, List}
 use Rattle.pc_cert.specs.declared.line.CertLine.{CertLine}
 use Rattle.pc_cert.specs.Reader.{IsWhole}
@@ -8,9 +8,9 @@ use Rattle.pc_project.specs.shell.Priced.{priced_of}
 use Rattle.pc_project.specs.shell.Sides.{Side, Took}
 use Rattle.pc_project.specs.shell.Verdict.{IsAccepted}
 
--- the bytes are those of an accepted deck, and the output took a text that prints the whole time-cost curve of its network: for every
--- length from the all-crash to the all-normal length a schedule of that length, what it costs, that none costs less, and why. The text is
--- that of no other lines, so these are what it says
+-- the bytes are those of an accepted deck, and the output took a text that prints the complete time-cost curve of its
+-- network: for every length from the all-crash to the all-normal length a schedule of that length, its cost, that none
+-- costs less, and why. The text is that of no other lines, so these are what it states
 pub record TookWholeCurve {X : Type 0} (out : Side X) (bytes : List ℕ) : Type 0 where
   pub deck : Deck
   pub accepted : IsAccepted bytes deck

@@ -1,4 +1,4 @@
--- What `migrate` leaves: a deck of the same project, which is its own text.
+-- What `migrate` writes: a deck of the same project, whose own `migrate` text is itself.
 use Rattle.std.specs.Prelude.{◌≡◌, ℕ, List}
 use Rattle.pc_project.specs.deck_text.Same.{SayTheSame}
 use Rattle.pc_project.specs.deck_text.Written.{IsDeckText, migrated}

@@ -1,5 +1,4 @@
--- The answer to `optimum`: the length for which the project costs least in all, what shows that, and a schedule of least cost for
--- it.
+-- The answer to `optimum`: the length of least total cost, what shows that, and a schedule of least cost for it.
 use Rattle.std.specs.Prelude.{◌≡◌, ℕ, List, ◌++◌}
 use Rattle.pc_model.specs.declared.TimeTerms.{TimeTerms}
 use Rattle.pc_crash.specs.Priced.{PricedNetwork}
@@ -14,7 +13,7 @@ use Rattle.pert_cli.specs.Normal.{Printed}
 use Rattle.pc_curve.specs.Range.{IsRange}
 use Rattle.pert_cli.specs.Point.{IsCheapest}
 
--- the optimum of a network's curve with these terms of time, and a schedule for its length that costs what is said of it
+-- the optimum of a network's curve with these terms of time, and a schedule for its length at the stated cost
 pub record IsOptimumWith (net : PricedNetwork) (terms : TimeTerms) (best : Best) (printed : Printed) : Type 0 where
   pub shortest : ℕ
   pub longest : ℕ

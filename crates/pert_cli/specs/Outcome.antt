@@ -1,4 +1,4 @@
--- What a run means and leaves behind, by its status.
+-- What a run means and has done, by its status.
 use Rattle.std.specs.Prelude.{ℕ, List, String}
 use Rattle.std.specs.declared.alloc.Global.{Global}
 use Rattle.pc_faults.specs.declared.fault.Fault.{Fault}
@@ -40,7 +40,7 @@ pub record IsRefused {S E : Type 0} (words : List (String Global)) (source : Sid
   pub refusal : IsTurnedDown form source fault
   pub took : Took err (fault_text fault)
 
--- the words ask for a form, and a fault of the output came when it had taken a front of the answer
+-- the words ask for a form, and a fault of the output occurred when it had taken a front of the answer
 pub record IsAnswerCut {S O : Type 0} (words : List (String Global)) (source : Side S) (out : Side O) : Type 0 where
   pub form : Form
   pub asked : AskFor form words
@@ -57,7 +57,8 @@ pub record IsFaultCut {S E : Type 0} (words : List (String Global)) (source : Si
   pub refusal : IsTurnedDown form source fault
   pub took : TookFront err (fault_text fault)
 
--- where a write fault came: in the answer, in the line of a fault, or in the usage line. The other output is as it was
+-- where a write fault occurred: in the answer, in the line of a fault, or in the usage line. The other output is
+-- unchanged
 pub data IsCut {S O E : Type 0} (words : List (String Global)) (source : Side S) (out : Side O) (err : Side E) : Type 0 where
   in_answer : IsAnswerCut words source out → IsUntouched err → IsCut words source out err
   in_fault : IsFaultCut words source err → IsUntouched out → IsCut words source out err

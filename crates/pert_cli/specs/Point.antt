@@ -12,7 +12,7 @@ use Rattle.pert_cli.specs.Normal.{Printed, printed_text}
 
 -- ---- the range
 
--- the length is none of the network, and the fault names it and the two ends of the range
+-- the length is outside the network's range, and the fault names it and the two ends of the range
 pub record IsOutside (net : PricedNetwork) (limit : ℕ) (fault : Fault) : Type 0 where
   pub shortest : ℕ
   pub longest : ℕ

@@ -63,7 +63,7 @@ impl SolverTask for Cheapest {
     }
 }
 
-/// Returns a schedule of least cost for a length, to which the solver comes down.
+/// Returns a schedule of least cost for a length that the solver can reach.
 pub(crate) fn cheapest_at<L: Ledger>(
     alloc: Global,
     solver: &mut Solver<'_>,

@@ -24,7 +24,7 @@ use pc_project::shell::{NoProject, load_deck, project_in};
 use pc_tasks::drawn_project;
 use std::alloc::Global;
 
-/// Returns the project of a form's deck: its own deck, and then nothing is read, or the source's.
+/// Returns the project of a form's deck: the form's own, for which nothing is read, or the source's.
 ///
 /// The bytes of the source's deck are left in `deck`, because the answer may use their memory.
 pub(crate) fn project_for<S: Source>(

@@ -1,4 +1,4 @@
-//! The table of the forms: what the words can ask for, and what answers it.
+//! The table of the forms: what the words can ask for, and where the answer is built.
 //!
 //! A form has a variant of `Form`, its name in `usage`, a line with its word in `of_one_word` or `of_two_words`, and
 //! one in `report`, where its report is built and delivered.
@@ -41,7 +41,7 @@ pub(crate) fn usage() -> &'static [u8]
 
 /// What the words can ask for, in the order of the usage line.
 ///
-/// A variant is named after its word. `tools/command-files` takes the first line of its comment into completion, and
+/// A variant is named after its word. `tools/command-files.py` takes the first line of its comment into completion, and
 /// the rest into the manual page.
 #[derive(Clone, Copy)]
 pub(crate) enum Form {
@@ -115,8 +115,8 @@ pub(crate) enum Form {
     ///
     /// Reads a deck of tasks, which has TASK cards, and AFTER cards that say which task begins only after which other
     /// has ended. Writes a deck in the form of `migrate` with an activity for each task, between two events of its own,
-    /// and links between them that take no time and cost nothing. The deck has a schedule of a length exactly if the
-    /// tasks have one, and the least costs are equal.
+    /// and links between them that take no time and cost nothing. The deck has a schedule of a length if and only if
+    /// the tasks have one, and the least costs are equal.
     Arrows,
     /// Spending and resources by periods of days.
     ///

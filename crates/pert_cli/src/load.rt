@@ -23,7 +23,7 @@ pub(crate) struct LoadReport {
 }
 
 impl LoadReport {
-    /// Returns the report with periods of so many days.
+    /// Returns the report with periods of `days` days.
     ///
     /// # Errors
     ///

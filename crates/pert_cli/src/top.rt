@@ -104,7 +104,7 @@ pub fn run<S: Source, O: Sink, E: Sink>(
     ensures read_fault_within { result ≡ 4 → TookAtMost longest_deck (side S.left S.faults source.old source.new) }
     ensures read_fault_only { result ≡ 4 → (out.new ≡ out.old) × (err.new ≡ err.old) }
 
-    // 5: a fault of `out` or `err` came in the answer, the line of a fault or the usage line.
+    // 5: a fault of `out` or `err` occurred in the answer, the line of a fault or the usage line.
     ensures write_fault { result ≡ 5 → IsCut words.now (side S.left S.faults source.old source.new)
         (side O.taken O.faults out.old out.new) (side E.taken E.faults err.old err.new) }
 
@@ -117,8 +117,8 @@ pub fn run<S: Source, O: Sink, E: Sink>(
         → OfBytes (side S.left S.faults source.old source.new)
         (λ bytes. (RefusedAs (sort_of form) bytes → ⊥) → AcceptedAs (sort_of form) bytes ⊎ (result ≡ 3)) }
 
-    // An accepted deck has one answer to each form that does not print a schedule of least cost, of which there may be
-    // several: two texts that answer for projects of the same bytes are equal.
+    // An accepted deck has only one answer to each form that does not print a schedule of least cost (there may be
+    // several of those): two texts that answer for projects of the same bytes are equal.
     ensures one_text { (form : TheForm) (bytes : List ℕ) (project other_project : TheProject) (text other : List ℕ) →
         HasOneText form → IsMadeAs (sort_of form) bytes project → IsMadeAs (sort_of form) bytes other_project
         → IsTextOf form project text → IsTextOf form other_project other → text ≡ other }

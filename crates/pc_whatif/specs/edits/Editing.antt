@@ -24,7 +24,7 @@ pub record Editing : Type 0 where
 abbrev pub edited_plan : Editing → Plan
 edited_plan editing = record { terms = editing.net.terms; estimates = editing.estimates }
 
--- the same project with other numbers, and other plans kept
+-- the same project with other numbers and other kept plans
 abbrev pub editing_with : Editing → Plan → List Plan → Editing
 editing_with editing plan kept = record editing {
   net = record editing.net { terms = plan.terms };
@@ -51,7 +51,8 @@ edited editing edit =
     option_map_or (λ a. editing_with editing (plan_with edit.change a (edited_plan editing)) (keep_last MAX_KEPT (editing.kept ++ edited_plan editing ∷ [])))
     (activity_named editing.net edit.act) editing
 
--- the project after an UNDO: its numbers are those before the latest kept edit, which is no longer kept; as it is where none is
+-- the project after an UNDO: its numbers are those before the latest kept edit, which is no longer kept; unchanged if
+-- no edit is kept
 abbrev pub undone : Editing → Editing
 undone editing =
     option_map_or (λ plan. editing_with editing plan (take (length editing.kept - 1) editing.kept)) (last_item editing.kept) editing

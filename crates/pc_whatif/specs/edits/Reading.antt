@@ -1,4 +1,4 @@
--- The ask that a line spells, read word by word.
+-- The request in a line, read word by word.
 use Rattle.std.specs.Prelude.{ℕ, nat_lt, List, length, take, drop, Option, Some, None, bytes_eq, codes, if◌then◌else◌}
 use Rattle.pc_text.specs.Fields.{◌>>=◌, run_len, code_field, number_field, alone}
 use Rattle.pc_text.specs.declared.number.TheConstants.{DECK_DIGITS}
@@ -64,6 +64,6 @@ ask_with word fields =
     else if bytes_eq word (codes "CURVE") then alone fields ask.Curve
     else None
 
--- the ask that a line spells: its first word goes up to the first space
+-- the request in a line: its first word goes up to the first space
 unfoldable pub ask_of : List ℕ → Option Ask
 ask_of line = if nat_lt MAX_LINE (length line) then None else ask_with (take (run_len 32 line) line) (drop (run_len 32 line) line)

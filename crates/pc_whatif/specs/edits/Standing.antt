@@ -9,7 +9,7 @@ use Rattle.pc_whatif.specs.declared.edits.TheConstants.{MAX_KEPT}
 use Rattle.pc_whatif.specs.edits.Plans.{Plan, plan_with}
 use Rattle.pc_whatif.specs.edits.Editing.{Editing, activity_named, begun, editing_with, edited_plan}
 
--- the edits that were accepted and not taken back, in order, and how many of the last of them are kept for UNDO
+-- the edits that were accepted and not reverted, in order, and how many of the last of them are kept for UNDO
 pub record Journal : Type 0 where
   pub standing : List Edit
   pub kept : ℕ
@@ -40,7 +40,8 @@ abbrev pub plans_before : PricedNetwork → List Edit → Plan → List Plan
 plans_before net [] plan = []
 plans_before net (edit ∷ edits) plan = plan ∷ plans_before net edits (plan_with edit.change (activity_of_edit net edit) plan)
 
--- the project of a deck with the edits of a journal standing: applied in order, and of those that are kept the plans before each
+-- the project of a deck with the edits of a journal in effect: applied in order, with the plan before each of the kept
+-- ones
 abbrev pub standing_of : Project → Journal → Editing
 standing_of project journal =
     editing_with (begun project) (plan_after (priced_in project) journal.standing (edited_plan (begun project)))

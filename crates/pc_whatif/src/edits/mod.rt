@@ -187,7 +187,8 @@ fn put(net: &mut CrashNet<'_>, estimates: &mut [Estimates], a: u32, change: &Cha
 impl Edits<'_> {
     /// Applies an edit, keeps the replaced numbers for UNDO, and returns the activity.
     ///
-    /// If `MAX_KEPT` edits are kept, the oldest is kept no longer; it still stands. Linear in the activity's pieces.
+    /// If `MAX_KEPT` edits are kept, the oldest is no longer kept; it remains in effect. Linear in the activity's
+    /// pieces.
     ///
     /// # Errors
     ///
@@ -250,7 +251,7 @@ impl Edits<'_> {
         }
     }
 
-    /// Takes back the latest kept edit and returns its activity.
+    /// Reverts the latest kept edit and returns its activity.
     ///
     /// # Errors
     ///

@@ -96,7 +96,7 @@ impl SessionRegion {
         )
     }
 
-    // Returns the region for a network with so many pieces, with these expected times and variances.
+    // Returns the region for a network with this many pieces, with these expected times and variances.
     fn build_from(
         alloc: Global,
         net: &Net,
@@ -181,7 +181,7 @@ impl SessionRegion {
         &present(&self.region).list(self.spans.path_cells)[..self.path_len]
     }
 
-    /// Sets the expected time and the variance of an activity from these estimates, in units of so many days.
+    /// Sets the expected time and the variance of an activity from these estimates, in units of `unit_days` days.
     ///
     /// The times of events stay: call `renew` before you read them.
     pub(crate) fn set_estimates(&mut self, a: u32, estimates: &Estimates, unit_days: u64)
@@ -303,7 +303,7 @@ struct Spans {
     path_cells: Span,
 }
 
-/// Takes the spans for so many events and activities from a region that has none yet.
+/// Takes the spans for this many events and activities from a region that has none yet.
 fn take_spans(region: &mut Region, events: usize, activities: usize) -> Spans
     requires events { 0 < events }
     requires activities { 0 < activities }

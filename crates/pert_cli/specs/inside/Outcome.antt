@@ -1,4 +1,4 @@
--- What a run means and leaves behind, by its status.
+-- What a run means and has done, by its status.
 -- Here is what no clause of a top call and no law reaches.
 use Rattle.std.specs.Prelude.{List, String}
 use Rattle.std.specs.declared.alloc.Global.{Global}
@@ -12,7 +12,7 @@ use Rattle.pert_cli.specs.FormDeck.{AskToRead}
 use Rattle.pert_cli.specs.inside.FormDeck.{IsLeftBy}
 use Rattle.pert_cli.specs.Outcome.{IsDone, IsRefused, IsCut}
 
--- what a run that ended with the status means and leaves behind
+-- what a run that ended with the status means and has done
 pub data Outcome {S O E : Type 0} (words : List (String Global)) (source : Side S) (out : Side O) (err : Side E) : Status → Type 0 where
   done : IsDone words source out → IsUntouched err → Outcome words source out err Done
   refused : IsRefused words source err → IsUntouched out → Outcome words source out err Refused

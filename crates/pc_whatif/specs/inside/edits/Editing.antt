@@ -33,14 +33,14 @@ pub record MayTry (net : PricedNetwork) (tried : ActTerm) : Type 0 where
   pub limits : AreWithinLimits (net_trying net tried).terms
   pub pieces : ArePieces (net_trying net tried).terms net.pieces
 
--- the numbers fit, now and in each plan that is kept, and no more plans are kept than may be
+-- the numbers fit, now and in each kept plan, and no more plans are kept than allowed
 pub record IsEditing (editing : Editing) : Type 0 where
   pub fit : IsFitPlan editing.net.network editing.net.pieces (edited_plan editing)
   pub kept_fit : All (IsFitPlan editing.net.network editing.net.pieces) editing.kept
   pub few : length editing.kept ≤ MAX_KEPT
   pub unit_days : editing.unit_days ≤ MAX_UNIT_DAYS
 
--- all is as it was but for the numbers of activity a, and what is kept
+-- only the numbers of activity a and the kept plans differ
 pub record ChangesOnly (old new : Editing) (a : ℕ) : Type 0 where
   pub activity : a < length old.net.network.arcs
   pub net : new.net ≡ record old.net { terms = slice_set old.net.terms a (term_at new.net.terms a) }

@@ -58,8 +58,8 @@ editing_in edits = record {
 abbrev pub edits_from : Inside → Edits
 edits_from edits = record { editing = editing_in edits; trial = trial_in edits.aside edits.net.terms }
 
--- the numbers fit, now and in each plan that is kept; there is room for as many edits as may be kept, and those that are and the term that was
--- put aside are of activities
+-- the numbers fit, now and in each kept plan; there is capacity for as many edits as may be kept, and the kept edits
+-- and the term that a trial set aside belong to activities
 pub record IsSoundEdits (edits : Inside) : Type 0 where
   pub editing : IsEditing (editing_in edits)
   pub room : edits.kept.capacity ≡ MAX_KEPT

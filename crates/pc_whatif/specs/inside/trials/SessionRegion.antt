@@ -33,7 +33,7 @@ pub record IsRegionFor (net : Network) (r : SessionRegion) : Type 0 where
   pub tails : length r.tails ≡ net.events
   pub path_cells : length r.path_cells ≡ net.events
 
--- the times are those of the expected times that are kept with them
+-- the times are those for the expected times that are stored with them
 pub record IsStanding (net : Network) (r : SessionRegion) : Type 0 where
   pub early : AreEarly net r.expected r.early
   pub tails : AreTails net r.expected r.tails

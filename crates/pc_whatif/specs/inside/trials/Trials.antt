@@ -18,7 +18,7 @@ HasCells net region = trial_cells net.network.events (length net.network.arcs) (
 abbrev pub HasTrialCells : PricedNetwork → SessionRegion → Type 0
 HasTrialCells net r = trial_cells net.network.events (length net.network.arcs) (length net.pieces) ≤ r.free
 
--- how many looks a trial may take at most: four at each activity for each unit by which the slope can rise and the length come
--- down
+-- the most looks that a trial may take: four at each activity for each unit that the slope can rise and the length can
+-- decrease
 abbrev pub looks_over : PricedNetwork → ℕ → ℕ
 looks_over net units = 4 * length net.network.arcs * (slopes_in net + units)
