@@ -112,7 +112,7 @@ fn books_what_counts(rt: HostRuntime) {
     assert!(rt; books_what_is_due(rt.alloc()) == Some(true));
 }
 
-/// Whether so many of the largest charges add up.
+/// Whether this many of the largest charges add up.
 fn is_summed(book: &Book) -> bool
     requires { length book.now ≡ 2 }
 {

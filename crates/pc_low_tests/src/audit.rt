@@ -71,7 +71,7 @@ const VERDICTS: &[(&[u8], Verdict)] = &[
     ),
 ];
 
-// The first of these texts of which something else is found, or none.
+// The first of these texts that gets another verdict, or none.
 fn first_wrong(alloc: Global, net: &CrashNet<'_>) -> Option<usize> {
     for (i, &(text, verdict)) in VERDICTS.iter().enumerate() {
         let is_found = found(alloc, net, text) == Some(verdict);

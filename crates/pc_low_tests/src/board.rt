@@ -4,8 +4,9 @@ use pc_flow::board::Board;
 use std::alloc::{AllocError, Global};
 use std::rt::HostRuntime;
 
-// Two events and one activity, with the start labelled first, then the other event by a step along the activity.
-// When the activity begins to wait, nothing is kept of when it stops; at a place of the list it waits for 3 units more.
+// Two events and one activity, with the start labelled first, then the other event by a step along the activity. When
+// the activity begins to wait, it has no sum of steps before which it does not stop; at a place of the list it waits
+// for 3 units more.
 fn is_entered(alloc: Global) -> Result<bool, AllocError> {
     let region = Region::with_cells(alloc, 22)?;
     let mut board = Board::new(region, 2, 1);

@@ -1,5 +1,5 @@
-//! How a test tells which of its cases is wrong. The prover follows each way out of an assertion, and what it prints:
-//! so the tests of tables ask here, where that is proved once.
+//! How a test reports which of its cases is wrong. The prover follows each way out of an assertion, and what it prints,
+//! so the tests of tables use this function, where that is proved once.
 use std::alloc::AllocError;
 use std::process::Abort;
 

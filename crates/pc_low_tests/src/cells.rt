@@ -6,8 +6,8 @@ use pc_cells::{Region, RegionFull, Span};
 use std::alloc::{AllocError, Global};
 use std::rt::HostRuntime;
 
-// Whether a region of 10 cells answers as it must while spans of 4 and 5 are taken, 2 more are refused, and 1 is taken
-// and given back.
+// Whether a region of 10 cells returns what it must while spans of 4 and 5 are taken, 2 more are refused, and 1 is
+// taken and returned.
 fn are_spans_kept(region: &mut Region) -> bool
     requires { region.old ≡ record { capacity = 10; spans = [] } }
 {

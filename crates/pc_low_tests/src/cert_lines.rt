@@ -1,4 +1,4 @@
-//! Lines as they are spelled, and the order in which they come.
+//! The text of lines, and the order in which they come.
 use crate::cases::expect_none;
 use pc_cert::{CertLine, Place};
 use pc_edges::lines::line_len;
@@ -121,7 +121,7 @@ fn nothing_else_is_a_line(rt: HostRuntime) {
     expect_none(&rt, first_mistaken());
 }
 
-// Where the first line ends of a hundred bytes of which none ends a line, then the last one, the thirty-sixth and the
+// Where the first line of a hundred bytes ends: if no byte ends a line, if the last one does, the thirty-sixth and the
 // first; and of no bytes.
 fn ends() -> [usize; 5] {
     let mut text = [b'x'; 100];
@@ -139,7 +139,7 @@ fn a_line_ends_at_its_first_end(rt: HostRuntime) {
     assert!(rt; ends() == [100, 99, 35, 0, 0]);
 }
 
-// A line behind those before it, and whether it may stand there.
+// A line after those before it, and whether it may be there.
 const LINES: &[(&[u8], bool)] = &[
     (b"NORMAL", false),
     (b"CERT 1 E 2 1", true),
@@ -160,7 +160,7 @@ const LINES: &[(&[u8], bool)] = &[
     (b"END", false),
 ];
 
-// Whether these bytes are a line that may stand at this place, which goes behind it then; none where they are no line.
+// Whether these bytes are a line that may be at this place, which then moves past it; none if they are no line.
 fn stands(place: &mut Place, bytes: &[u8]) -> Option<bool> {
     let line = CertLine::read(bytes)?;
     let Some(behind) = place.next(&line) else {
@@ -170,7 +170,7 @@ fn stands(place: &mut Place, bytes: &[u8]) -> Option<bool> {
     Some(true)
 }
 
-// The first of these lines that is not told so at this place and those behind it, or none.
+// The first of these lines for which this place and the ones after it give another result, or none.
 fn first_wrong(place: &mut Place, lines: &[(&[u8], bool)]) -> Option<usize> {
     for i in 0..lines.len() {
         let (bytes, may) = lines[i];
@@ -181,7 +181,7 @@ fn first_wrong(place: &mut Place, lines: &[(&[u8], bool)]) -> Option<usize> {
     None
 }
 
-// The same of all these lines, and their number where the place behind them is not the last.
+// The same for all these lines, and their number if the place after them is not the last.
 fn first_wrong_of_all() -> Option<usize> {
     let mut place = Place::Start;
     let wrong = first_wrong(&mut place, LINES);

@@ -22,7 +22,7 @@ pub(crate) fn joined(alloc: Global, parts: &[&[u8]]) -> Result<Vec<u8>, AllocErr
     Ok(text)
 }
 
-// How many lines a text gives that comes in pulls of so many bytes, and which one is malformed or missing; 0 for none.
+// How many lines a text gives in pulls of `pull` bytes, and which one is malformed or missing; 0 for none.
 fn read(text: &[u8], pull: usize) -> (u64, u64)
     requires { pull ≤ 4096 }
 {
@@ -56,7 +56,7 @@ fn read(text: &[u8], pull: usize) -> (u64, u64)
     }
 }
 
-// The second segment with a line of an event that is spelled wrongly, though it begins as that of the first does.
+// The second segment with a line of an event in a wrong form, though it begins as that of the first does.
 const PADDED: &[u8] = b"SEGMENT 7 5 51 7\nEVENT S 0 0\nEVENT M 02 0\nEVENT T 7 1\n";
 
 const OPEN: &[u8] = b"SEGMENT 7 5 51 7\nEVENT S 0 0\nEVENT M 2 00\nEVENT T 7 1\n";
@@ -88,7 +88,7 @@ fn is_read(
     Ok(read(&text, pull) == found)
 }
 
-// The first of these texts that is read otherwise in pulls of so many bytes, or none.
+// The first of these texts that is read otherwise in pulls of `pull` bytes, or none.
 fn first_misread(alloc: Global, pull: usize) -> Result<Option<usize>, AllocError>
     requires { pull ≤ 4096 }
 {
@@ -144,7 +144,7 @@ fn a_line_is_told_by_its_bytes(rt: HostRuntime) {
     assert!(rt; told_again() == Some([12, 0, 0]));
 }
 
-// Whether the first line of a text is read, and the reader is behind it then.
+// Whether the first line of a text is read, and the reader is then after it.
 fn is_fed() -> bool {
     let mut reader = CertReader::begin();
     let fed = reader.feed(b"CERT 1 E1 3 3\nNORMAL\n");

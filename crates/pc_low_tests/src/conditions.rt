@@ -108,13 +108,13 @@ const FLOWS: &[(&[u8], &[u8], u64)] = &[
     (ONE_UNIT, b"4 0 0\n", 8),
 ];
 
-// Whether this is why the line of these flows fails behind this text, or why it does not.
+// Whether this is why the line of these flows fails after this text, or why it does not.
 fn is_found(alloc: Global, before: &[u8], flows: &[u8], reason: u64) -> bool {
     let at = if reason == 0 { 19 } else { 18 };
     found(alloc, &[BEGUN, before, flows]) == Some((at, reason))
 }
 
-// The first of these flows of which something else is found, or none.
+// The first of these flows with another result, or none.
 fn first_wrong_flows(alloc: Global) -> Option<usize> {
     for (i, &(before, flows, reason)) in FLOWS.iter().enumerate() {
         if !is_found(alloc, before, flows, reason) {
@@ -134,8 +134,8 @@ const HEAD: &[u8] = b"CERT 2 A 3 3\nNORMAL\nSTEP C\nCRASH\nSTEP C\n";
 
 const ONE: &[u8] = b"SEGMENT 12 12 60 0\nEVENT A 0 0\nEVENT B 4 0\nEVENT C 12 0\n";
 
-// The second segment, in which the first activity is shortened from 4 to 2, the third, in which it is to 1, and the
-// fourth.
+// The second segment, in which the first activity is shortened from 4 to 2, the third, in which it is shortened to 1,
+// and the fourth.
 const SECOND: &[u8] =
     b"SEGMENT 9 7 66 5\nEVENT A 0 0\nEVENT B 4 1\nEVENT C 9 1\nACT A 4 3 0 0\nACT B 5 3 0\nACT C 9 2 0\nCLOSE\n";
 
@@ -145,12 +145,12 @@ const THIRD: &[u8] =
 const FOURTH: &[u8] =
     b"SEGMENT 6 3 86 11\nEVENT A 0 0\nEVENT B 1 0\nEVENT C 6 1\nACT A 1 3 5 1\nACT B 5 9 0\nACT C 6 2 0\nCLOSE\n";
 
-// The parts of a text, and the first line that fails and why; where nothing else does, the line behind the last is
+// The parts of a text, and the first line that fails and why; if no other line fails, the line after the last is
 // missing.
 const TEXTS: &[(&[&[u8]], (u64, u64))] = &[
     (&[BEGUN, SECOND, THIRD, FOURTH, b"END\n"], (0, 4)),
-    // it stops where its gap at the lower end is crash, or at a knee that it comes to: from 4 to 2, from 2 to 1 and
-    // from 5 to 4, but not from 4 to 3 nor from 6 to 5
+    // it stops if its gap at the lower end is crash, or a knee that it reaches: from 4 to 2, from 2 to 1 and from 5 to
+    // 4, but not from 4 to 3 nor from 6 to 5
     (&[BEGUN, SECOND], (22, 0)),
     (&[BEGUN, SECOND, THIRD], (30, 0)),
     (
@@ -218,7 +218,7 @@ ACT A 1 3 5 999999999999999999\nACT B 5 9 0\nACT C 6 2 0\nCLOSE\n",
     (&[HEAD, ONE, b"ACT A 4 1 0 0\n"], (10, 15)),
 ];
 
-// The first of these texts of which something else is found, or none.
+// The first of these texts with another result, or none.
 fn first_wrong_text(alloc: Global) -> Option<usize> {
     for (i, &(parts, want)) in TEXTS.iter().enumerate() {
         if found(alloc, parts) != Some(want) {

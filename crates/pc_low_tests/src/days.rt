@@ -1,20 +1,20 @@
-//! The dates of a deck as day numbers, and what is no date.
+//! The dates of a deck as day numbers, and texts that are no date.
 use crate::cases::expect_none;
 use pc_days::{DayError, date_of_sixths, day_text, days_between, read_day};
 
-/// Whether the day of this date is spelled so.
+/// Whether the day of this date has this text.
 fn is_spelled(date: &[u8]) -> Option<bool> {
     let day = read_day(date).ok()?;
     Some(day_text(day).as_slice() == date)
 }
 
-/// How many days lie between two dates, and whether the first one is the earlier one.
+/// How many days are between two dates, and whether the first one is the earlier one.
 fn between(first: &[u8], second: &[u8]) -> Option<(i64, bool)> {
     let (first, second) = (read_day(first).ok()?, read_day(second).ok()?);
     Some((days_between(first, second), first < second))
 }
 
-// Two dates, how many days lie between them, and whether the first is the earlier one.
+// Two dates, how many days are between them, and whether the first is the earlier one.
 const SPANS: &[(&[u8], &[u8], (i64, bool))] = &[
     (b"1970-01-01", b"2024-02-29", (19_782, true)),
     (b"2024-02-29", b"1970-01-01", (-19_782, false)),
@@ -71,7 +71,7 @@ fn refuses_other_fields(rt: HostRuntime) {
     expect_none(&rt, first_other(OUTSIDE, DayError::Years));
 }
 
-/// How many days behind its start a date is at so many sixths, or none where it is out of print.
+/// How many days after its start a date of this many sixths is, or none if it is not printed.
 fn days_of_sixths(sixths: i32) -> Option<Option<i64>> {
     let start = read_day(b"2024-02-28").ok()?;
     match date_of_sixths(start, i64::from(sixths)) {
@@ -80,7 +80,7 @@ fn days_of_sixths(sixths: i32) -> Option<Option<i64>> {
     }
 }
 
-// Sixths of a day behind 2024-02-28, and how many whole days that is, or none where the date is out of print.
+// Sixths of a day after 2024-02-28, and how many complete days that is, or none if the date is not printed.
 const SIXTHS: &[(i32, Option<i64>)] = &[
     (-6, Some(-1)),
     (-5, Some(0)),

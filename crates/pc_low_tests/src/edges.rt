@@ -14,7 +14,7 @@ use std::{env, fs, io};
 
 const TEXT: &[u8] = b"breadboard";
 
-/// Which pulls fail, the most that a pull gives, and what four pulls of up to four bytes answer.
+/// Which pulls fail, the most that a pull gives, and what four pulls of up to four bytes return.
 const PULLS: &[(&[u64], usize, &[Result<usize, Failed>])] = &[
     (&[], 9, &[Ok(4), Ok(4), Ok(2), Ok(0)]),
     (&[], 3, &[Ok(3), Ok(3), Ok(3), Ok(1)]),
@@ -23,8 +23,8 @@ const PULLS: &[(&[u64], usize, &[Result<usize, Failed>])] = &[
     (&[4], 4, &[Ok(4), Ok(4), Ok(2), Err(Failed)]),
 ];
 
-/// What of a text is left behind a pull that gives this answer; none where the pull answers or gives something else, or
-/// where a pull into no buffer does not answer 0.
+/// What is left of a text after a pull that returns this; none if the pull returns or gives something else, or if a
+/// pull into no buffer does not return 0.
 fn left_behind<'t>(
     source: &mut MemSource,
     text: &'t [u8],
@@ -41,7 +41,7 @@ fn left_behind<'t>(
     }
 }
 
-/// Whether a source gives these answers and the bytes of the text.
+/// Whether a source returns this and gives the bytes of the text.
 fn gives(source: &mut MemSource, answers: &[Result<usize, Failed>]) -> bool {
     let mut text = TEXT;
     for &answer in answers {
@@ -53,7 +53,7 @@ fn gives(source: &mut MemSource, answers: &[Result<usize, Failed>]) -> bool {
     true
 }
 
-/// The first of these cases in which a pull answers or gives something else, or none.
+/// The first of these cases in which a pull returns or gives something else, or none.
 fn first_wrong_pulls(alloc: Global) -> Result<Option<usize>, AllocError> {
     for (i, &(failing, piece, answers)) in PULLS.iter().enumerate() {
         let mut source = MemSource::new(alloc, TEXT, piece.max(1), failing)?;
@@ -69,13 +69,13 @@ fn mem_source_pulls(rt: HostRuntime) {
     expect_ok_none(&rt, first_wrong_pulls(rt.alloc()));
 }
 
-/// Pushes to a sink with room for five bytes.
+/// Pushes to a sink with capacity for five bytes.
 struct Pushes {
     /// Which calls fail.
     failing: &'static [u64],
     /// The most that a push takes.
     piece: usize,
-    /// What two pushes of what is left answer, then a flush, and then a third push.
+    /// What two pushes of what is left return, then a flush, and then a third push.
     answers: &'static [Result<usize, Failed>],
     flushed: Result<(), Failed>,
     last: Result<usize, Failed>,
@@ -134,7 +134,7 @@ const PUSHES: &[Pushes] = &[
     },
 ];
 
-/// Whether a push of what a sink has not taken of the text gives this answer, and a push of nothing 0.
+/// Whether a push of what a sink has not taken of the text returns this, and a push of nothing 0.
 fn takes(sink: &mut MemSink, answer: Result<usize, Failed>) -> bool {
     let at = sink.bytes().len();
     at <= TEXT.len() && sink.push(&[]) == Ok(0) && sink.push(&TEXT[at..]) == answer
@@ -155,7 +155,7 @@ fn has_bytes(sink: &MemSink, bytes: &[u8]) -> bool {
     sink.bytes() == bytes
 }
 
-/// Whether the pushes and the flush give these answers, and these bytes are taken.
+/// Whether the pushes and the flush return these, and these bytes are taken.
 fn are_pushed(sink: &mut MemSink, pushes: &Pushes) -> bool {
     let is_begun = takes_each(sink, pushes.answers);
     let is_flushed = sink.flush() == pushes.flushed;
@@ -163,7 +163,7 @@ fn are_pushed(sink: &mut MemSink, pushes: &Pushes) -> bool {
     is_begun & is_flushed & is_ended & has_bytes(sink, pushes.bytes)
 }
 
-/// The first of these cases in which a push or the flush answers something else, or other bytes are taken, or none.
+/// The first of these cases in which a push or the flush returns something else, or other bytes are taken, or none.
 fn first_wrong_pushes(alloc: Global) -> Result<Option<usize>, AllocError> {
     for (i, pushes) in PUSHES.iter().enumerate() {
         let mut sink = MemSink::new(alloc, 5, pushes.piece.max(1), pushes.failing)?;
@@ -224,8 +224,8 @@ fn load_reads_to_the_end(rt: HostRuntime) {
     assert!(rt; is_nothing_loaded(rt.alloc()) == Some(true));
 }
 
-/// Which pushes fail, the room of the sink, how a push of the whole text ends, and what the sink took. Four bytes at a
-/// push.
+/// Which pushes fail, the capacity of the sink, how a push of the complete text ends, and what the sink took. Four
+/// bytes per push.
 const WHOLE_PUSHES: &[(&[u64], usize, Result<(), Failed>, &[u8])] = &[
     (&[], 11, Ok(()), TEXT),
     (&[], 10, Ok(()), TEXT),
@@ -295,7 +295,7 @@ impl Write for FailingStream {
     }
 }
 
-/// What four pulls of up to so many bytes answer.
+/// What a pull into no buffer and three pulls of up to four bytes return.
 fn four_pulls<S: Source>(source: &mut S) -> [Result<usize, Failed>; 4] {
     let mut buffer = [0u8; 4];
     [
@@ -312,7 +312,7 @@ fn is_stream_loaded(alloc: Global) -> bool {
     loaded(alloc, &mut source, 10, TEXT) == Ok(true)
 }
 
-/// Whether four pulls off a stream whose second turn fails give these answers.
+/// Whether four pulls from a stream whose second turn fails return these.
 fn is_faulty_read() -> bool {
     let answers = four_pulls(&mut ReadSource::new(FailingStream { turn: 0 }));
     answers == [Ok(0), Ok(1), Err(Failed), Ok(0)]
@@ -324,19 +324,19 @@ fn read_source_reads(rt: HostRuntime) {
     assert!(rt; is_faulty_read());
 }
 
-/// Whether a sink takes a whole text and its flush.
+/// Whether a sink takes a complete text and its flush.
 fn takes_all<O: Sink>(sink: &mut O, text: &[u8]) -> bool {
     push_all(sink, text).is_ok() && sink.flush().is_ok()
 }
 
-/// Whether a sink over a stream writes a whole text and no more.
+/// Whether a sink over a stream writes a complete text and no more.
 fn is_written(alloc: Global, text: &[u8]) -> bool {
     let mut out = Vec::new(alloc);
     takes_all(&mut WriteSink::new(&mut out), text) && out.as_slice() == text
 }
 
-/// Whether a push of nothing, one of a text, a flush and a push of the text again give these answers on a stream whose
-/// second turn fails.
+/// Whether a push of nothing, one of a text, a flush and a push of the text again return these on a stream whose second
+/// turn fails.
 fn is_faulty_written(text: &[u8]) -> bool {
     let mut sink = WriteSink::new(FailingStream { turn: 0 });
     sink.push(&[]) == Ok(0)
@@ -378,8 +378,8 @@ fn file_source_reads(rt: HostRuntime) {
     assert!(rt; is_missing(&rt));
 }
 
-/// What two pulls of the text answer, whether they and a load of up to six bytes give all of it, and what a pull
-/// answers then.
+/// What two pulls of the text return, whether they and a load of up to six bytes give all of it, and what a pull
+/// returns then.
 fn pulled_surely(
     alloc: Global,
 ) -> (
@@ -397,13 +397,13 @@ fn pulled_surely(
     (nothing, four, is_front, is_rest, source.pull(&mut buffer))
 }
 
-/// Whether a sink takes the whole text and counts its bytes.
+/// Whether a sink takes the complete text and counts its bytes.
 fn is_counted() -> bool {
     let mut sink = SureSink::new();
     takes_all(&mut sink, TEXT) & (sink.count() == 10)
 }
 
-/// Pulls fill their buffers, and pushes take their pieces whole.
+/// Pulls fill their buffers, and pushes take their pieces completely.
 #[test]
 fn sure_edges_never_fail(rt: HostRuntime) {
     assert!(rt; pulled_surely(rt.alloc()) == (Ok(0), Ok(4), true, true, Ok(0)));

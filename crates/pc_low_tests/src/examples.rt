@@ -1,5 +1,5 @@
 //! The examples in the doc comments of low crates: each function has the lines that the comment shows, and each test
-//! sees that they return true. `tests/docs/examples` compares them.
+//! sees that they return true. `tests/docs/examples.py` compares them.
 ghost use Rattle.std.specs.Prelude.{◌≡◌, [], length, IfSome};
 ghost use Rattle.pc_crash.specs.inside.Steps.{IsBlankOf};
 

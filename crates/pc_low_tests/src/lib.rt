@@ -1,5 +1,5 @@
-//! Tests of the public calls of low crates, a module a crate, and two for each that reads or checks certificates. They
-//! stand in a crate that has nothing else, since a crate with tests is proved twice.
+//! Tests of the public calls of low crates, one module per crate, and two for each that reads or checks certificates.
+//! They are in a crate that has nothing else, since a crate with tests is proved twice.
 #![tactic(auto)]
 
 #[cfg(test)]

@@ -66,7 +66,7 @@ fn builds_a_network(rt: HostRuntime) {
     assert!(rt; is_built(rt.alloc()));
 }
 
-/// Why a network is refused, with the activity or the event and its side; a cycle is told without its activities.
+/// Why a network is refused, with the activity or the event and its side; a cycle is reported without its activities.
 #[derive(Clone, Copy, PartialEq)]
 enum Cause {
     None,
@@ -135,7 +135,7 @@ fn names_the_first_cause(rt: HostRuntime) {
     expect_none(&rt, first_wrong_cause(rt.alloc()));
 }
 
-/// 2 to 3 to 2 and 4 to 5 to 4; the first activity leads from the one cycle to the other, and lies on none.
+/// 2 to 3 to 2 and 4 to 5 to 4; the first activity leads from the one cycle to the other, and is on none.
 const fn two_cycles() -> [Arc; 7] {
     [
         arc(3, 4),

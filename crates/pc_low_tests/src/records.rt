@@ -28,7 +28,7 @@ fn spell_rows(
     Ok(())
 }
 
-// Whether the records of a deck are spelled so.
+// Whether the records of a deck have this text.
 fn is_spelled(alloc: Global, deck: &[u8], want: &[u8]) -> Result<bool, AllocError> {
     let mut rows = RowReader::new(alloc, deck);
     let mut row = Row::with_capacity(alloc, 8, 2)?;

@@ -46,7 +46,7 @@ fn pieces(rt: HostRuntime) {
     assert!(rt; found == wanted);
 }
 
-// What is kept where 1, 3, 4, 6 and 8 units flow: the third unit is the last on the first knee.
+// The next and the last unit if 1, 3, 4, 6 and 8 units flow: the third unit is the last on the first knee.
 #[test]
 fn next_and_last(rt: HostRuntime) {
     let found = [
@@ -81,7 +81,7 @@ fn rooms(rt: HostRuntime) {
     assert!(rt; found == [3, 2, u64::MAX - 6, 3, 2, 2]);
 }
 
-/// What flows at the two knees and beside them.
+/// What flows at the two knees and on the crash duration.
 fn filling(flow: u64) -> [u64; 3] {
     [
         flow_at(&TWO, flow, 0),

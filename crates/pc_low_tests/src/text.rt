@@ -31,7 +31,7 @@ fn are_kept(alloc: Global, first: Code, second: Code) -> Result<bool, AllocError
     Ok(seen.insert(first)? & seen.insert(second)? & seen.contains(&first))
 }
 
-/// Whether two codes are listed with the later one first, and kept in a set.
+/// Whether two codes are listed with the later one first, and in a set.
 fn are_together(alloc: Global, code: Code, later: Code) -> Result<bool, AllocError> {
     Ok(are_listed(alloc, &[later, code])? & are_kept(alloc, code, later)?)
 }
@@ -118,7 +118,7 @@ const NUMBERS: &[(&[u8], Option<u64>)] = &[
     (b"1x", None),
 ];
 
-/// The first field of which another number is read, or none.
+/// The first field that is read as another number, or none.
 fn first_wrong_number() -> Option<usize> {
     for (i, &(field, number)) in NUMBERS.iter().enumerate() {
         if read_number(field) != number {
@@ -180,7 +180,7 @@ fn wide_numbers(rt: HostRuntime) {
     expect_none(&rt, first_wrong_wide());
 }
 
-/// Whether two pieces are on a line, with this much room behind them and, without them, at first.
+/// Whether two pieces are on a line, with this capacity left after them and, without them, at first.
 fn takes_pieces(line: &mut Line) -> bool
     requires bytes { line.old.bytes ≡ [] }
     requires room { line.old.room ≡ 16 }

@@ -77,7 +77,7 @@ enum TreeFound {
     Other,
 }
 
-/// The same of what building a tree returned.
+/// The same for what building a tree returned.
 fn found_in(built: &Result<Tree, TreeError>) -> TreeFound {
     match built {
         Ok(tree) => TreeFound::Depth(tree.depth()),

@@ -1,4 +1,4 @@
-//! The benchmark's deck of four activities and what is said of its curve, both worked by hand.
+//! The benchmark's deck of four activities and the figures of its curve, both worked by hand.
 ghost use Rattle.std.specs.Prelude.{◌≡◌, ◌≤◌, [], length, IfSome};
 ghost use Rattle.pc_crash.specs.inside.Steps.{IsBlankOf};
 

@@ -23,7 +23,7 @@ pub(crate) fn solver<'n>(alloc: Global, net: &'n CrashNet<'n>) -> Result<Solver<
     Ok(Solver::begin(Region::with_cells(alloc, cells)?, net))
 }
 
-/// The ends, the cost and the slope of each segment of a curve that has no more than five; zeros behind the last.
+/// The ends, the cost and the slope of each segment of a curve with at most five; zeros after the last.
 fn segments<L: Ledger>(solver: &mut Solver<'_>, blank: Blank) -> [[u64; 4]; 5]
     requires { IsBlankOf L.name L.parts blank.name blank.parts }
 {
@@ -70,7 +70,7 @@ fn segments_of_pieces(rt: HostRuntime) {
 }
 
 /// The range of a curve; of its first segment the time and moving bit of event 1, the duration of activity 0, its flows
-/// at the first knee and beside the knees, and its whole flow; and how many cells are free at last.
+/// at the first knee and on the crash duration, and its total flow; and how many cells are free at last.
 fn first<L: Ledger>(alloc: Global, net: &CrashNet<'_>, blank: Blank) -> Result<[u64; 9], AllocError>
     requires blank { IsBlankOf L.name L.parts blank.name blank.parts }
     requires pieces { length net.now.pieces ≤ 1 }
@@ -106,7 +106,7 @@ fn first_segment_of_pieces(rt: HostRuntime) {
     assert!(rt; small_first(rt.alloc()) == Some([9, 5, 4, 1, 4, 3, 0, 3, 60]));
 }
 
-/// Two activities run to event 1, of which the first is shortened for nothing, and from there one that cannot be
+/// Two activities lead to event 1, the first of which is shortened at no cost, and from there one that cannot be
 /// shortened and one that takes no time.
 fn parallel_net(alloc: Global) -> Option<Net>
     ensures events { IfSome result (λ net. net.events ≡ 3) }

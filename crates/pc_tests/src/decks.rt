@@ -1,5 +1,5 @@
-//! Small decks are read, and their project made. What the getters give is said by their contracts, and seen in the
-//! texts of whole decks.
+//! Small decks are read, and their projects made. Contracts say what the getters return, and the texts of complete
+//! decks show it.
 ghost use Rattle.std.specs.Prelude.{◌≤◌, length};
 
 use crate::projects::asked;

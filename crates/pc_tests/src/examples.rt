@@ -1,5 +1,5 @@
 //! The examples in the doc comments of calls on a deck and on the time-cost curve: each function has the lines that the
-//! comment shows, and each test sees that they return true. `tests/docs/examples` compares them.
+//! comment shows, and each test sees that they return true. `tests/docs/examples.py` compares them.
 ghost use Rattle.std.specs.Prelude.{◌≡◌, [], length};
 ghost use Rattle.pc_crash.specs.inside.Steps.{IsBlankOf};
 

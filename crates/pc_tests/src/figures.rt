@@ -23,8 +23,7 @@ const SUMMARY: SummaryAmounts = SummaryAmounts {
     overrun: 5,
 };
 
-/// Whether the second item stands in the summary at its level, and the first item and the second level have these
-/// amounts.
+/// Whether the second item is in the summary at its level, and the first item and the second level have these amounts.
 fn is_summary(alloc: Global, project: &Project) -> bool {
     let entries = project.book().entries();
     let tree = project.tree();
@@ -59,8 +58,7 @@ const OUTLOOK: OutlookAmounts = OutlookAmounts {
     change: 14,
 };
 
-/// Whether the third item stands in the outlook at its level, and the first one is going to cost this where the
-/// activity costs 24.
+/// Whether the third item is in the outlook at its level, and the first one will cost this if the activity costs 24.
 fn is_outlook(alloc: Global, project: &Project) -> Option<bool> {
     let entries = project.book().entries();
     let (tree, places) = (project.tree(), project.places());

@@ -1,8 +1,8 @@
-//! Tests of the public calls of crates that are long to prove. They stand in a crate that has nothing else, since a
-//! crate with tests is proved twice.
+//! Tests of the public calls of crates that are long to prove. They are in a crate that has nothing else, since a crate
+//! with tests is proved twice.
 //!
-//! Each test function is proved too, and one that keeps several values with memory is long to prove: so a helper makes
-//! what is asked, asks it, and answers plain numbers.
+//! Each test function is proved too, and one that has several values with memory is long to prove, so a helper makes
+//! the value, calls it, and returns plain numbers.
 #![tactic(auto)]
 
 #[cfg(test)]

@@ -4,7 +4,7 @@ use pc_names::Names;
 use pc_text::{Code, digits};
 use std::alloc::{AllocError, Global};
 
-/// The code that spells a number, which every number has.
+/// The code for a number, which every number has.
 fn code(number: u64) -> Option<Code> {
     Code::read(digits(number).bytes())
 }
@@ -14,7 +14,7 @@ fn is_added_once(names: &mut Names, code: &Code) -> Result<bool, AllocError> {
     Ok(names.place_of(code).is_none() & names.add(code)? & !names.add(code)?)
 }
 
-/// Whether each of so many codes is added once.
+/// Whether each of this many codes is added once.
 fn are_added(names: &mut Names, count: u64) -> Result<bool, AllocError> {
     for number in 0..count {
         let Some(code) = code(number) else {
@@ -27,7 +27,7 @@ fn are_added(names: &mut Names, count: u64) -> Result<bool, AllocError> {
     Ok(true)
 }
 
-/// Whether each of so many codes is found at its place.
+/// Whether each of this many codes is found at its place.
 fn are_found(names: &Names, count: usize) -> bool {
     for number in 0..count {
         let Some(code) = code(number as u64) else {
@@ -40,7 +40,7 @@ fn are_found(names: &Names, count: usize) -> bool {
     true
 }
 
-/// Whether so many codes are added, found, listed, and found in the names of their list.
+/// Whether this many codes are added, found, listed, and found in the names of their list.
 fn are_kept(alloc: Global, count: usize) -> Result<[bool; 4], AllocError> {
     let mut names = Names::new(alloc, 7);
     let is_added = are_added(&mut names, count as u64)?;

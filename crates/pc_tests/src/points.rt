@@ -29,7 +29,7 @@ const BREAKS: &[Break] = &[
     },
 ];
 
-/// The first of these breakpoints that does not come next, or none.
+/// The first of these breakpoints that is not the next one, or none.
 fn first_wrong_break<L: Ledger>(
     breaks: &mut Breaks,
     solver: &mut Solver<'_>,

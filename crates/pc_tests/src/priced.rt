@@ -39,7 +39,7 @@ fn has_codes(priced: &CrashNet<'_>, codes: [Code; 3]) -> bool
 
 const KNEES: &[Knee] = &[Knee { at: 4, rise: 3 }, Knee { at: 3, rise: 3 }];
 
-/// Whether these are the knees of activity 0, and its first one is told alone.
+/// Whether these are the knees of activity 0, and the call for the first knee returns it.
 fn has_knees(priced: &CrashNet<'_>) -> bool
     requires { 0 < length priced.now.network.arcs }
 {
@@ -58,8 +58,8 @@ fn has_gaps(priced: &CrashNet<'_>) -> bool
     (priced.gap(&[0, 4, 9], 0) == 4) & (priced.gap(&[3, 1, 0], 0) == -2)
 }
 
-/// Whether durations are a schedule where the events are at 0, 4 and 9: these are for a length of 9, but not for 8; nor
-/// are those of which one does not fit, or is below its crash duration.
+/// Whether durations are a schedule if the events are at 0, 4 and 9: these are for a length of 9, but not for 8; nor
+/// are those in which one does not fit, or is below its crash duration.
 fn has_schedules(priced: &CrashNet<'_>) -> [bool; 4]
     requires events { priced.now.network.events ≡ 3 }
     requires activities { length priced.now.network.arcs ≡ 3 }
@@ -99,7 +99,7 @@ fn prices_of_a_network(rt: HostRuntime) {
     expect_all(&rt, &are_told(rt.alloc()).unwrap_or([false; 10]));
 }
 
-/// Whether a look tells the ends and the terms of activity 1, and one knee.
+/// Whether a look gives the ends and the terms of activity 1, and one knee.
 fn is_told(look: &Look<'_>) -> bool {
     (look.from == 1)
         & (look.to == 2)
@@ -109,7 +109,7 @@ fn is_told(look: &Look<'_>) -> bool {
         & (look.knees.len() == 1)
 }
 
-/// Whether this is what a look at activity 1 tells.
+/// Whether this is what a look at activity 1 gives.
 fn is_looked_at<L: Ledger>(net: &CrashNet<'_>, blank: Blank) -> bool
     requires blank { IsBlankOf L.name L.parts blank.name blank.parts }
     requires activity { 1 < length net.now.network.arcs }

@@ -1,5 +1,5 @@
-//! What a small deck and its project answer. A function that lets a project go is long to prove, so they are asked in
-//! one place.
+//! What a small deck and its project return. A function that drops a project is long to prove, so all is asked in one
+//! place.
 ghost use Rattle.std.specs.Prelude.{◌≤◌, length};
 
 use crate::figures::has_figures;
@@ -7,7 +7,7 @@ use pc_deck::read_cards;
 use pc_project::{Project, deck_text_of, project_of};
 use std::alloc::{AllocError, Global};
 
-/// What a deck answers that is read, and its project, if it makes one.
+/// What a deck returns after it is read, and its project, if it makes one.
 #[derive(Clone, Copy)]
 pub(crate) struct DeckFacts {
     /// Whether the deck's text is the expected one.
@@ -18,16 +18,16 @@ pub(crate) struct DeckFacts {
     pub(crate) figures: Option<[bool; 4]>,
 }
 
-/// Whether a text is the expected one; none for want of memory.
+/// Whether a text is the expected one; none if memory ran out.
 fn is_same(text: Result<Vec<u8>, AllocError>, expected: &[u8]) -> Option<bool> {
     Some(text.ok()?.as_slice() == expected)
 }
 
-/// A project is let go here alone.
+/// A project is dropped only here.
 fn let_go(_project: Project) {}
 
-/// What the deck and its project answer, where these texts are expected of the deck and, again, of the project; none
-/// where the deck is refused.
+/// What the deck and its project return, if these texts are expected of the deck and, again, of the project; none if
+/// the deck is refused.
 pub(crate) fn asked(alloc: Global, deck: &[u8], text: &[u8], again: &[u8]) -> Option<DeckFacts>
     requires { length deck.now ≤ 1000 }
 {

@@ -9,8 +9,8 @@ use std::alloc::Global;
 const TEXT: &[u8] =
     b"LENGTH 9\nCOST 45\nEVENT S 0\nEVENT M 4\nEVENT T 9\nACT A 4\nACT B 5\nACT C 7\n";
 
-/// What a write of the schedule on such a page to such a sink answers, and how much of the text the sink took: none
-/// where it took something else.
+/// What a write of the schedule on such a page to such a sink returns, and how much of the text the sink took: none if
+/// it took something else.
 fn written(
     alloc: Global,
     room: usize,
@@ -37,8 +37,8 @@ fn written(
     Some((answer, sink.bytes().len()))
 }
 
-/// Room in the sink, room on the page, the calls that fail, the answer, and how much of the text is written. A page of
-/// 64 bytes is pushed when 63 stand on it, then with the other 8, and then comes the flush.
+/// Capacity of the sink, capacity of the page, the calls that fail, the result, and how much of the text is written. A
+/// page of 64 bytes is pushed when it has 63, then with the other 8, and then the sink is flushed.
 const CASES: &[(usize, usize, &[u64], Result<(), Failed>, usize)] = &[
     (200, 1000, &[], Ok(()), 71),
     (200, 1000, &[2], Err(Failed), 71),

@@ -21,8 +21,8 @@ fn tree(alloc: Global) -> Option<Tree>
     Tree::build(alloc, &rows).ok()
 }
 
-/// Whether these are the least slacks where activities 0 and 2 stand on item 1 and activity 1 on item 2, the latest
-/// times are those for an end at 84, and the activities are expected to be finished at 30, 78 and 48.
+/// Whether these are the least slacks if activities 0 and 2 are on item 1 and activity 1 on item 2, the latest times
+/// are those for an end at 84, and the activities are expected to be finished at 30, 78 and 48.
 fn are_least(alloc: Global, slacks: &[Option<i64>]) -> Option<bool> {
     let net = small_net(alloc)?;
     let tree = tree(alloc)?;

@@ -1,5 +1,5 @@
-//! The small network: activities 0 and 1 follow one another over event 1, and activity 2 runs beside them. The second
-//! unit by which activity 0 is shortened costs 6.
+//! The small network: activities 0 and 1 follow one another over event 1, and activity 2 runs alongside both. The
+//! second unit saved of activity 0 costs 6.
 ghost use Rattle.std.specs.Prelude.{◌≡◌, length, IfSome};
 ghost use Rattle.pc_tests.specs.declared.small.TheConstants.{TERMS};
 

@@ -1,4 +1,4 @@
-//! A small deck of tasks is read, and the plan of arrows drawn of it.
+//! A small deck of tasks is read, and the plan of arrows is generated from it.
 ghost use Rattle.std.specs.Prelude.{◌≤◌, length};
 
 use pc_deck::read_tasks;
@@ -22,7 +22,7 @@ fn are_drawn_as(alloc: Global, deck: &[u8], text: &[u8]) -> Option<bool>
 {
     let cards = read_tasks(alloc, deck).ok()?;
     let drawn = arrows_of(alloc, &cards).ok();
-    // (let go in one place, since a function that drops all cards is long to prove)
+    // (dropped in one place, since a function that drops all cards is long to prove)
     drop(cards);
     Some(drawn?.as_slice() == text)
 }

@@ -44,7 +44,7 @@ fn is_critical(alloc: Global, net: &Net, lengths: [u8; 3], path: &[u32]) -> Opti
     Some(found.as_slice() == path)
 }
 
-// In the second both walks take 5 units, and activity 0 stands before activity 2.
+// In the second both walks take 5 units, and activity 0 is before activity 2.
 fn walks_of(alloc: Global, net: &Net) -> Option<[bool; 6]>
     requires events { net.now.events ≡ 3 }
     requires activities { length net.now.arcs ≡ 3 }

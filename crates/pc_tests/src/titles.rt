@@ -71,7 +71,7 @@ fn are_told(alloc: Global, deck: &[u8]) -> Option<bool>
     let cards = read_cards(alloc, deck).ok()?;
     let project = project_of(alloc, cards).ok()?;
     let are_told = has_titles(&project) & has_activity(&project);
-    // (let go in one place, since a function that drops a project is long to prove)
+    // (dropped in one place, since a function that drops a project is long to prove)
     drop(project);
     Some(are_told)
 }

@@ -6,8 +6,8 @@ use crate::testing::{
 use pc_curve::bench::{MOST_ACTIVITIES, bench_deck};
 use std::alloc::{AllocError, Global};
 
-// Words that ask for the curve of the deck with so many activities, with the status, the output and the error output
-// that they give. The deck is not read. tests/acceptance has small ones.
+// Words that ask for the curve of the deck with this many activities, with the status, the output and the error output
+// that they give. The deck is not read. tests/acceptance/run.sh has small ones.
 const FIGURES: &[(&[&str], &str, u8, &str, &str)] = &[(
     &["bench", "400"],
     "",
@@ -51,7 +51,7 @@ fn is_certified(alloc: Global, deck: &[u8]) -> Result<bool, AllocError> {
     Ok(written.is_accepted() & passes(alloc, deck, written.out())?)
 }
 
-// Whether this is so for the benchmark's deck of so many activities.
+// Whether this holds for the benchmark's deck of `n` activities.
 fn is_bench_certified(alloc: Global, n: u64) -> Result<bool, AllocError> {
     let deck = bench_deck(alloc, n.clamp(1, MOST_ACTIVITIES))?;
     is_certified(alloc, &deck)

@@ -1,4 +1,4 @@
-//! Checks of certificates over sources and sinks in memory: what each status leaves behind.
+//! Checks of certificates over sources and sinks in memory, and their results by status.
 
 use crate::testing::{Edges, SMALL, WHOLE, check_of, expect_ok_none, leaves};
 use std::alloc::{AllocError, Global};
@@ -40,7 +40,7 @@ const CHECKS: &[(&[&[u8]], u8, &[u8])] = &[
     ),
 ];
 
-/// The first of these checks that leaves another thing than it must in pulls of so many bytes, or none.
+/// The first of these checks with a wrong result in pulls of `pulled` bytes, or none.
 fn first_wrong_check(alloc: Global, pulled: usize) -> Result<Option<usize>, AllocError> {
     let edges = Edges { pulled, ..SMALL };
     for (i, &(parts, status, line)) in CHECKS.iter().enumerate() {

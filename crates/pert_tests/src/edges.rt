@@ -76,7 +76,7 @@ pub(crate) fn task_of(row: &CallRow) -> (Task<'static>, Edge, u64) {
     (task, edge, pulls)
 }
 
-/// The first of these calls of which a pull that fails leaves another thing than it must, or none.
+/// The first of these calls with a wrong result when one of its pulls fails, or none.
 fn first_wrong_by_pull(alloc: Global) -> Result<Option<usize>, AllocError> {
     for (i, row) in RUNS.iter().enumerate() {
         let (task, edge, pulls) = task_of(row);
@@ -92,7 +92,7 @@ fn each_pull_fails(rt: HostRuntime) {
     expect_ok_none(&rt, first_wrong_by_pull(rt.alloc()));
 }
 
-/// The first of these calls of which a push that fails leaves another thing than it must, or none.
+/// The first of these calls with a wrong result when one of its pushes fails, or none.
 fn first_wrong_by_push(alloc: Global) -> Result<Option<usize>, AllocError> {
     for (i, row) in RUNS.iter().enumerate() {
         let (task, _, _) = task_of(row);

@@ -1,5 +1,5 @@
 //! The examples in the doc comments of `Session::begin` and `run`: each function has the lines that the comment shows,
-//! and each test sees that they return true. `tests/docs/examples` compares them.
+//! and each test sees that they return true. `tests/docs/examples.py` compares them.
 ghost use Rattle.std.specs.Prelude.{◌≤◌, length};
 ghost use Rattle.pc_crash.specs.inside.Steps.{IsBlankOf};
 
@@ -26,14 +26,14 @@ fn answer_lines<L: Ledger>(alloc: Global, project: &Project, blank: Blank) -> Op
     Some(out.bytes() == b"OK\n9 45 5\n7 55 11\n5 77 -\n".as_slice())
 }
 
-/// The answers on the project of a deck, or none where the deck is refused.
+/// The answers on the project of a deck, or none if the deck is refused.
 fn answer_lines_on(alloc: Global, deck: &[u8]) -> Option<bool>
     requires { length deck.now ≤ 1000 }
 {
     let cards = read_cards(alloc, deck).ok()?;
     let project = project_of(alloc, cards).ok()?;
     let are_answered = answer_lines::<Brand>(alloc, &project, Blank::new(1));
-    // (let go in one place, since a function that drops a project is long to prove)
+    // (dropped in one place, since a function that drops a project is long to prove)
     drop(project);
     are_answered
 }

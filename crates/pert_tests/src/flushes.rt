@@ -1,4 +1,4 @@
-//! A session flushes each answer before it pulls more lines: who writes a line waits for its answer.
+//! A session flushes each answer before it pulls more lines: the writer of a line may wait for its answer.
 
 use crate::sessions::{ANSWERS, LINES};
 use crate::testing::{WHOLE, owned};
@@ -7,8 +7,8 @@ use pc_whatif::session_run;
 use std::alloc::{AllocError, Global};
 use std::cell::Cell;
 
-/// A source that gives the lines of a session, one a pull, as somebody does who writes a line when the answer to the
-/// one before is seen.
+/// A source that gives the lines of a session, one per pull, like a user who writes a line after seeing the answer to
+/// the one before.
 ///
 /// It counts the pulls that come before all answers to its lines were flushed, or when more was.
 #[derive(Drop)]
@@ -37,7 +37,7 @@ impl<'a> Source for Asker<'a> {
     }
 }
 
-/// A sink that tells how many bytes it took before its last flush.
+/// A sink that shows how many bytes it took before its last flush.
 #[derive(Drop)]
 struct Listener<'a> {
     taken: SureSink,

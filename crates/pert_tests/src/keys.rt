@@ -1,4 +1,4 @@
-//! What a top call leaves does not depend on the key of the hash by which names are looked up; without a key the deck
+//! The result of a top call does not depend on the key of the hash by which names are looked up; without a key the deck
 //! is not read.
 
 use crate::edges::{RUNS, task_of};

@@ -1,5 +1,5 @@
-//! Tests of the top calls, `run`, `check_run` and `session_run`, on decks and edges in memory. They stand in a crate
-//! that has nothing else, since a crate with tests is proved twice.
+//! Tests of the top calls, `run`, `check_run` and `session_run`, on decks and edges in memory. They are in a crate that
+//! has nothing else, since a crate with tests is proved twice.
 #![tactic(auto)]
 
 #[cfg(test)]

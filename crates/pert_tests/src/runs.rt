@@ -1,4 +1,4 @@
-//! Runs over sources and sinks in memory: what each status leaves behind.
+//! Runs over sources and sinks in memory, and their results by status.
 
 use crate::testing::{
     Edges, SMALL, TASKS, Task, UNREADABLE, WHOLE, expect_ok_none, first_wrong_run, leaves, left_by,
@@ -6,7 +6,7 @@ use crate::testing::{
 };
 use std::alloc::{AllocError, Global};
 
-// Two activities that go round beside the way from the start to the end.
+// Two activities that form a cycle next to the way from the start to the end.
 const ROUND: &str = "PROJECT,P,S,T,2024-01-01,1,,\n\
 WBS,1,,\n\
 EVENT,S,\n\
@@ -33,7 +33,7 @@ RESOURCES\n";
 const NO_PROJECT: &str = "F3 record 1: first card is not PROJECT\n";
 
 // Words that ask for a form and a deck, with the status, the output and the error output that they give. The texts of
-// the forms are compared in tests/acceptance, and what failing edges leave of them in `edges`.
+// the forms are compared in tests/acceptance/run.sh, and what failing edges leave of them in `edges`.
 const RUNS: &[(&[&str], &str, u8, &str, &str)] = &[
     (&["load", "7"], WHOLE, 0, LOADED, ""),
     (&["check"], "END\n", 1, "", NO_PROJECT),
@@ -53,7 +53,7 @@ fn answers_or_refuses_decks(rt: HostRuntime) {
     expect_ok_none(&rt, first_wrong_run(rt.alloc(), SMALL, RUNS));
 }
 
-// Words that ask for no form, or for a benchmark of which there is no deck.
+// Words that ask for no form, or for a benchmark that has no deck.
 const WORDS: &[&[&str]] = &[
     &["NORMAL"],
     &["normal", "check"],

@@ -1,5 +1,5 @@
-//! What-if sessions over sources and sinks in memory: what each status leaves behind, and calls of each edge that fail
-//! in turn.
+//! What-if sessions over sources and sinks in memory: their results by status, and calls of each edge that fail in
+//! turn.
 
 use crate::testing::{
     Edges, SMALL, Task, UNREADABLE, WHOLE, expect_ok_none, failing_push, leaves, leaves_all,
@@ -33,7 +33,7 @@ pub(crate) const ANSWERS: &[&[u8]] = &[
     b"9 45 3\n7 51 7\n5 65 -\n",
 ];
 
-/// Whether the lines are answered in pulls of so many bytes.
+/// Whether the lines are answered in pulls of `pulled` bytes.
 fn are_answered(alloc: Global, pulled: usize) -> Result<bool, AllocError> {
     let lines = LINES.concat(alloc)?;
     let answers = ANSWERS.concat(alloc)?;
@@ -108,15 +108,15 @@ fn failing_at(pull: usize) -> Edges {
     }
 }
 
-/// Whether the session leaves status 4 and the answers to the lines that were given in full where the next pull fails.
+/// Whether the session ends with status 4 and the complete answers to the given lines if the next pull fails.
 fn is_unread_after(alloc: Global, task: &Task<'_>, given: &[u8]) -> Result<bool, AllocError> {
     let answers = answers_to(alloc, given)?;
     let edges = failing_at(given.len().saturating_add(1));
     leaves(alloc, task, edges, 4, &answers, b"")
 }
 
-/// Lets each pull of the lines fail in turn, where each gives a byte, and the one after them, which the session does
-/// not come to. Returns whether each leaves what it must: the last what the session leaves without a failure.
+/// Lets each pull of the lines fail in turn, with one byte per pull, and then the pull after them, which the session
+/// does not make. Returns whether each has the right result: the last one that of the session without a failure.
 fn stops_at_each_line(alloc: Global, lines: &[u8]) -> Result<bool, AllocError> {
     let task = session_of(&["deck"], WHOLE, lines);
     for given in 0..=lines.len() {
@@ -150,9 +150,9 @@ fn taken_before(alloc: Global) -> Result<Vec<usize>, AllocError> {
     Ok(all)
 }
 
-/// Lets each push and each flush of the answers fail in turn, and the call after them, which the session does not come
-/// to. Returns whether each failure leaves status 5 and what the calls before took, and the last run what the session
-/// leaves without a failure.
+/// Lets each push and each flush of the answers fail in turn, and then the call after them, which the session does not
+/// make. Returns whether each failure gives status 5 and what the calls before took, and the last run the result of the
+/// session without a failure.
 fn stops_at_each_call(
     alloc: Global,
     task: &Task<'_>,

@@ -1,4 +1,4 @@
-//! What the tests share: a small deck with its answers, and what a program leaves of edges in memory of which a call
+//! What the tests share: a small deck with its answers, and the result of a program on edges in memory with a call that
 //! fails.
 
 use pc_audit::check_run;
@@ -142,7 +142,7 @@ pub(crate) const SMALL: Edges = Edges {
     failing_push: 0,
 };
 
-/// Edges of which nothing can be read.
+/// Edges from which nothing can be read.
 pub(crate) const UNREADABLE: Edges = Edges {
     failing_deck: 1,
     failing_second: 1,
@@ -253,14 +253,14 @@ pub(crate) fn owned(alloc: Global, words: &[&str]) -> Result<Vec<String>, AllocE
     Ok(owned)
 }
 
-/// An edge of which the calls fail in turn.
+/// An edge whose calls fail in turn.
 #[derive(Clone, Copy)]
 pub(crate) enum Edge {
     Deck,
     Second,
 }
 
-/// The small edges, of which this pull fails.
+/// The small edges, with this pull failing.
 fn failing_pull(edge: Edge, pull: u64) -> Edges {
     match edge {
         Edge::Deck => Edges {
@@ -274,8 +274,8 @@ fn failing_pull(edge: Edge, pull: u64) -> Edges {
     }
 }
 
-/// Lets each of so many pulls fail in turn, and then the one after them, which the task does not come to. Returns
-/// whether each failure leaves status 4 and nothing written, and the last run what the task leaves without a failure.
+/// Lets each of `pulls` pulls fail in turn, and then the one after them, which the task does not make. Returns whether
+/// each failure gives status 4 and nothing written, and the last run the result of the task without a failure.
 pub(crate) fn stops_at_each_pull(
     alloc: Global,
     task: &Task<'_>,
@@ -290,7 +290,7 @@ pub(crate) fn stops_at_each_pull(
     leaves_all(alloc, task, failing_pull(edge, pulls.saturating_add(1)))
 }
 
-/// The small edges, of which this push or flush fails, on each output.
+/// The small edges, with this push or flush failing, on each output.
 pub(crate) fn failing_push(call: u64) -> Edges {
     Edges {
         failing_push: call,
@@ -298,7 +298,7 @@ pub(crate) fn failing_push(call: u64) -> Edges {
     }
 }
 
-/// What so many pushes take of a text.
+/// What this many pushes take of a text.
 fn front(text: &[u8], pushes: usize) -> &[u8] {
     let taken = pushes.saturating_mul(SMALL.pushed).min(text.len());
     &text[..taken]
@@ -320,8 +320,8 @@ fn is_cut_after(
 }
 
 /// Lets each push and the flush of what a task writes fail in turn, and then the call after them, which it does not
-/// come to. Returns whether each failure leaves status 5 and what the calls before took of the text, and the last run
-/// what the task leaves without a failure.
+/// make. Returns whether each failure gives status 5 and what the calls before took of the text, and the last run the
+/// result of the task without a failure.
 fn is_cut_at_each_push(alloc: Global, task: &Task<'_>, whole: &Left) -> Result<bool, AllocError> {
     let longest = whole.out.bytes().len().max(whole.err.bytes().len());
     let pushes = longest.div_ceil(SMALL.pushed);

@@ -9,7 +9,8 @@ use pc_project::{Project, project_of};
 use pc_whatif::Session;
 use std::alloc::{AllocError, Global};
 
-/// How many cells a session has before and after it answers a line so many times, and how many bytes it answers in all.
+/// How many cells a session has before and after it answers a line this many times, and how many bytes it answers in
+/// all.
 #[derive(Clone, Copy, Debug, PartialEq)]
 struct Cells {
     before: usize,
@@ -43,7 +44,7 @@ fn cells_on(alloc: Global, deck: &[u8], line: &[u8], times: u64) -> Option<Cells
     let cards = read_cards(alloc, deck).ok()?;
     let project = project_of(alloc, cards).ok()?;
     let cells = cells_of(alloc, &project, line, times).ok();
-    // (let go in one place, since a function that drops a project is long to prove)
+    // (dropped in one place, since a function that drops a project is long to prove)
     drop(project);
     cells
 }
