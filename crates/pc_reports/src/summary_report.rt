@@ -35,7 +35,7 @@ impl Model for SummaryReport {
 }
 
 impl SummaryReport {
-    /// Returns the summary of the project. Linear in its accounts, and in its items at each level.
+    /// Returns the summary of the project. Linear in its accounts and items.
     ///
     /// # Errors
     ///
