@@ -4,8 +4,8 @@ use Rattle.pc_crash.specs.Priced.{PricedNetwork}
 use Rattle.pc_flow.specs.board.Sheets.{Sheet, flow_of}
 use Rattle.pc_flow.specs.search.Labelling.{length_at, slopes_in}
 
--- a network and a board, the all-normal and the all-crash length, and of the present segment its cost and slope, how far
--- its lower end lies below the upper one, and whether there is one
+-- a network and a board, the all-normal and the all-crash length, and the cost and slope of the present segment, how
+-- far its lower end is below the upper one, and whether there is one
 pub record Course : Type 0 where
   pub net : PricedNetwork
   pub board : Sheet
@@ -50,6 +50,6 @@ pub record IsFurther (c d : Course) : Type 0 where
 abbrev pub most_looks : Course → Course → ℕ
 most_looks c d = 4 * length c.net.network.arcs * ((d.slope - c.slope) + (lower_of c - lower_of d))
 
--- how many the whole curve may take at most: the slope rises to no more than the sum of the last slopes
+-- how many the complete curve may take at most: the slope rises to no more than the sum of the last slopes
 abbrev pub all_looks : Course → ℕ
 all_looks c = 4 * length c.net.network.arcs * (slopes_in c.net + (c.longest - c.shortest))

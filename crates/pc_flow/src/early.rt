@@ -48,7 +48,7 @@ pub(crate) fn keep_early_times(board: &mut Board, net: &CrashNet<'_>, pace: Pace
     }
 }
 
-// The time of an event, from what is kept for the events where the activities that enter it begin.
+// The time of an event, from the stored times of the events where the activities that enter it begin.
 fn latest_arrival(board: &Board, net: &CrashNet<'_>, pace: Pace, e: u32) -> u64
     requires fits { IsFor net.now.network board.now }
     requires small { HasSmallTimes net.now.network (durations_at net.now.terms pace) }

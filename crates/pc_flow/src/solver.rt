@@ -246,7 +246,7 @@ impl<'n> Solver<'n> {
         board.close()
     }
 
-    // Whether a segment was given that comes down to the all-crash length.
+    // Whether a segment was given that reaches down to the all-crash length.
     fn has_ended(&self) -> bool
         ensures { IsTrue result ↔ HasEnded self.now }
     {

@@ -102,7 +102,7 @@ pub fn room_against(knees: &[Knee], crash: u64, flow: u64) -> u64
     flow - piece.below
 }
 
-/// Returns the part of a whole flow that runs on the knee `index`: what the knees before it leave, at most its rise.
+/// Returns the part of a total flow that runs on the knee `index`: what the knees before it leave, at most its rise.
 pub fn flow_at(knees: &[Knee], flow: u64, index: usize) -> u64
     requires { index < length knees.now }
     ensures { (crash : ℕ) → result ≡ knee_flow (stair knees.now crash) flow index }
@@ -114,7 +114,7 @@ pub fn flow_at(knees: &[Knee], flow: u64, index: usize) -> u64
     rest.min(knees[index].rise)
 }
 
-/// Returns the part of a whole flow that runs on the crash duration: what all knees leave.
+/// Returns the part of a total flow that runs on the crash duration: what all knees leave.
 pub fn beside(knees: &[Knee], flow: u64) -> u64
     ensures { (crash : ℕ) → result ≡ crash_flow (stair knees.now crash) flow }
 {

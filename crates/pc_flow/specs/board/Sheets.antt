@@ -1,4 +1,4 @@
--- What stands on a board.
+-- The contents of a board.
 use Rattle.std.specs.Prelude.{ℕ, ◌-◌, List, slice_index, nat_lt, if◌then◌else◌}
 use Rattle.pc_cells.specs.Spans.{Cells}
 
@@ -8,8 +8,8 @@ pub record Sheet : Type 0 where
   pub events : ℕ
   pub activities : ℕ
   pub home : Cells
-  -- the time that is kept of an event; its rank, 0 where it has no label; the events with a label in the order of their
-  -- ranks; the activity of the step that gave a label, 1 where the step goes against it, the event from which it comes and
+  -- the stored time of an event; its rank, 0 if it has no label; the events with a label in the order of their
+  -- ranks; the activity of the step that gave a label, 1 if the step goes against it, the event from which it comes and
   -- how much more may flow there; and the events that lost their labels
   pub time : List ℕ
   pub rank : List ℕ
@@ -39,7 +39,7 @@ rank_of s e = slice_index s.rank e
 abbrev pub flow_of : Sheet → ℕ → ℕ
 flow_of s a = slice_index s.flow a
 
--- the time of an event: what is kept of it less the falls, where it has no label
+-- the time of an event: the stored one, less the falls if it has no label
 abbrev pub kept_time : Sheet → ℕ → ℕ
 kept_time s e = slice_index s.time e
 

@@ -20,14 +20,14 @@ use Rattle.pc_flow.specs.Courses.{Course, upper_of, lower_of, IsLevel}
 abbrev pub moves_at : Sheet → ℕ → ℕ → Bool
 moves_at s fall e = nat_lt 0 fall && (rank_of s e == 0)
 
--- the present segment, with the whole flows filled in at the knees
+-- the present segment, with the total flows distributed over the knees
 abbrev pub present : Course → Segment
 present c =
     segment_of c.net.network c.net.terms (knees_in c.net)
     (filled_state c.net.terms (knees_in c.net) (upper_of c) (time_of c.board) (flow_of c.board) (slope_at c.net c.board))
     (moves_at c.board c.fall) c.fall
 
--- the present segment is whole
+-- the present segment is complete
 abbrev pub IsOnCurve : Course → Type 0
 IsOnCurve c = IsSegment c.net.network c.net.terms (knees_in c.net) (present c)
 

@@ -27,7 +27,7 @@ pub(in crate::board) enum Column {
     Down,
 }
 
-/// Where each column stands.
+/// The span of each column.
 #[derive(Clone, Copy, Debug)]
 pub(in crate::board) struct Columns {
     pub(in crate::board) time: Span,
@@ -50,7 +50,7 @@ impl Columns {
     ghost use Rattle.std.specs.Prelude.{◌≡◌};
     ghost use Rattle.pc_flow.specs.inside.board.Places.{span_of};
 
-    /// Where one of them stands.
+    /// The span of one of them.
     pub(in crate::board) fn span(&self, column: Column) -> Span
         ensures { result ≡ span_of self.now column }
     {
@@ -77,10 +77,10 @@ impl Columns {
 ///
 /// Each event has a time. An event with a label has a rank, its place in the queue counted from 1, and the step that
 /// gave it the label: an activity, whether the step goes against it, the event from which the step comes, and how much
-/// more may flow there at least. The time of an event without a label is kept with the sum of all steps of the times
-/// added, so that such a step changes none. Each activity has its flow and the lengths of the arcs on which its next
-/// unit and its last one run, and may be on the list of those that wait for a step of the times, with a sum of these
-/// steps before which it does not stop.
+/// more may flow there at least. The time of an event without a label is stored with the sum of all steps of the times
+/// added, so that such a step changes no stored time. Each activity has its flow and the lengths of the arcs on which
+/// its next unit and its last one run. It may be on the list of those that wait for a step of the times, with a sum of
+/// these steps before which it does not stop.
 #[derive(Drop)]
 pub struct Board {
     region: Region,

@@ -91,7 +91,7 @@ impl Board {
         self.get(Column::Time, e) - self.fallen
     }
 
-    /// Returns the number that is kept for an event's time.
+    /// Returns the number that is stored for an event's time.
     pub fn kept_time(&self, e: u32) -> u64
         requires { e < self.now.events }
         ensures { result ≡ kept_time self.now e }
@@ -181,7 +181,7 @@ impl Board {
         self.number(Column::Step, e)
     }
 
-    /// Sets the number that is kept for an event's time.
+    /// Sets the number that is stored for an event's time.
     pub fn set_time(&mut self, e: u32, time: u64)
         requires { e < self.old.events }
         ensures { SetsTime self.old self.new e time }
@@ -211,7 +211,7 @@ impl Board {
         self.set_step(e, a, against, near, room);
     }
 
-    // Takes the falls off the number that is kept for an event's time.
+    // Takes the falls off the number that is stored for an event's time.
     fn rest_at(&mut self, e: u32)
         requires known { e < self.old.events }
         requires deep { self.old.fallen ≤ kept_time self.old e }
@@ -302,7 +302,7 @@ impl Board {
         self.head = head;
     }
 
-    // Changes the flow of an event's step by so much.
+    // Changes the flow of an event's step by `by`.
     pub(in crate::board) fn step_back(&mut self, e: u32, by: u64)
         requires known { e < self.old.events }
         requires step { step_of self.old e < self.old.activities }

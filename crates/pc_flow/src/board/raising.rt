@@ -1,4 +1,5 @@
-//! The flow raised along the steps that led to the end, and the labels that fall when a step has no room left then.
+//! Augments the flow along the steps that led to the end, and removes the labels whose steps have no residual capacity
+//! left.
 ghost use Rattle.std.specs.Prelude.{◌≡◌, ◌<◌, ℕ, ◌+◌, ◌≤◌, ◌↔◌, IsTrue};
 ghost use Rattle.pc_flow.specs.inside.board.Labelling.{HasStep, IsRanked, IsRankedBack, HaveSteps, HaveRoom, AreTimes};
 ghost use Rattle.pc_flow.specs.inside.board.Raising.{IsLeast, IsRaised, StandFirst};
@@ -44,7 +45,7 @@ impl Board {
         least
     }
 
-    // The least room of the steps that led to an event, and how many labels stand before the first with so little.
+    // The least room of the steps that led to an event, and how many labels come before the first step with that room.
     fn least_room(&self, end: u32) -> Augmentation
         requires ranked { IsRanked self.now }
         requires back { IsRankedBack self.now }
@@ -94,7 +95,7 @@ impl Board {
         gone
     }
 
-    // Whether an event's step has room and comes from an event with a label.
+    // Whether an event's step has residual capacity and comes from an event with a label.
     fn is_held(&self, e: u32) -> bool
         requires known { e < self.now.events }
         requires near { near_of self.now e < self.now.events }

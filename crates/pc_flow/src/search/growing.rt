@@ -1,4 +1,4 @@
-//! Labels that are given along steps with room, from event to event.
+//! Labels events along steps with residual capacity, from event to event.
 ghost use Rattle.std.specs.Prelude.{◌≡◌, ◌+◌, ◌*◌, ◌<◌, ◌≤◌, ℕ, length};
 ghost use Rattle.pc_model.specs.Greatest.{StandsBelow};
 ghost use Rattle.pc_crash.specs.inside.Links.{activities_of};

@@ -1,4 +1,4 @@
-//! A whole labelling: the flow raised until the labels come to a stand, and how far the events without one may fall.
+//! A complete labelling: the flow augmented until the labels cannot grow, and how far the events without one may fall.
 ghost use Rattle.std.specs.Prelude.{◌≡◌, ◌+◌, ◌*◌, ◌<◌, ◌≤◌, length};
 ghost use Rattle.pc_flow.specs.board.Sheets.{rank_of};
 ghost use Rattle.pc_flow.specs.inside.search.Growing.{AreListed, AreSettled};

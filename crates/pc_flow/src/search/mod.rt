@@ -1,5 +1,5 @@
-//! The search for steps with room: from the events that have a label, others are labelled along activities where more
-//! can flow and against those where less can (Fulkerson 1961).
+//! The search for steps with residual capacity: from the events that have a label, others are labelled along activities
+//! where more can flow and against those where less can (Fulkerson 1961).
 
 mod growing;
 mod labelling;

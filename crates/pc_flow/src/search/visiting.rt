@@ -1,4 +1,4 @@
-//! An activity looked at, and the event at its far end labelled where its step has room.
+//! Looks at an activity, and labels the event at its far end if its step has residual capacity.
 ghost use Rattle.std.specs.Prelude.{◌≡◌, ◌+◌, ◌<◌, ◌≤◌, ◌↔◌, IsTrue, length};
 ghost use Rattle.pc_crash.specs.inside.Looks.{IsLookAt};
 ghost use Rattle.pc_model.specs.Network.{IsInRange};

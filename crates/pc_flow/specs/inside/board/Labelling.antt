@@ -9,7 +9,8 @@ use Rattle.pc_flow.specs.inside.board.Sheets.{queue_of, step_of, against_of, nea
 abbrev pub HasStep : Sheet → ℕ → Type 0
 HasStep s e = 1 < rank_of s e
 
--- the events with a label stand in the queue, each at the place that its rank says, and the first `head` of them were scanned
+-- the events with a label are in the queue, each at the place that its rank gives, and the first `head` of them were
+-- scanned
 pub record IsRanked (s : Sheet) : Type 0 where
   pub some : 0 < s.count
   pub few : s.count ≤ s.events
@@ -19,29 +20,29 @@ pub record IsRanked (s : Sheet) : Type 0 where
   pub within : (e : ℕ) → e < s.events → rank_of s e ≤ s.count
   pub queued : (e : ℕ) → e < s.events → 0 < rank_of s e → queue_of s (rank_of s e - 1) ≡ e
 
--- each step comes from an event that stands before in the queue
+-- each step comes from an event that is earlier in the queue
 pub record IsRankedBack (s : Sheet) : Type 0 where
   pub known : (e : ℕ) → e < s.events → HasStep s e → near_of s e < s.events
   pub labelled : (e : ℕ) → e < s.events → HasStep s e → 0 < rank_of s (near_of s e)
   pub before : (e : ℕ) → e < s.events → HasStep s e → rank_of s (near_of s e) < rank_of s e
 
--- each step is by an activity of its own, and the flow there can change by the room that is kept
+-- each step is by an activity of its own, and the flow there can change by the stored room
 pub record HaveSteps (s : Sheet) : Type 0 where
   pub known : (e : ℕ) → e < s.events → HasStep s e → step_of s e < s.activities
   pub apart : (e f : ℕ) → e < s.events → f < s.events → HasStep s e → HasStep s f → e ≢ f → step_of s e ≢ step_of s f
   pub along : (e : ℕ) → e < s.events → HasStep s e → against_of s e ≡ 0 → flow_of s (step_of s e) + room_of s e < 2 ^ 64
   pub against : (e : ℕ) → e < s.events → HasStep s e → 0 < against_of s e → room_of s e ≤ flow_of s (step_of s e)
 
--- each step has room
+-- each step has residual capacity
 pub record HaveRoom (s : Sheet) : Type 0 where
   pub some : (e : ℕ) → e < s.events → HasStep s e → 0 < room_of s e
 
--- what is kept of the time of an event without a label is not below the falls, and any time can be kept with them
+-- the stored time of an event without a label is not below the falls, and any time plus the falls can be stored
 pub record AreTimes (s : Sheet) : Type 0 where
   pub deep : (e : ℕ) → e < s.events → rank_of s e ≡ 0 → s.fallen ≤ kept_time s e
   pub fits : (e : ℕ) → e < s.events → time_of s e + s.fallen < 2 ^ 64
 
--- the board is for a network with so many events and activities
+-- the board is for a network with this many events and activities
 pub record IsFor (net : Network) (s : Sheet) : Type 0 where
   pub events : net.events ≡ s.events
   pub activities : length net.arcs ≡ s.activities

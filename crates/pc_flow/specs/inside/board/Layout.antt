@@ -33,11 +33,11 @@ laid_sheet events activities home f fallen count head len = record {
   len = len;
 }
 
--- the list in the n-th span behind the mark
+-- the list in the n-th span after the mark
 abbrev pub list_behind : List (List ℕ) → ℕ → ℕ → List ℕ
 list_behind spans from n = span_at spans (from + n)
 
--- the region without the spans behind the mark
+-- the region without the spans after the mark
 abbrev pub home_of : Cells → ℕ → Cells
 home_of region from = record { capacity = region.capacity; spans = take from region.spans }
 
@@ -47,7 +47,7 @@ sheet_of b =
     laid_sheet b.columns.time.len b.columns.flow.len (home_of b.region b.mark.spans) (list_behind b.region.spans b.mark.spans)
     b.fallen b.count b.head b.len
 
--- the columns are the live spans behind the mark, each with a number for each event or activity; few enough of them are
+-- the columns are the live spans after the mark, each with a number for each event or activity; few enough of them are
 -- there for a u32, and so are the numbers in most columns
 pub record IsBoard (b : Inside) : Type 0 where
   pub mark : IsMark b.region.spans b.mark

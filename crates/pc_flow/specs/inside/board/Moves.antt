@@ -11,7 +11,7 @@ pub record KeepsAt (s t : Sheet) (e place : ℕ) : Type 0 where
   pub rank_at : rank_of t e ≡ place + 1
   pub rank_off : (f : ℕ) → f ≢ e → rank_of t f ≡ rank_of s f
 
--- event e has no label, and its time is kept with the falls added; it stands among those that lost theirs
+-- event e has no label, and its time is stored with the falls added; it is among those that lost theirs
 pub record LosesAt (s t : Sheet) (e place : ℕ) : Type 0 where
   pub rest : t ≡ record s { time = t.time; rank = t.rank; lost = t.lost }
   pub time_at : kept_time t e ≡ kept_time s e + s.fallen
@@ -21,7 +21,7 @@ pub record LosesAt (s t : Sheet) (e place : ℕ) : Type 0 where
   pub lost_at : lost_of t place ≡ e
   pub lost_off : (k : ℕ) → k ≢ place → lost_of t k ≡ lost_of s k
 
--- the flow of the step of event e changes by so much, the way the step goes, and its room falls by that
+-- the flow of the step of event e changes by `by`, the way the step goes, and its room decreases by that
 pub record StepsBack (s t : Sheet) (by e : ℕ) : Type 0 where
   pub rest : t ≡ record s { room = t.room; flow = t.flow }
   pub room_at : room_of t e + by ≡ room_of s e
@@ -50,13 +50,13 @@ pub record SetsStep (s t : Sheet) (e a : ℕ) (against : Bool) (near room : ℕ)
   pub rest : t ≡ record s { step = t.step; against = t.against; near = t.near; room = t.room }
   pub step : IsStepSet s t e a against near room
 
--- the step of event e has so much room
+-- the step of event e has this room
 pub record SetsRoom (s t : Sheet) (e room : ℕ) : Type 0 where
   pub rest : t ≡ record s { room = t.room }
   pub room_at : room_of t e ≡ room
   pub room_off : (f : ℕ) → f ≢ e → room_of t f ≡ room_of s f
 
--- this is kept of the time of event e
+-- this is the stored time of event e
 pub record SetsTime (s t : Sheet) (e time : ℕ) : Type 0 where
   pub rest : t ≡ record s { time = t.time }
   pub time_at : kept_time t e ≡ time
@@ -110,8 +110,8 @@ pub record EntersAt (s t : Sheet) (e a : ℕ) (against : Bool) (near room : ℕ)
   pub rank_off : (f : ℕ) → f ≢ e → rank_of t f ≡ rank_of s f
   pub step : IsStepSet s t e a against near room
 
--- activity a has the place `place` on the list of those that wait, and what is kept of it is no more than the sum of the
--- falls after so many more units
+-- activity a has the place `place` on the list of those that wait, and its stored number is at most the sum of the
+-- falls after `after` more units
 pub record WaitsAt (s t : Sheet) (a place after : ℕ) : Type 0 where
   pub rest : t ≡ record s { waiting = t.waiting; slot = t.slot; due = t.due }
   pub waiting_at : waiting_of t place ≡ a

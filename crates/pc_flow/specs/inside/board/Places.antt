@@ -23,7 +23,7 @@ place_of Due = 11
 place_of Up = 12
 place_of Down = 13
 
--- where a column stands
+-- the span of a column
 abbrev pub span_of : Columns → Column → Span
 span_of columns Time = columns.time
 span_of columns Rank = columns.rank

@@ -1,4 +1,4 @@
--- Labels that fall when a step has no room left.
+-- Labels that are removed when a step has no residual capacity left.
 use Rattle.std.specs.Prelude.{◌≡◌, ℕ, ◌+◌, ◌-◌, ◌<◌, ◌≤◌, ◌⊎◌}
 use Rattle.pc_model.specs.Sums.{sum_to}
 use Rattle.pc_flow.specs.board.Sheets.{Sheet, kept_time, rank_of}
@@ -46,7 +46,7 @@ pub record IsSorted (s t : Sheet) (i kept gone seen : ℕ) : Type 0 where
   pub still_seen : (e : ℕ) → e < s.events → rank_of s e ≤ i → 0 < rank_of t e → rank_of s e ≤ s.head → rank_of t e ≤ seen
   pub was_seen : (e : ℕ) → e < s.events → rank_of s e ≤ i → 0 < rank_of t e → rank_of t e ≤ seen → rank_of s e ≤ s.head
 
--- the whole queue was looked at, and was cut behind those that keep their labels; nothing else has changed
+-- the complete queue was looked at, and was cut after those that keep their labels; nothing else has changed
 pub record IsPruned (s t : Sheet) (gone : ℕ) : Type 0 where
   pub rest : t ≡ record s { time = t.time; rank = t.rank; queue = t.queue; lost = t.lost; count = t.count; head = t.head }
   pub sorted : IsSorted s t s.count t.count gone t.head

@@ -17,11 +17,11 @@ pub record IsWayBack (s : Sheet) (e k x : ℕ) : Type 0 where
   pub known : (j : ℕ) → j ≤ k → event_back s e j < s.events
   pub steps : (j : ℕ) → j < k → HasStep s (event_back s e j)
 
--- event f is none of the k events from which these steps lead back
+-- event f is not one of the k events that these steps lead back to
 abbrev pub IsOffWay : Sheet → ℕ → ℕ → ℕ → Type 0
 IsOffWay s e k f = (j : ℕ) → j < k → f ≢ event_back s e j
 
--- the flow of the step of event e has changed by so much, the way the step goes, and its room has fallen by that
+-- the flow of the step of event e has changed by `by`, the way the step goes, and its room has decreased by that
 pub record IsStepTaken (s t : Sheet) (by e : ℕ) : Type 0 where
   pub room : room_of t e + by ≡ room_of s e
   pub along : against_of s e ≡ 0 → flow_of t (step_of s e) ≡ flow_of s (step_of s e) + by
@@ -54,13 +54,13 @@ pub record IsLeast (s : Sheet) (e by standing k : ℕ) : Type 0 where
   pub least : IsLeastRoom s e by k
   pub clear : AreClear s e by standing k
 
--- the first `standing` labels in the queue stand: their steps have room
+-- the first `standing` labels in the queue remain: their steps have room
 pub record StandFirst (s : Sheet) (standing : ℕ) : Type 0 where
   pub some : 0 < standing
   pub within : standing ≤ s.count
   pub room : (e : ℕ) → e < s.events → HasStep s e → rank_of s e ≤ standing → 0 < room_of s e
 
--- the flows of all steps that led to event e were raised by so much, as far as they had room
+-- the flows of all steps that led to event e were augmented by `by`, as far as they had room
 pub record IsRaisedBy (s t : Sheet) (e by k : ℕ) : Type 0 where
   pub some : 0 < by
   pub raising : IsRaising s t e by k (queue_of s 0)

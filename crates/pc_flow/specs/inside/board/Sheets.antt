@@ -1,4 +1,4 @@
--- What stands on a board.
+-- The contents of a board.
 -- Here is what no clause of a top call and no law reaches.
 use Rattle.std.specs.Prelude.{ℕ, replicate, slice_index}
 use Rattle.pc_cells.specs.Spans.{Cells}

@@ -31,7 +31,7 @@ pub record IsScanned (s : Sheet) (e : ℕ) : Type 0 where
 abbrev pub IsMet : PricedNetwork → Sheet → ℕ → Type 0
 IsMet net s a = IsScanned s (from_of net.network.arcs a) ⊎ IsScanned s (to_of net.network.arcs a)
 
--- activity a waits, and stops no sooner than when the falls have come to the sum that is kept of it
+-- activity a waits, and stops no sooner than when the falls have reached the sum that is stored for it
 pub record IsDueLater (net : PricedNetwork) (s : Sheet) (way : Way) (a : ℕ) : Type 0 where
   pub listed : 0 < slot_of s a
   pub due : due_of s a + lesser_at net s way a ≤ s.fallen + greater_at net s way a
@@ -44,14 +44,14 @@ AreListed net s = (a : ℕ) → a < length net.network.arcs → IsMet net s a �
 abbrev pub AreSettled : PricedNetwork → Sheet → Type 0
 AreSettled net s = (a : ℕ) → a < length net.network.arcs → IsMet net s a → IsSettled net s a
 
--- the search went on from board s to board t, and has settled those of these activities of which an end had a label
+-- the search continued from board s to board t, and has settled those of these activities that have an end with a label
 pub record GoesOn (net : PricedNetwork) (these : ℕ → Type 0) (s t : Sheet) : Type 0 where
   pub grows : Grows s t
   pub search : IsSearch net t
   pub room : HaveRoom t
   pub settled : (a : ℕ) → a < length net.network.arcs → these a → IsReached net s a → IsSettled net t a
 
--- the search went on to the activities that waited, and all at scanned events are settled
+-- the search continued to the activities that waited, and all at scanned events are settled
 pub record HasSettled (net : PricedNetwork) (s t : Sheet) : Type 0 where
   pub grows : Grows s t
   pub search : IsSearch net t
@@ -71,8 +71,8 @@ pub record HasGrown (net : PricedNetwork) (s t : Sheet) : Type 0 where
 abbrev pub relabelled : Sheet → Sheet → Sheet
 relabelled s t = record (grown_as s t) { lost = t.lost; head = t.head; due = t.due }
 
--- after a raising the labels without room were taken off, and the search went on from the others; times and flows are as
--- they were
+-- after an augmentation the labels without room were removed, and the search continued from the others; times and flows
+-- are as they were
 pub record HasLookedAgain (net : PricedNetwork) (s t : Sheet) : Type 0 where
   pub rest : t ≡ relabelled s t
   pub time : (e : ℕ) → e < s.events → time_of t e ≡ time_of s e

@@ -1,4 +1,5 @@
--- What holds of a search between two labellings of the events: a raising, a fall, and a whole labelling keep it.
+-- What holds of a search between two labellings of the events: an augmentation, a fall, and a complete labelling
+-- preserve it.
 -- Here is what no clause of a top call and no law reaches.
 use Rattle.std.specs.Prelude.{◌≡◌, ℕ, ◌+◌, ◌^◌, ◌<◌, ◌≤◌, ◌⊎◌, List}
 use Rattle.pc_model.specs.Schedule.{IsAllCrashLength}
@@ -33,11 +34,11 @@ pub record IsBetween (net : PricedNetwork) (s : Sheet) : Type 0 where
   pub state : IsStateWith net s (length_at net s) (slope_at net s)
   pub fits : length_at net s + s.fallen < 2 ^ 63
 
--- the labels have come to a stand, and the events without one may fall by so much: then the first activity stops
+-- the labels cannot grow, and the events without one may fall by `by`: then the first activity stops
 abbrev pub MayFall : PricedNetwork → Sheet → ℕ → Type 0
 MayFall net s by = IsStairFall net.network net.terms (knees_in net) (time_of s) (flow_of s) (moving s) by
 
--- the flow was raised by so much along the steps that led to the end, as far as they had room when this was measured
+-- the flow was augmented by `by` along the steps that led to the end, as far as they had room when this was measured
 pub record HasRaised (net : PricedNetwork) (s t : Sheet) (by : ℕ) : Type 0 where
   pub raised : (rooms : List ℕ) × IsRaised (record s { room = rooms }) t net.network.end by
   pub rest : t ≡ record s { room = t.room; flow = t.flow; up = t.up; down = t.down }
@@ -48,7 +49,7 @@ pub record HasRaised (net : PricedNetwork) (s t : Sheet) (by : ℕ) : Type 0 whe
   pub state : IsStateWith net t (length_at net t) (slope_at net t)
   pub bounded : slope_at net t ≤ slopes_in net
 
--- the events without a label have fallen by so much
+-- the events without a label have fallen by `by`
 pub record HasFallen (net : PricedNetwork) (s t : Sheet) (by : ℕ) : Type 0 where
   pub rest : t ≡ record s { fallen = s.fallen + by }
   pub moved : (e : ℕ) → e < s.events → rank_of s e ≡ 0 → time_of t e + by ≡ time_of s e
@@ -61,7 +62,7 @@ pub record HasFallen (net : PricedNetwork) (s t : Sheet) (by : ℕ) : Type 0 whe
 abbrev pub risen : Sheet → Sheet → Sheet
 risen s t = record (relabelled s t) { flow = t.flow; up = t.up; down = t.down }
 
--- the flow was raised by so much in all, and events were labelled again; times and falls are as they were
+-- the flow was augmented by `rise` in all, and events were labelled again; times and falls are as they were
 pub record Rises (net : PricedNetwork) (s t : Sheet) (rise : ℕ) : Type 0 where
   pub rest : t ≡ risen s t
   pub time : (e : ℕ) → e < s.events → time_of t e ≡ time_of s e
@@ -75,7 +76,7 @@ pub record IsUnderWay (net : PricedNetwork) (s : Sheet) : Type 0 where
   pub settled : AreSettled net s
   pub ended : (0 < rank_of s net.network.end) ⊎ (s.head ≡ s.count)
 
--- the flow was raised by `rise` until no step with room led on to the end; the events without a label, the end among
+-- the flow was augmented by `rise` until no step with room led to the end; the events without a label, the end among
 -- them, may fall by `fall` from there
 pub record HasLabelled (net : PricedNetwork) (s t : Sheet) (rise fall : ℕ) : Type 0 where
   pub rises : Rises net s t rise

@@ -7,7 +7,7 @@ use Rattle.pc_flow.specs.inside.board.Labelling.{HasStep}
 use Rattle.pc_flow.specs.inside.board.Raising.{event_back}
 use Rattle.pc_flow.specs.inside.search.Searches.{next_at, last_at, HasLengths}
 
--- the lengths of activity a are kept as they are now
+-- the lengths of activity a are stored as they are now
 pub record RenewsAt (net : PricedNetwork) (s t : Sheet) (a : ℕ) : Type 0 where
   pub rest : t ≡ record s { up = t.up; down = t.down }
   pub up_off : (b : ℕ) → b ≢ a → up_of t b ≡ up_of s b
@@ -22,7 +22,7 @@ pub record IsLevelAt (net : PricedNetwork) (s : Sheet) (e : ℕ) : Type 0 where
   pub along : against_of s e ≡ 0 → up_of s (step_of s e) ≡ next_at net s (step_of s e)
   pub against : 0 < against_of s e → down_of s (step_of s e) ≡ next_at net s (step_of s e)
 
--- so it is at each step with room left of those that led to event e on board s; the lengths are those of board t
+-- this holds at each step with room left of those that led to event e on board s; the lengths are those of board t
 abbrev pub AreLevelBack : PricedNetwork → Sheet → Sheet → ℕ → Type 0
 AreLevelBack net s t e =
     (j : ℕ) → ((i : ℕ) → i ≤ j → HasStep s (event_back s e i)) → 0 < room_of s (event_back s e j) → IsLevelAt net t (event_back s e j)

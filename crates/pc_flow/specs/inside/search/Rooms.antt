@@ -6,7 +6,7 @@ use Rattle.pc_flow.specs.inside.board.Sheets.{step_of, against_of, room_of}
 use Rattle.pc_flow.specs.inside.board.Labelling.{HasStep}
 use Rattle.pc_flow.specs.inside.search.Searches.{HasRoomAlong, HasRoomAgainst}
 
--- the step of event e has so much room
+-- the step of event e has this room
 pub record IsRoom (net : PricedNetwork) (s : Sheet) (e room : ℕ) : Type 0 where
   pub along : against_of s e ≡ 0 → HasRoomAlong net s (step_of s e) room
   pub against : 0 < against_of s e → HasRoomAgainst net s (step_of s e) room

@@ -1,4 +1,4 @@
--- The search for steps with room on the board of a priced network.
+-- The search for steps with residual capacity on the board of a priced network.
 use Rattle.std.specs.Prelude.{◌≡◌, ℕ, ◌+◌, ◌-◌, ◌^◌, ◌<◌, ◌≤◌, Option, Some, None, List, length}
 use Rattle.pc_model.specs.declared.limits.TheConstants.{MAX_ACTIVITIES}
 use Rattle.pc_model.specs.Walk.{from_of, to_of}
@@ -30,7 +30,7 @@ next_at net s a = unit_length (stair_at net a) (flow_of s a)
 abbrev pub last_at : PricedNetwork → Sheet → ℕ → ℕ
 last_at net s a = unit_length (stair_at net a) (flow_of s a - 1)
 
--- the activities that wait stand on the list, each once, at the place that its slot says
+-- the activities that wait are on the list, each once, at the place that its slot gives
 pub record IsWaiting (s : Sheet) : Type 0 where
   pub few : s.len ≤ s.activities
   pub range : (k : ℕ) → k < s.len → waiting_of s k < s.activities
@@ -47,7 +47,7 @@ pub record IsOnStairs (net : PricedNetwork) (s : Sheet) : Type 0 where
   pub on : (a : ℕ) → a < length net.network.arcs → IsOnStair (stair_at net a) (gap_at net s a) (flow_of s a)
   pub small : (a : ℕ) → a < length net.network.arcs → flow_of s a + 1 < 2 ^ 64
 
--- the lengths of the arcs of activity a are kept
+-- the lengths of the arcs of activity a are stored
 pub record HasLengths (net : PricedNetwork) (s : Sheet) (a : ℕ) : Type 0 where
   pub up : up_of s a ≡ next_at net s a
   pub down : 0 < flow_of s a → down_of s a ≡ last_at net s a
@@ -55,7 +55,7 @@ pub record HasLengths (net : PricedNetwork) (s : Sheet) (a : ℕ) : Type 0 where
 abbrev pub AreLengths : PricedNetwork → Sheet → Type 0
 AreLengths net s = (a : ℕ) → a < length net.network.arcs → HasLengths net s a
 
--- the board is for the network, and on it the flows stand on the staircases at times that fit
+-- the board is for the network, and on it the flows are on the staircases at times that fit
 pub record IsPricedBoard (net : PricedNetwork) (s : Sheet) : Type 0 where
   pub in_range : IsInRange net.network
   pub fits : IsFor net.network s
@@ -63,7 +63,7 @@ pub record IsPricedBoard (net : PricedNetwork) (s : Sheet) : Type 0 where
   pub stairs : IsOnStairs net s
   pub lengths : AreLengths net s
 
--- what the room of each step leads to stands on the staircase too
+-- the flow after each step with its room is on the staircase too
 pub record AreLed (net : PricedNetwork) (s : Sheet) : Type 0 where
   pub along : (e : ℕ) → e < s.events → HasStep s e → against_of s e ≡ 0 →
       IsOnStair (stair_at net (step_of s e)) (gap_at net s (step_of s e)) (flow_of s (step_of s e) + room_of s e)
@@ -113,11 +113,11 @@ lesser_at net s way a = by_way way (next_at net s a) (gap_at net s a)
 abbrev pub greater_at : PricedNetwork → Sheet → Way → ℕ → ℕ
 greater_at net s way a = by_way way (gap_at net s a) (last_at net s a)
 
--- after so much of a fall they are the same
+-- after a fall by `after` they are the same
 abbrev pub StopsAfter : PricedNetwork → Sheet → ℕ → Way → ℕ → Type 0
 StopsAfter net s a way after = lesser_at net s way a + after ≡ greater_at net s way a
 
--- with so many units more, or fewer, the flow stands on the staircase
+-- with `room` units more, or fewer, the flow is on the staircase
 pub record HasRoomAlong (net : PricedNetwork) (s : Sheet) (a room : ℕ) : Type 0 where
   pub some : 0 < room
   pub small : flow_of s a + room < 2 ^ 64

@@ -30,6 +30,6 @@ pub record AreLinks (net : PricedNetwork) (one other : ℕ → ℕ) (e : ℕ) (l
   pub here : (k : ℕ) → k < length links → one (link_at links k).activity ≡ e
   pub there : (k : ℕ) → k < length links → other (link_at links k).activity ≡ (link_at links k).other
 
--- a step against an activity takes back what flows there
+-- a step against an activity reduces its flow
 abbrev pub CanFlow : Sheet → Way → ℕ → Type 0
 CanFlow s way a = way ≡ Against → 0 < flow_of s a
