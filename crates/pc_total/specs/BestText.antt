@@ -4,7 +4,7 @@ use Rattle.std.specs.Fmt.{signed_decimal}
 use Rattle.pc_edges.specs.page.Lines.{word_line, number_line}
 use Rattle.pc_total.specs.declared.optimum.Best.{Best}
 
--- by how much a neighbour costs more, or a dash where there is none
+-- by how much a neighbour costs more, or a dash if there is none
 abbrev pub difference : Option ℤ → List ℕ
 difference None = codes "-"
 difference (Some more) = signed_decimal more

@@ -5,12 +5,13 @@ use Rattle.pc_model.specs.TimeCost.{time_cost_of}
 use Rattle.pc_total.specs.Totals.{IsOptimum, IsTotal}
 use Rattle.pc_total.specs.declared.optimum.Best.{Best}
 
--- by so much the total one unit shorter is above that of the length; there is none exactly at the shortest length
+-- the total one unit shorter is this much above that of the length; there is none if and only if it is the shortest
+-- length
 abbrev pub IsRiseBelow : (ℕ → ℕ → Type 0) → TimeTerms → ℕ → ℕ → ℤ → Option ℤ → Type 0
 IsRiseBelow curve terms shortest limit total below =
     MatchOption below (limit ≡ shortest) (λ more. (shortest < limit) × IsTotal curve terms (limit - 1) (total +ℤ more))
 
--- and by so much that one unit longer; there is none exactly at the longest length
+-- and the total one unit longer is this much above it; there is none if and only if it is the longest length
 abbrev pub IsRiseAbove : (ℕ → ℕ → Type 0) → TimeTerms → ℕ → ℕ → ℤ → Option ℤ → Type 0
 IsRiseAbove curve terms longest limit total above =
     MatchOption above (limit ≡ longest) (λ more. (limit < longest) × IsTotal curve terms (limit + 1) (total +ℤ more))

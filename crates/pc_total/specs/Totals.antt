@@ -11,7 +11,7 @@ pub record IsTotal (curve : ℕ → ℕ → Type 0) (terms : TimeTerms) (limit :
   pub least : curve limit direct
   pub adds : total ≡ (pos direct +ℤ time_cost_of terms limit)
 
--- the length lies in the range, and this is its total; no length of the range has a lesser total, and no shorter one an
+-- the length is in the range, and this is its total; no length of the range has a lesser total, and no shorter one an
 -- equal one
 pub record IsOptimum (curve : ℕ → ℕ → Type 0) (terms : TimeTerms) (shortest longest limit : ℕ) (total : ℤ) : Type 0 where
   pub above : shortest ≤ limit

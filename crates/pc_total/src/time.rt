@@ -23,8 +23,8 @@ pub fn time_cost(terms: &TimeTerms, length: u64) -> i64
     dear as i64 - earned as i64
 }
 
-/// What the last unit of a length costs: the overhead, and behind the target the penalty, up to it the bonus that it
-/// loses.
+/// What the last unit of a length costs: the overhead, and the penalty if it is past the target, or else the bonus that
+/// it loses.
 pub(crate) fn unit_cost(terms: &TimeTerms, length: u64) -> u64
     requires { AreTimeTerms terms.now }
     ensures { result ≡ unit_cost terms.now length }
