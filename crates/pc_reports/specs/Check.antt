@@ -1,4 +1,4 @@
--- The text that tells that a deck is accepted.
+-- The text that reports that a deck is accepted.
 use Rattle.std.specs.Prelude.{ℕ, List, ◌++◌, codes}
 use Rattle.pc_project.specs.Project.{Project}
 use Rattle.pc_project.specs.declared.project.Counts.{Counts}
@@ -15,6 +15,6 @@ counts_text counts =
     ++ number_line (codes "togos ") counts.togos
     ++ number_line (codes "statuses ") counts.statuses
 
--- the project is accepted, and so many cards of each kind it has
+-- the project is accepted, and how many cards of each kind it has
 abbrev pub check_text : Project → List ℕ
 check_text project = word_line (codes "accepted ") project.heading.code ++ counts_text project.counts

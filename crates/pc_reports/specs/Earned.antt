@@ -1,4 +1,4 @@
--- What the report of the value of work tells.
+-- What the report of the value of work contains.
 use Rattle.std.specs.Prelude.{◌≡◌, ℕ, ℤ, List, slice_index, Option}
 use Rattle.pc_accounts.specs.status.Statuses.{IsSixths}
 use Rattle.pc_times.specs.Forecast.{Expected, IsForecast}
@@ -11,15 +11,15 @@ use Rattle.pc_rollup.specs.figures.Slacks.{AreLeastSlacks, slack_at}
 use Rattle.pc_reports.specs.Times.{AreDates, end_to_meet}
 use Rattle.pc_rollup.specs.figures.Worth.{Worth, IsWorthOf}
 
--- for each event when it is expected and when it must be at the latest, in sixths of a day from the start, and the date of
--- when it is expected; and for each item the least forecast slack of the activities that stand on it or below it
+-- for each event when it is expected and when it must occur at the latest, in sixths of a day from the start, and the
+-- date on which it is expected; and for each item the least forecast slack of the activities on it or below it
 pub record Forecasts : Type 0 where
   pub times : List ℕ
   pub late : List ℤ
   pub dates : List (List ℕ)
   pub slacks : List (Option ℤ)
 
--- the latest times, by which the end can be met
+-- the latest times at which the end can be met
 abbrev pub AreLateFor : Project → List ℤ → Type 0
 AreLateFor project late =
     (early : List ℕ) × (AreEarly project.network project.expected early
@@ -42,7 +42,7 @@ pub record Earned : Type 0 where
   pub outline : List OutlineRow
   pub worth : Worth
 
--- what is told is the project's
+-- the report's contents are the project's
 pub record IsEarned (project : Project) (earned : Earned) : Type 0 where
   pub forecasts : AreForecasts project earned.forecasts
   pub outline : IsOutline project.tree earned.outline

@@ -1,4 +1,4 @@
--- What the report of event times tells.
+-- What the report of event times contains.
 use Rattle.std.specs.Prelude.{◌≡◌, ℕ, ◌+◌, ◌*◌, ◌/◌, ◌<◌, ℤ, pos, ◌+ℤ◌, List, [], length, slice_index, slice_index_or, Option, Some, None}
 use Rattle.pc_days.specs.Calendar.{date_or_none, no_date}
 use Rattle.pc_days.specs.Dates.{IsAfterSixths, IsPrintedDay, NamesDay}
@@ -19,17 +19,17 @@ abbrev pub end_to_meet : Option ℕ → ℕ → ℤ
 end_to_meet None reached = pos reached
 end_to_meet (Some days) reached = pos (6 * days)
 
--- how the day that is the start and so many sixths of a day, rounded up, is told: by its date, or by ten hyphens where
--- it is past the days that are printed
+-- the text of the day that is the start and this many sixths of a day, rounded up: its date, or ten hyphens if it is
+-- past the days that are printed
 pub data IsDate (start : ℤ) (sixths : ℕ) (text : List ℕ) : Type 0 where
   printed : (day : ℤ) → IsAfterSixths start (pos sixths) day → IsPrintedDay day → NamesDay text day → IsDate start sixths text
   past : ((day : ℤ) → IsAfterSixths start (pos sixths) day → IsPrintedDay day → ⊥) → text ≡ no_date → IsDate start sixths text
 
--- the day that is the start and so many sixths of a day, rounded up to whole days
+-- the day that is the start and this many sixths of a day, rounded up to complete days
 abbrev pub day_after : ℤ → ℕ → ℤ
 day_after start sixths = start +ℤ pos ((sixths + 5) / 6)
 
--- how it is told, as a function
+-- its text, as a function
 unfoldable pub date_of : ℤ → ℕ → List ℕ
 date_of start sixths = date_or_none (day_after start sixths)
 

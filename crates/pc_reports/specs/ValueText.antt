@@ -31,7 +31,7 @@ worth_head =
     row (left 16 (codes "ITEM") ∷ right 2 (codes "LV") ∷ right 14 (codes "BUDGET") ∷ right 14 (codes "ACTUAL") ∷ right 14 (codes "VALUE")
     ∷ right 14 (codes "OVERRUN") ∷ right 12 (codes "FSLACK") ∷ codes "TITLE" ∷ [])
 
--- the least slack of an item, or a hyphen where there is none
+-- the least slack of an item, or a hyphen if there is none
 abbrev pub slack_text : Option ℤ → List ℕ
 slack_text (Some slack) = signed_decimal slack
 slack_text None = codes "-"

@@ -30,8 +30,7 @@ pub(crate) fn dates_of(
     Ok(dates)
 }
 
-/// Returns the date that is so many sixths of a day after the start, or ten hyphens if it is past the days that are
-/// printed.
+/// Returns the date this many sixths of a day after the start, or ten hyphens if it is past the days that are printed.
 pub(crate) fn date_text(start: Day, sixths: u64) -> [u8; DATE_LENGTH]
     requires { sixths < 2 ^ 40 }
     ensures date { IsDate start sixths result }

@@ -1,7 +1,7 @@
 -- The least of amounts that are placed on items.
 use Rattle.std.specs.Prelude.{◌≡◌, ℕ, ◌<◌, ℤ, ◌≤ℤ◌, List, Option, Some, None, slice_index_or}
 
--- the least of what f gives for those of the numbers below n that have P; none where no number has it
+-- the least value of f over the numbers below n that have P; none if no number has it
 abbrev pub IsLeastOver : (ℕ → Type 0) → ℕ → (ℕ → ℤ) → Option ℤ → Type 0
 IsLeastOver P n f None = (x : ℕ) → x < n → P x → ⊥
 IsLeastOver P n f (Some least) =

@@ -15,7 +15,7 @@ HasLine rows level x =
 abbrev pub line_at : List LevelLine → ℕ → LevelLine
 line_at lines k = slice_index_or lines k (record { item = 0; amount = pos 0 })
 
--- x stands in the list before y
+-- x comes before y in the list
 abbrev pub StandsBefore : List ℕ → ℕ → ℕ → Type 0
 StandsBefore order x y =
     (j : ℕ) × ((k : ℕ) × ((j < k) × (k < length order) × (slice_index order j ≡ x) × (slice_index order k ≡ y)))

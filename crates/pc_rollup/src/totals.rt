@@ -1,4 +1,4 @@
-//! The sum over what lies below each item: of one amount an item, or of amounts column by column.
+//! The sum over what is at or below each item: of one amount per item, or of amounts column by column.
 ghost use Rattle.std.specs.Prelude.{◌≡◌, ℕ, ◌^◌, ◌<◌, length, sum_by, unsigned_abs, IfOk, List, ℤ, ◌∷◌, []};
 ghost use Rattle.pc_rollup.specs.inside.Totals.{
   AreAtLeaves,
@@ -92,7 +92,7 @@ pub fn totals_of(alloc: Global, tree: &Tree, placed: &[Placed]) -> Result<Vec<i6
     rollup(alloc, tree, &amounts)
 }
 
-/// The sum of the amounts that stand on each of so many items.
+/// The sum of the amounts on each of `items` items.
 fn amounts_by_item(alloc: Global, items: u32, placed: &[Placed]) -> Result<Vec<i64>, AllocError>
     requires known { (k : ℕ) → k < length placed.now → place_of placed.now k < items }
     requires small { sum_by (λ p. unsigned_abs p.amount) placed.now < 2 ^ 63 }

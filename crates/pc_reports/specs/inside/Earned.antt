@@ -1,4 +1,4 @@
--- What the report of the value of work tells.
+-- What the report of the value of work contains.
 -- Here is what no clause of a top call and no law reaches.
 use Rattle.std.specs.Prelude.{ℕ, ◌<◌, ◌^◌}
 use Rattle.pc_accounts.specs.status.Statuses.{IsSixths}

@@ -1,4 +1,4 @@
--- What the report of event times tells.
+-- What the report of event times contains.
 -- Here is what no clause of a top call and no law reaches.
 use Rattle.std.specs.Prelude.{◌≤◌, unsigned_abs, length}
 use Rattle.std.specs.List.{All}

@@ -1,4 +1,4 @@
--- What the report of event times is written from, wherever it is kept.
+-- What the report of event times is written from, wherever it is stored.
 use Rattle.std.specs.Prelude.{◌≡◌, ℕ, ◌^◌, ◌<◌, ◌≤◌, pos, unsigned_abs, List, length, slice_index, slice_index_or}
 use Rattle.pc_model.specs.declared.limits.TheConstants.{MAX_EVENTS, MAX_VARIANCE}
 use Rattle.pc_times.specs.declared.TheConstants.{MAX_ACTIVITY_LENGTH}

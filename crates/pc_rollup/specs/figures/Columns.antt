@@ -9,12 +9,12 @@ use Rattle.pc_rollup.specs.Sums.{IsSumOver}
 use Rattle.pc_rollup.specs.Totals.{amount_at}
 use Rattle.pc_rollup.specs.Lines.{HasLine, AreLevelLines, sum_of}
 
--- each account stands on a leaf of the tree
+-- each account is on a leaf of the tree
 pub record AreOnTree (tree : List ItemRow) (accounts : List AcctRow) : Type 0 where
   pub known : (a : ℕ) → a < length accounts → item_of accounts a < length tree
   pub leaves : (a : ℕ) → a < length accounts → IsLeaf tree (item_of accounts a)
 
--- total is the sum of an amount over the accounts whose item is y or lies below it
+-- total is the sum of an amount over the accounts whose item is y or is below it
 abbrev pub IsItemSum : List ItemRow → List AcctRow → (ℕ → ℤ) → ℕ → ℤ → Type 0
 IsItemSum tree accounts amount y total =
     IsSumOver (λ a. IsBelow tree (item_of accounts a) y) (length accounts) amount total

@@ -1,4 +1,4 @@
--- The amounts of an account that the summary tells.
+-- The amounts of an account that the summary reports.
 use Rattle.std.specs.Prelude.{ℕ, ℤ, pos, ◌-ℤ◌, List}
 use Rattle.pc_accounts.specs.declared.book.Entry.{Entry}
 use Rattle.pc_accounts.specs.Entries.{entry_at, latest_of}

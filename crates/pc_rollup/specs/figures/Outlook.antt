@@ -21,11 +21,11 @@ pub record Outlook : Type 0 where
 abbrev pub amounts_at : List OutlookAmounts → ℕ → OutlookAmounts
 amounts_at amounts y = slice_index_or amounts y (record { budget = pos 0; outlook = pos 0; change = pos 0 })
 
--- an activity stands on item x
+-- an activity is on item x
 abbrev pub HasActivity : List ℕ → ℕ → Type 0
 HasActivity places x = (a : ℕ) × ((a < length places) × (slice_index places a ≡ x))
 
--- work is the sum of what the activities cost that stand on item y or below it
+-- work is the sum of the costs of the activities on item y or below it
 abbrev pub IsWork : List ItemRow → List ℕ → (ℕ → ℕ) → ℕ → ℤ → Type 0
 IsWork tree places cost y work =
     IsSumOver (λ a. IsBelow tree (slice_index places a) y) (length places) (λ a. pos (cost a)) work
@@ -45,7 +45,7 @@ pub record AreAmountsOf (tree : List ItemRow) (places : List ℕ) (cost : ℕ �
   pub outlook : amounts.outlook ≡ work +ℤ rest
   pub change : amounts.change ≡ amounts.outlook -ℤ amounts.budget
 
--- the items in preorder, and such amounts for each item, where the activities cost so much
+-- the items in preorder, and such amounts for each item, given the costs of the activities
 pub record IsOutlookOf (tree : List ItemRow) (places : List ℕ) (cost : ℕ → ℕ) (accounts : List AcctRow) (entries : List Entry) (outlook : Outlook) : Type 0 where
   pub outline : IsOutline tree outlook.outline
   pub one_each : length outlook.amounts ≡ length tree

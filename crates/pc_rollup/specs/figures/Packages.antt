@@ -15,7 +15,7 @@ IsFinished (Finished at) = Unit {0}
 IsFinished (Started at) = ⊥
 IsFinished Waiting = ⊥
 
--- the package on item x is finished: an activity stands there, and all that do are finished
+-- the package on item x is finished: it has an activity, and all its activities are finished
 pub record IsFinishedPackage (places : List ℕ) (states : List ActState) (x : ℕ) : Type 0 where
   pub some : (a : ℕ) × ((a < length places) × (slice_index places a ≡ x))
   pub all : (a : ℕ) → a < length places → slice_index places a ≡ x → IsFinished (state_at states a)

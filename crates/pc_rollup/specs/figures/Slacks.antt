@@ -11,7 +11,7 @@ abbrev pub slack_at : Network → List ℤ → List ℕ → ℕ → ℤ
 slack_at net late finishes a =
     slice_index_or late (to_of net.arcs a) (pos 0) -ℤ pos (slice_index finishes a)
 
--- one for each item: the least slack of the activities that stand on it or below it, if there are any
+-- one for each item: the least slack of the activities on it or below it, if there are any
 pub record AreLeastSlacks (tree : List ItemRow) (places : List ℕ) (slack : ℕ → ℤ) (slacks : List (Option ℤ)) : Type 0 where
   pub one_each : length slacks ≡ length tree
   pub each : (y : ℕ) → y < length tree → IsLeastOver (λ a. IsBelow tree (slice_index places a) y) (length places) slack (least_at slacks y)

@@ -1,4 +1,4 @@
--- What the management summary tells.
+-- What the management summary reports.
 use Rattle.std.specs.Prelude.{ℕ, ℤ, List, length}
 use Rattle.pc_wbs.specs.declared.tree.ItemRow.{ItemRow}
 use Rattle.pc_wbs.specs.Climb.{AreInRange, IsTree}
@@ -22,7 +22,7 @@ pub record Summary : Type 0 where
   pub latest : AmountColumn
   pub overrun : AmountColumn
 
--- the summary is that of these accounts, which stand on the items of this tree
+-- the summary is that of these accounts, which are on the items of this tree
 pub record IsSummaryOf (tree : List ItemRow) (accounts : List AcctRow) (entries : List Entry) (summary : Summary) : Type 0 where
   pub outline : IsOutline tree summary.outline
   pub budget : IsColumn tree accounts (λ a. (account_at entries a).budget) summary.budget
@@ -31,7 +31,7 @@ pub record IsSummaryOf (tree : List ItemRow) (accounts : List AcctRow) (entries 
   pub latest : IsColumn tree accounts (λ a. (account_at entries a).latest) summary.latest
   pub overrun : IsColumn tree accounts (λ a. (account_at entries a).overrun) summary.overrun
 
--- at each level each account is below exactly one line, and the lines add up to what the whole has
+-- at each level each account is below exactly one line, and the lines add up to the amounts of the project
 pub record CountsOnce (tree : List ItemRow) (accounts : List AcctRow) (whole : Entry) (summary : Summary) : Type 0 where
   pub one_line : HaveOneLine tree accounts
   pub budget : AddUpTo tree (amounts_of whole).budget summary.budget
@@ -40,7 +40,8 @@ pub record CountsOnce (tree : List ItemRow) (accounts : List AcctRow) (whole : E
   pub latest : AddUpTo tree (amounts_of whole).latest summary.latest
   pub overrun : AddUpTo tree (amounts_of whole).overrun summary.overrun
 
--- the accounts stand on the leaves of a tree, and the entries are what charges and amounts to go make of them at as-of
+-- the accounts are on the leaves of a tree, and the entries are those that follow from charges and amounts to go at
+-- as-of
 pub record AreBooked (tree : List ItemRow) (accounts : List AcctRow) (charges togos : List MoneyRow) (as_of : ℤ) (entries : List Entry) : Type 0 where
   pub ranged : AreInRange tree
   pub sound : IsTree tree

@@ -17,7 +17,7 @@ pub record Worth : Type 0 where
   pub value : List ℤ
   pub overrun : List ℤ
 
--- these are the sums over the accounts that stand on the item or below it
+-- these are the sums over the accounts on the item or below it
 pub record IsWorthOf (tree : List ItemRow) (places : List ℕ) (states : List ActState) (accounts : List AcctRow) (entries : List Entry) (worth : Worth) : Type 0 where
   pub values : List ℤ
   pub are_values : AreValues places states accounts entries values

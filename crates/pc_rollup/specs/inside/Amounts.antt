@@ -29,7 +29,7 @@ abbrev pub HaveTaken : {A : Type 0} → (A → List ℤ) → List A → ℕ → 
 HaveTaken columns old x more new =
     (c : ℕ) → column columns c new ≡ set (column columns c old) x (amount_at (column columns c old) x +ℤ amount_at (columns more) c)
 
--- in each column the amounts stand on leaves, and fit when they are added up
+-- in each column the amounts are on leaves, and fit when they are added up
 pub record CanBeRolled {A : Type 0} (columns : A → List ℤ) (rows : List ItemRow) (items : List A) : Type 0 where
   pub one_each : length items ≡ length rows
   pub at_leaves : (c : ℕ) → AreAtLeaves rows (column columns c items)

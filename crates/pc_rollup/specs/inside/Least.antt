@@ -12,7 +12,7 @@ pub record AreLeastOf (rows : List ItemRow) (placed : List Placed) (least : List
   pub one_each : length least ≡ length rows
   pub each : (y : ℕ) → y < length rows → IsLeastOver (λ k. IsBelow rows (place_of placed k) y) (length placed) (amount_of placed) (least_at least y)
 
--- one for each of so many items: the least of the first n amounts that are placed on it
+-- one for each of `items` items: the least of the first n amounts that are placed on it
 pub record AreLeastOn (items : ℕ) (placed : List Placed) (n : ℕ) (least : List (Option ℤ)) : Type 0 where
   pub one_each : length least ≡ items
   pub each : (x : ℕ) → x < items → IsLeastOver (λ k. place_of placed k ≡ x) n (amount_of placed) (least_at least x)

@@ -11,7 +11,7 @@ use Rattle.pc_rollup.specs.Totals.{amount_at}
 abbrev pub AreAtLeaves : List ItemRow → List ℤ → Type 0
 AreAtLeaves rows amounts = (x : ℕ) → x < length rows → (IsLeaf rows x → ⊥) → amount_at amounts x ≡ pos 0
 
--- one total for each item, the sum of the amounts of the leaves that are it or lie below it
+-- one total for each item, the sum of the amounts of the leaves that are it or are below it
 pub record AreRolledUp (rows : List ItemRow) (amounts totals : List ℤ) : Type 0 where
   pub one_each : length totals ≡ length rows
   pub each : (y : ℕ) → y < length rows → IsSumOver (λ x. IsLeaf rows x × IsBelow rows x y) (length rows) (amount_at amounts) (amount_at totals y)
@@ -37,7 +37,7 @@ pub record AreTotalsOf (rows : List ItemRow) (placed : List Placed) (totals : Li
   pub one_each : length totals ≡ length rows
   pub each : (y : ℕ) → y < length rows → IsSumOver (λ k. IsBelow rows (place_of placed k) y) (length placed) (amount_of placed) (amount_at totals y)
 
--- one amount for each of so many items, the sum of those that are placed on it
+-- one amount for each of `items` items, the sum of those that are placed on it
 pub record AreAmountsOf (items : ℕ) (placed : List Placed) (n : ℕ) (amounts : List ℤ) : Type 0 where
   pub one_each : length amounts ≡ items
   pub each : (x : ℕ) → x < items → IsSumOver (λ k. place_of placed k ≡ x) n (amount_of placed) (amount_at amounts x)

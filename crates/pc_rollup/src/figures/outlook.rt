@@ -157,7 +157,7 @@ impl Outlook {
     }
 }
 
-/// For each item whether an activity stands on it.
+/// For each item whether an activity is on it.
 pub(in crate::figures) fn marked(
     alloc: Global,
     items: u32,
@@ -173,7 +173,7 @@ pub(in crate::figures) fn marked(
     Ok(marks)
 }
 
-/// For each item the sums of what is added by the accounts and activities that are on it or below it.
+/// For each item the sums of the amounts of the accounts and activities that are on it or below it.
 fn sums_by_item(
     alloc: Global,
     tree: &Tree,

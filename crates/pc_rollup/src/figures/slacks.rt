@@ -99,7 +99,7 @@ fn least_of(alloc: Global, tree: &Tree, placed: &[Placed]) -> Result<Vec<Option<
     Ok(least)
 }
 
-/// The least of the amounts that stand on each of so many items.
+/// The least of the amounts on each of `items` items.
 fn least_by_item(
     alloc: Global,
     items: u32,

@@ -1,4 +1,4 @@
-//! What the management summary tells.
+//! What the management summary reports.
 ghost use Rattle.std.specs.Prelude.{◌≡◌, ℕ, ◌+◌, ◌<◌, ◌≤◌, ◌^◌, ℤ, pos, List, length, IfOk};
 ghost use Rattle.pc_wbs.specs.declared.tree.ItemRow.{ItemRow};
 ghost use Rattle.pc_accounts.specs.declared.book.AcctRow.{AcctRow};

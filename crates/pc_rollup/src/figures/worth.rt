@@ -26,7 +26,7 @@ use pc_wbs::Tree;
 use std::alloc::{AllocError, Global};
 use std::marker::Model;
 
-/// For each item whether all activities that stand on it are finished, or none where no activity stands on it.
+/// For each item whether all activities on it are finished, or none if no activity is on it.
 fn progress_of(
     alloc: Global,
     items: u32,

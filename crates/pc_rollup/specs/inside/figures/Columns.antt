@@ -30,6 +30,6 @@ abbrev pub worth_columns : WorthAmounts → List ℤ
 worth_columns amounts =
     amounts.budget ∷ amounts.actual ∷ amounts.value ∷ amounts.overrun ∷ []
 
--- a column of a summary, from what the items have and what the top has, which is what each of so many levels has
+-- a column of a summary, from the amounts of the items and that of the top, which each of `depth` levels has
 abbrev pub column_of : (SummaryAmounts → ℤ) → List SummaryAmounts → SummaryAmounts → ℕ → AmountColumn
 column_of part items whole depth = record { items = map part items; levels = replicate depth (part whole) }

@@ -6,7 +6,7 @@ use Rattle.pc_accounts.specs.declared.book.AcctRow.{AcctRow}
 use Rattle.pc_rollup.specs.declared.figures.outlook.OutlookAmounts.{OutlookAmounts}
 use Rattle.pc_rollup.specs.figures.Outlook.{AreAmountsOf, amounts_at}
 
--- of the first n activities, whether one stands on item x
+-- one of the first n activities is on item x
 abbrev pub HasActivityTo : List ℕ → ℕ → ℕ → Type 0
 HasActivityTo places n x = (a : ℕ) × ((a < n) × (slice_index places a ≡ x))
 
@@ -14,7 +14,7 @@ HasActivityTo places n x = (a : ℕ) × ((a < n) × (slice_index places a ≡ x)
 abbrev pub mark_at : List Bool → ℕ → Bool
 mark_at marks x = slice_index_or marks x false
 
--- those of so many items are marked on which one of the first n activities stands
+-- of `items` items those are marked that one of the first n activities is on
 pub record AreMarked (items : ℕ) (places : List ℕ) (n : ℕ) (marks : List Bool) : Type 0 where
   pub one_each : length marks ≡ items
   pub each : (x : ℕ) → x < items → IsTrue (mark_at marks x) ↔ HasActivityTo places n x

@@ -10,7 +10,7 @@ use Rattle.pc_times.specs.Forecast.{state_at}
 use Rattle.pc_rollup.specs.declared.figures.worth.WorthAmounts.{WorthAmounts}
 use Rattle.pc_rollup.specs.figures.Packages.{IsFinished}
 
--- of the first n activities, whether all that stand on item x are finished, or none where none stands there
+-- whether all of the first n activities on item x are finished, or none if there are none
 abbrev pub IsProgress : List ℕ → List ActState → ℕ → ℕ → Option Bool → Type 0
 IsProgress places states n x None = (a : ℕ) → a < n → slice_index places a ≡ x → ⊥
 IsProgress places states n x (Some true) =
@@ -22,7 +22,7 @@ IsProgress places states n x (Some false) =
 abbrev pub progress_at : List (Option Bool) → ℕ → Option Bool
 progress_at progress x = slice_index_or progress x None
 
--- one for each of so many items
+-- one for each of `items` items
 pub record AreProgress (items : ℕ) (places : List ℕ) (states : List ActState) (n : ℕ) (progress : List (Option Bool)) : Type 0 where
   pub one_each : length progress ≡ items
   pub each : (x : ℕ) → x < items → IsProgress places states n x (progress_at progress x)
