@@ -37,7 +37,7 @@ ends_line seg = Segment seg.upper seg.lower seg.cost seg.slope
 abbrev pub event_line : PricedNetwork → Stretch → ℕ → CertLine
 event_line net seg e = Event (text_at net.events e) (seg.time e) (seg.moves e)
 
--- the flow along activity a at each of its knees, and the one beside them
+-- the flow along activity a at each of its knees, and the one on its crash duration
 abbrev pub flows_along : PricedNetwork → Stretch → ℕ → List ℕ
 flows_along net seg a = listed ((knees_in net).count a) (seg.flow a) ++ seg.beside a ∷ []
 
@@ -61,7 +61,7 @@ pub record HasSmallNumbers (net : PricedNetwork) (seg : Stretch) : Type 0 where
   pub flows : (a k : ℕ) → a < length net.network.arcs → k < (knees_in net).count a → IsSmall (seg.flow a k)
   pub beside : (a : ℕ) → a < length net.network.arcs → IsSmall (seg.beside a)
 
--- ---- the whole certificate
+-- ---- the complete certificate
 
 -- the last line
 abbrev pub end_lines : List CertLine

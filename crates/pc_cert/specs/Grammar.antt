@@ -29,5 +29,5 @@ next (InSegment shape events activities) Close = if events == 0 && activities ==
 -- after a segment comes another one, or END
 next (Between shape) (Segment upper lower cost slope) = Some (InSegment shape shape.events shape.activities)
 next (Between shape) End = Some Ended
--- no other line may stand anywhere
+-- no other line is allowed anywhere
 next place line = None

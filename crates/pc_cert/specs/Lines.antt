@@ -1,4 +1,4 @@
--- The lines of a certificate, and how each is spelled.
+-- The lines of a certificate, and the text of each.
 use Rattle.std.specs.Prelude.{ℕ, ◌^◌, ◌<◌, ◌≤◌, List, [], ◌∷◌, ◌++◌, length, decimal, codes, if◌then◌else◌}
 use Rattle.pc_text.specs.Fields.{spaced, IsCode}
 use Rattle.pc_cert.specs.declared.line.CertLine.{CertLine}
@@ -11,7 +11,7 @@ abbrev pub numbers : List ℕ → List ℕ
 numbers [] = []
 numbers (n ∷ ns) = spaced (decimal n) (numbers ns)
 
--- the one spelling of a line, without its end
+-- the text of a line, without its end
 abbrev pub spelling : CertLine → List ℕ
 spelling (Head version project events activities) =
     codes "CERT" ++ spaced (decimal version) (spaced project (spaced (decimal events) (spaced (decimal activities) [])))
@@ -34,7 +34,7 @@ abbrev pub AreSmall : List ℕ → Type 0
 AreSmall [] = Unit {0}
 AreSmall (n ∷ ns) = IsSmall n × AreSmall ns
 
--- what a line says can be spelled: codes are codes, numbers have at most 18 digits, the version is 1 or 2, and an
+-- the line can be written: codes are codes, numbers have at most 18 digits, the version is 1 or 2, and an
 -- activity has two to six flows
 abbrev pub IsWritable : CertLine → Type 0
 IsWritable (Head version project events activities) = ((1 ≤ version) × (version ≤ 2)) × IsCode project × IsSmall events × IsSmall activities

@@ -1,4 +1,4 @@
--- Lists of what the numbers below a count give.
+-- Lists of the values of a function at the numbers below a count.
 use Rattle.std.specs.Prelude.{ℕ, zero, suc, List, [], ◌∷◌, ◌++◌}
 
 -- what the numbers below n give, from the least up

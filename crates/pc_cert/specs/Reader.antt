@@ -1,4 +1,4 @@
--- What a reader of a certificate stands for.
+-- The state of a reader of a certificate.
 use Rattle.std.specs.Prelude.{◌≡◌, ◌≢◌, ℕ, ◌+◌, ◌<◌, List, [], ◌∷◌, ◌++◌, length, Some, ◌⊎◌}
 use Rattle.pc_cert.specs.declared.line.CertLine.{CertLine}
 use Rattle.pc_cert.specs.declared.line.TheConstants.{MAX_LINE}
@@ -19,15 +19,15 @@ pub record IsGoing (place : Place) (number : ℕ) (held : List ℕ) (lines : Lis
   pub no_end : Lacks 10 held
   pub short : length held < MAX_LINE
 
--- no line that may stand in this place is spelled so
+-- no line that is allowed in this place has this text
 abbrev pub IsNotAllowed : Place → List ℕ → Type 0
 IsNotAllowed place bytes = (line : CertLine) (behind : Place) → IsWritable line → bytes ≡ spelling line → next place line ≡ Some behind → ⊥
 
--- a whole line that is not allowed in this place
+-- a complete line that is not allowed in this place
 abbrev pub IsBadLine : Place → List ℕ → Type 0
 IsBadLine place bad = (line : List ℕ) × Lacks 10 line × (bad ≡ line ++ 10 ∷ []) × IsNotAllowed place line
 
--- so many bytes of a line without its end
+-- as many bytes of a line without its end as make it too long
 abbrev pub IsTooLong : List ℕ → Type 0
 IsTooLong bad = (length bad ≡ MAX_LINE) × Lacks 10 bad
 
@@ -42,12 +42,13 @@ pub record IsStopped (malformed : Malformed) (lines : List CertLine) (text : Lis
   pub whole : text ≡ text_of lines ++ (bad ++ more)
   pub why : IsBadLine place bad ⊎ IsTooLong bad
 
--- the text is these lines, which are those of a whole certificate
+-- the text is these lines, which are those of a complete certificate
 pub record IsWhole (lines : List CertLine) (text : List ℕ) : Type 0 where
   pub led : LeadTo Ended lines
   pub whole : text ≡ text_of lines
 
--- the text ends behind these lines with a line missing: the last one is not the last of a certificate, or bytes follow it
+-- the text ends after these lines with a line missing: the last one is not the last of a certificate, or bytes follow
+-- it
 pub record IsMissing (malformed : Malformed) (lines : List CertLine) (text : List ℕ) : Type 0 where
   pub place : Place
   pub held : List ℕ

@@ -12,7 +12,7 @@ abbrev pub text_of : List CertLine → List ℕ
 text_of [] = []
 text_of (line ∷ lines) = spelling line ++ 10 ∷ text_of lines
 
--- each line can be spelled
+-- each line can be written
 abbrev pub AreWritable : List CertLine → Type 0
 AreWritable [] = Unit {0}
 AreWritable (line ∷ lines) = IsWritable line × AreWritable lines

@@ -9,15 +9,15 @@ use crate::front::begins;
 use crate::line::CertLine;
 use std::marker::Model;
 
-/// The most bytes of a line and its end that are kept: a longer line is read again each time.
+/// The most bytes of a line and its end that are stored: a longer line is read again each time.
 const ROOM: usize = 64;
 
-/// The bytes of a line and its end, if they are kept.
+/// The bytes of a line and its end, if they are stored.
 ///
 /// A caller that keeps them next to what it found in the line need not read the line when it occurs again.
 #[derive(Clone, Copy)]
 pub struct LineText {
-    // the bytes, and how many there are: 0 if they are not kept
+    // the bytes, and how many there are: 0 if they are not stored
     pub(crate) cells: [u8; ROOM],
     pub(crate) len: usize,
 }
@@ -94,7 +94,7 @@ impl KnownLine {
         self.line.as_ref()
     }
 
-    /// Returns the bytes of the line and its end, if they are kept.
+    /// Returns the bytes of the line and its end, if they are stored.
     pub fn text(&self) -> LineText
         ensures { IsTextOf self.now.line result }
     {

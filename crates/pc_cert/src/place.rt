@@ -59,7 +59,7 @@ pub enum Place {
         shape: Shape,
         steps: u64,
     },
-    /// in a segment; so many of its events and activities are still to come
+    /// in a segment; this many of its events and activities are still to come
     InSegment {
         shape: Shape,
         events: u64,
@@ -91,7 +91,7 @@ impl Place {
         }
     }
 
-    /// Goes on to the place after `line` if it is allowed here, and returns whether it is.
+    /// Moves to the place after `line` if it is allowed here, and returns whether it is.
     ///
     /// It does what `next` does, but among the rows of a segment it changes only the number of those still to come.
     #[inline(always)]
@@ -302,7 +302,7 @@ fn next_in_segment(shape: Shape, events: u64, activities: u64, line: &CertLine) 
     }
 }
 
-/// Returns whether an activity can have so many flows: two in version 1, and two to six in version 2.
+/// Returns whether an activity can have this many flows: two in version 1, and two to six in version 2.
 fn takes_flows(shape: Shape, flows: &Flows) -> bool
     ensures { result ≡ (shape.version == 2 || length flows.now == 2) }
 {

@@ -107,7 +107,7 @@ impl CertReader {
         ensures held { IfOk result (λ fed. IsNone fed.line → self.new.held ≡ self.old.held ++ piece.now) }
         ensures one_line { IfOk result (λ fed. IsSome fed.line → (0 < fed.used) × (self.new.held ≡ [])) }
 
-        // a line that is malformed is kept, and answered again
+        // a malformed line is remembered, and returned again
         ensures kept { MatchResult result (λ _. self.new.malformed ≡ None)
             (λ malformed. self.new.malformed ≡ Some malformed) }
         ensures again { (malformed : Malformed) → self.old.malformed ≡ Some malformed

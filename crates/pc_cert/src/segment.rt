@@ -117,7 +117,7 @@ fn put_act<O: Sink, V: SegmentView>(
     page.put(sink, b"\n");
 }
 
-/// Puts the flow along an activity at each of its knees, and the one beside them.
+/// Puts the flow along an activity at each of its knees, and the one on its crash duration.
 fn put_flows<O: Sink, V: SegmentView>(
     page: &mut Page,
     sink: &mut O,

@@ -1,4 +1,4 @@
--- The lines of a certificate of which some segments are written, and what has to be written so that a certificate is certified.
+-- The lines of a certificate with some segments written, and what has to be written so that a certificate is certified.
 use Rattle.std.specs.Prelude.{◌≡◌, ℕ, List, ◌++◌}
 use Rattle.std.specs.List.{flat_map}
 use Rattle.pc_model.specs.Walk.{IsWalk, walk_sum}
@@ -10,7 +10,7 @@ use Rattle.pc_crash.specs.Priced.{PricedNetwork, knees_in}
 use Rattle.pc_cert.specs.declared.line.CertLine.{CertLine}
 use Rattle.pc_cert.specs.Document.{head_lines, segment_lines}
 
--- the lines of a certificate of which so many segments are written
+-- the lines of a certificate with these segments written
 abbrev pub begun_lines : PricedNetwork → List ℕ → List ℕ → List Segment → List CertLine
 begun_lines net normal crash segments = head_lines net normal crash ++ flat_map (segment_lines net) segments
 
@@ -19,7 +19,7 @@ pub record IsThrough (net : Network) (lengths walk : List ℕ) (sum : ℕ) : Typ
   pub leads : IsWalk net.arcs net.start walk net.end
   pub adds : walk_sum lengths walk ≡ sum
 
--- whole segments that join, in the first of which all durations are normal; a walk whose normal durations add up to the
+-- complete segments that join, with all durations normal in the first one; a walk whose normal durations add up to the
 -- first upper end, and one whose crash durations add up to the last lower end
 pub record IsComplete (net : PricedNetwork) (normal crash : List ℕ) (segments : List Segment) : Type 0 where
   pub high : ℕ

@@ -16,7 +16,7 @@ pub record SaySame (net : PricedNetwork) (seg other : Segment) : Type 0 where
   pub flow : (a k : ℕ) → a < length net.network.arcs → k < (knees_in net).count a → other.flow a k ≡ seg.flow a k
   pub beside : (a : ℕ) → a < length net.network.arcs → other.beside a ≡ seg.beside a
 
--- as many segments, each of which says the same
+-- as many segments, each of which states the same
 pub record AllSaySame (net : PricedNetwork) (segments others : List Segment) : Type 0 where
   pub one_each : length others ≡ length segments
   pub each : (k : ℕ) → k < length segments → SaySame net (segment_at segments k) (segment_at others k)

@@ -9,7 +9,7 @@ use pc_edges::page::Page;
 use std::alloc::{AllocError, Global};
 use std::marker::Model;
 
-/// The capacity in bytes for gathered lines: some two hundred of them.
+/// The capacity in bytes of the buffer: some two hundred lines.
 const GATHERED_ROOM: usize = 4096;
 
 /// Lines that were put and are not on the page yet, one after the other.

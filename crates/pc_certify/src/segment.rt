@@ -1,4 +1,4 @@
-//! The lines of a segment, of which most were lines of the segment before.
+//! The lines of a segment, most of which were lines of the segment before.
 ghost use Rattle.std.specs.Prelude.{◌≡◌, ℕ, ◌<◌, [], ◌∷◌, length};
 ghost use Rattle.pc_edges.specs.inside.page.Puts.{Puts, desk};
 ghost use Rattle.pc_text.specs.Fields.{IsCode};
@@ -22,7 +22,7 @@ use pc_flow::Solver;
 
 /// A segment in which the flow along each activity fills its knees in order.
 ///
-/// A writer that kept the sum of an activity's flows sees by one comparison that they are the same again.
+/// A writer that stored the sum of an activity's flows sees by one comparison that they are the same again.
 pub trait FilledView: SegmentView {
     /// Returns the sum of the flows along an activity. In order, each knee takes as much of it as it can, and what is
     /// left flows beyond them.

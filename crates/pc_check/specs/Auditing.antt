@@ -1,4 +1,4 @@
--- How much of a text may come before something of it fails.
+-- How much of a text may come before something in it fails.
 use Rattle.std.specs.Prelude.{ℕ, ◌+◌, ◌*◌, length}
 use Rattle.pc_cert.specs.declared.line.TheConstants.{MAX_LINE}
 use Rattle.pc_check.specs.Bounds.{lines_of_all}

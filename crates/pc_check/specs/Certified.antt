@@ -1,4 +1,4 @@
--- The segments that a certificate's lines say, and what lines of which none fails prove.
+-- The segments in a certificate's lines, and what lines prove if none of them fails.
 use Rattle.std.specs.Prelude.{◌≡◌, ℕ, ◌≤◌, List, map, Some, None}
 use Rattle.pc_model.specs.Schedule.{IsAllNormalLength, IsAllCrashLength}
 use Rattle.pc_laws.specs.Segment.{Segment}
@@ -27,7 +27,7 @@ pub record AreCurve (net : PricedNetwork) (segments : List Segment) : Type 0 whe
   pub shortest : IsAllCrashLength net.network net.terms low
   pub read : (limit : ℕ) → low ≤ limit → limit ≤ high → IsReadRight net.network net.terms (knees_in net) segments limit
 
--- the lines are those of a whole certificate, and none of them fails
+-- the lines are those of a complete certificate, and none of them fails
 pub record AreCertified (net : PricedNetwork) (lines : List CertLine) : Type 0 where
   pub whole : ran Start lines ≡ Some Ended
   pub none : failure_of net lines ≡ None

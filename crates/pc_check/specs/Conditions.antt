@@ -23,7 +23,7 @@ condition number holds = record { number = number; holds = holds }
 abbrev pub is_one_length : Known → Bool
 is_one_length known = known.upper == known.lower
 
--- whether no segment is whole yet
+-- whether no segment is complete yet
 abbrev pub is_first : Known → Bool
 is_first known = known.segments == 0
 
@@ -47,7 +47,7 @@ has_joined_ends known upper lower slope =
 
 -- ---- an event
 
--- whether the code is the i-th of so many
+-- whether the code is the i-th of `count` codes
 abbrev pub is_code_at : ℕ → List (List ℕ) → ℕ → List ℕ → Bool
 is_code_at count codes i code = nat_lt i count && bytes_eq code (text_at codes i)
 
@@ -66,7 +66,8 @@ rests_in_one_length known moves = not (is_one_length known && moves)
 
 -- ---- an activity
 
--- 4, at an ACT line: the code is that of activity a, and it has a flow for each of its knees and one beside them
+-- 4, at an ACT line: the code is that of activity a, and it has a flow for each of its knees and one on its crash
+-- duration
 abbrev pub has_act_code : PricedNetwork → ℕ → List ℕ → List ℕ → Bool
 has_act_code net a code flows =
     is_code_at (length net.network.arcs) net.activities a code && length flows == (knees_in net).count a + 1
@@ -84,7 +85,7 @@ has_duration net known a duration =
 abbrev pub keeps_rises : PricedNetwork → ℕ → List ℕ → Bool
 keeps_rises net a flows = each_below ((knees_in net).count a) (λ k. nat_le (slice_index flows k) ((knees_in net).rise a k))
 
--- 11, at a gap: at each knee, and where the gap is above crash nothing flows beside them
+-- 11, at a gap: at each knee, and if the gap is above crash there is no flow on the crash duration
 abbrev pub is_slack_in : PricedNetwork → ℕ → ℕ → ℕ → List ℕ → Bool
 is_slack_in net head tail a flows =
     each_below ((knees_in net).count a) (λ k. is_slack_at_knee head tail ((knees_in net).knee a k) ((knees_in net).rise a k) (slice_index flows k))
@@ -117,7 +118,7 @@ has_stop known = is_one_length known || known.stops
 
 -- ---- the table
 
--- the conditions that are reported at a line, in the order of their numbers, where so much is known of the lines before it
+-- the conditions that are reported at a line, in the order of their numbers, given what is known of the lines before it
 abbrev pub conditions : PricedNetwork → Known → CertLine → List Condition
 conditions net known (Head version project events activities) =
     condition 1 (has_head net version project events activities) ∷ []

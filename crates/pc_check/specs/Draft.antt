@@ -1,4 +1,4 @@
--- What the lines of a certificate say so far.
+-- The contents of the lines of a certificate so far.
 use Rattle.std.specs.Prelude.{ℕ, Bool, true, false, List, [], ◌∷◌, ◌++◌, fold, slice_index_or, if◌then◌else◌}
 use Rattle.pc_cert.specs.declared.line.CertLine.{CertLine}
 use Rattle.pc_cert.specs.declared.line.CertLine.TheVariants.{Head, Normal, Step, Crash, Segment, Event, Act, Close, End}
@@ -34,7 +34,7 @@ pub record Draft : Type 0 where
   pub segments : List Part
   pub part : Part
 
--- no line has come
+-- no line so far
 abbrev pub empty_draft : Draft
 empty_draft = record {
   normal = [];

@@ -12,7 +12,7 @@ abbrev pub first_failing : List Condition → Option ℕ
 first_failing [] = None
 first_failing (c ∷ cs) = if c.holds then first_failing cs else Some c.number
 
--- the reason for which a line fails, where the lines before it say so much
+-- the reason for which a line fails, given the lines before it
 abbrev pub reason_at : PricedNetwork → Draft → CertLine → Option ℕ
 reason_at net draft line = first_failing (conditions net (said net draft) line)
 
@@ -21,7 +21,7 @@ abbrev pub or_later : ℕ → Option ℕ → Option Fail → Option Fail
 or_later line None later = later
 or_later line (Some reason) later = Some (record { line = line; reason = reason })
 
--- the first failure of lines, the first of which has this number, where those before them say so much
+-- the first failure of lines, the first of which has this number, given the lines before them
 abbrev pub failure_after : PricedNetwork → Draft → ℕ → List CertLine → Option Fail
 failure_after net draft number [] = None
 failure_after net draft number (line ∷ lines) = or_later number (reason_at net draft line) (failure_after net (with_line draft line) (number + 1) lines)

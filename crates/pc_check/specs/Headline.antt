@@ -1,4 +1,4 @@
--- The whole time-cost curve of a network, as the text of a certificate says it.
+-- The complete time-cost curve of a network, as the text of a certificate states it.
 use Rattle.std.specs.Prelude.{ℕ, ◌≤◌, List}
 use Rattle.pc_model.specs.Schedule.{IsAllNormalLength, IsAllCrashLength}
 use Rattle.pc_laws.specs.Cover.{Joins, IsReadRight}

@@ -1,4 +1,4 @@
--- What the conditions ask of the lines that have come.
+-- What the conditions ask of the lines so far.
 use Rattle.std.specs.Prelude.{ℕ, zero, suc, Bool, true, false, ◌&&◌, ◌||◌, Option}
 use Rattle.pc_laws.specs.Segment.{Segment}
 use Rattle.pc_check.specs.declared.walk.Reached.{Reached}
@@ -15,22 +15,22 @@ some_below (suc n) test = some_below n test || test n
 
 -- what is known of lines
 pub record Known : Type 0 where
-  -- how far the two walks have come, and whether the steps of the normal one are all there
+  -- how far the two walks lead, and whether the steps of the normal one are all there
   pub normal : Option Reached
   pub crash : Option Reached
   pub crash_walk_started : Bool
-  -- how many segments are whole
+  -- how many segments are complete
   pub segments : ℕ
   -- the ends, the cost and the slope of the last segment that has begun
   pub upper : ℕ
   pub lower : ℕ
   pub cost : ℕ
   pub slope : ℕ
-  -- how many of its events have come, their times, and whether they move
+  -- how many of its events there were, their times, and whether they move
   pub events : ℕ
   pub time : ℕ → ℕ
   pub moves : ℕ → Bool
-  -- how many of its activities have come, and what flows into each event and out of it along these
+  -- how many of its activities there were, and what flows into each event and out of it along these
   pub acts : ℕ
   pub inflow : ℕ → ℕ
   pub outflow : ℕ → ℕ

@@ -15,11 +15,11 @@ use Rattle.pc_check.specs.Walks.{length_in, walked, at_start}
 abbrev pub flow_along : PricedNetwork → Part → ℕ → ℕ
 flow_along net part a = whole_flow (knees_in net) (segment_in net part).flow (segment_in net part).beside a
 
--- the sum of what flows along those activities that have come and have an event at one of their ends
+-- the sum of the flows along those activities so far that have an event at one of their ends
 abbrev pub flow_at : PricedNetwork → Part → (ℕ → ℕ) → ℕ → ℕ
 flow_at net part event_of e = if nat_lt e net.network.events then at_event (length part.acts) event_of (flow_along net part) e else 0
 
--- what the activities that have come cost at their durations
+-- what the activities so far cost at their durations
 abbrev pub spent_in : PricedNetwork → Part → ℕ
 spent_in net part = sum_to (length part.acts) (λ a. activity_cost net.terms (knees_in net) a ((segment_in net part).duration a))
 
@@ -31,7 +31,7 @@ forward_by net seg a = if is_forward net.network.arcs seg.moves a then rises_abo
 abbrev pub backward_by : PricedNetwork → Segment → ℕ → ℕ
 backward_by net seg a = if is_backward net.network.arcs seg.moves a then rises_above net.network (knees_in net) seg 0 a else 0
 
--- what is known of lines that say so much
+-- what is known of lines with this draft
 abbrev pub said : PricedNetwork → Draft → Known
 said net draft = record {
   normal = walked net (length_in net false) (at_start net.network) draft.normal;

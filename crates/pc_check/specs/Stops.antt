@@ -13,7 +13,7 @@ use Rattle.pc_check.specs.declared.checker.Verdict.{Verdict}
 use Rattle.pc_check.specs.Failures.{failure_of}
 use Rattle.pc_check.specs.Texts.{Finds}
 
--- the bytes are whole lines, which may come in this order and of which none fails, and the beginning of one more
+-- the bytes are complete lines, in an order that is allowed, none of which fails, and the beginning of one more
 pub record HasNoFailure (net : PricedNetwork) (bytes : List ℕ) : Type 0 where
   pub place : Place
   pub lines : List CertLine

@@ -11,15 +11,15 @@ use Rattle.pc_check.specs.declared.checker.Verdict.TheVariants.{Yes, No}
 use Rattle.pc_check.specs.Failures.{failure_of}
 use Rattle.pc_check.specs.Certified.{segments_of}
 
--- the text is that of a whole certificate, of whose lines none fails, and they have so many segments. That these are the whole curve of
--- the network follows (`certificates_print_the_curve`)
+-- the text is that of a complete certificate, no line of it fails, and it has this many segments. That these are the
+-- complete curve of the network follows (`certificates_print_the_curve`)
 pub record IsCertified (net : PricedNetwork) (text : List ℕ) (segments : ℕ) : Type 0 where
   pub lines : List CertLine
   pub whole : IsWhole lines text
   pub none : failure_of net lines ≡ None
   pub count : segments ≡ length (segments_of net lines)
 
--- the first failing point of a text: whole lines, in the order in which they may come, have their first failure there; or
+-- the first failing point of a text: complete lines, in an order that is allowed, have their first failure there; or
 -- the lines before it have none, and the line is malformed or missing, which is reason 0
 pub data IsFailing (net : PricedNetwork) (text : List ℕ) (fail : Fail) : Type 0 where
   fails : (place : Place) (lines : List CertLine) (rest : List ℕ) → LeadTo place lines → text ≡ text_of lines ++ rest → failure_of net lines ≡ Some fail → IsFailing net text fail

@@ -35,7 +35,7 @@ walked net lengths at (code ∷ codes) = walked net lengths (stepped net lengths
 abbrev pub at_start : Network → Option Reached
 at_start net = Some (record { event = net.start; sum = 0 })
 
--- whether a walk has come to the end of the network with a sum
+-- whether a walk leads to the end of the network with a sum
 abbrev pub is_through : Network → ℕ → Option Reached → Bool
 is_through net sum None = false
 is_through net sum (Some at) = at.event == net.end && at.sum == sum

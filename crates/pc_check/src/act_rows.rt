@@ -98,7 +98,7 @@ fn pass_same(
     if activities <= a {
         return 0;
     }
-    // So no comparison in the loop asks for room: the last bytes of a piece are read one line at a time.
+    // So no comparison in the loop tests the capacity: the last bytes of a piece are read one line at a time.
     if piece.len() < WIDTH {
         return 0;
     }

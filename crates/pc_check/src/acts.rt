@@ -27,7 +27,7 @@ pub(crate) fn keeps_rises(knees: &[Knee], flows: &[u64]) -> bool
     true
 }
 
-/// Whether the flows fit the gap: at each knee, and where the gap is above crash nothing flows beside them.
+/// Whether the flows fit the gap: at each knee, and if the gap is above crash there is no flow on the crash duration.
 pub(crate) fn is_slack(gap: Gap, crash: u64, knees: &[Knee], flows: &[u64]) -> bool
     requires flows { length flows.now ≡ length knees.now + 1 }
     requires small { gap.tail < 2 ^ 65 }

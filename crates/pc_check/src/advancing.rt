@@ -1,4 +1,4 @@
-//! Going on by one line, and adding it to what is kept of a segment.
+//! Moving past one line, and adding it to the state of a segment.
 ghost use Rattle.std.specs.Prelude.{
   ◌≡◌,
   ◌^◌,
@@ -42,7 +42,7 @@ use pc_text::Code;
 
 /// Takes a line that is allowed here; `behind` is the place after it.
 ///
-/// Adds the line to what is kept, or returns the first condition that is reported at this line and does not hold.
+/// Adds the line to the state, or returns the first condition that is reported at this line and does not hold.
 pub(crate) fn advance(
     net: &CrashNet<'_>,
     kept: &mut Kept,
@@ -62,7 +62,7 @@ pub(crate) fn advance(
     ensures safe { IsSafe net.now kept.new.tally }
     ensures left { IfNone result (lines_left net.now kept.new < lines_left net.now kept.old) }
 {
-    // A project has at most so many events and activities, so that no count of lines and no sum is too large.
+    // The limits on a project's events and activities keep every count of lines and every sum in range.
     net.facts();
     match judge(net, kept, known, line) {
         Some(condition) => Some(condition),
@@ -74,7 +74,7 @@ pub(crate) fn advance(
     }
 }
 
-/// Adds a line to what is kept, or answers the first condition that is reported there and does not hold.
+/// Adds a line to the state, or returns the first condition that is reported there and does not hold.
 fn judge(
     net: &CrashNet<'_>,
     kept: &mut Kept,
@@ -139,7 +139,7 @@ fn judge_act(
     }
 }
 
-/// Adds a line of another kind to what is kept.
+/// Adds a line of another kind to the state.
 fn add(net: &CrashNet<'_>, kept: &mut Kept, line: &CertLine)
     requires safe { IsSafe net.now kept.old.tally }
     requires other { IsAct line.now → ⊥ }
@@ -179,7 +179,7 @@ fn add_step(net: &CrashNet<'_>, kept: &mut Kept, code: &Code)
     }
 }
 
-/// Begins a segment. What is kept of the activities, and the sums over all of them, stay until their lines come.
+/// Begins a segment. The state of the activities, and the sums over all of them, remain until their lines come.
 pub(crate) fn begin_segment(
     net: &CrashNet<'_>,
     tally: &mut Tally,
@@ -234,7 +234,7 @@ pub(crate) fn add_act(net: &CrashNet<'_>, tally: &mut Tally, crossing: &Crossing
     tally.acts += 1;
 }
 
-/// Keeps what has passed of the next activity, in place of what passed of it before, and so do the sums.
+/// Stores what has passed of the next activity, in place of what passed of it before, and updates the sums.
 fn renew(net: &CrashNet<'_>, tally: &mut Tally, passed: Passed)
     requires safe { IsSafe net.now tally.old }
     requires known { tally.old.acts < length net.now.network.arcs }

@@ -47,7 +47,7 @@ fn has_cut_gain(net: &CrashNet<'_>, kept: &Kept) -> bool
     requires { IsSafe net.now kept.now.tally }
     ensures { result ≡ has_cut_gain (known_by kept.now) }
 {
-    // A project has at most so many activities, so that the sum of the gains is not too large.
+    // The limit on a project's activities keeps the sum of the gains in range.
     net.facts();
     let tally = &kept.tally;
     tally.upper == tally.lower || tally.cut.forward == tally.cut.backward + u128::from(tally.slope)

@@ -20,7 +20,7 @@ pub(crate) struct Cut {
 }
 
 impl Cut {
-    /// The cut when no activity has come.
+    /// The cut before any activity.
     pub(crate) fn none() -> Cut
         ensures { result ≡ no_cut }
     {

@@ -13,7 +13,7 @@ pub struct Gap {
     pub(crate) tail: u128,
 }
 
-/// An activity beside the cut: its gaps at the upper and at the lower end of the segment, and whether it leads from a
+/// An activity across the cut: its gaps at the upper and at the lower end of the segment, and whether it leads from a
 /// resting to a moving event or the other way round.
 #[derive(Clone, Copy)]
 pub struct Crossing {

@@ -1,4 +1,4 @@
-//! What a checker keeps of the lines that have come, and how the lines of each event begin.
+//! The state of a checker after the lines so far, and how the lines of each event begin.
 ghost use Rattle.std.specs.Prelude.{◌≡◌, ◌<◌, slice_index, slice_index_or, length, false, IfOk};
 ghost use Rattle.pc_cert.specs.declared.place.Place.TheVariants.{Start};
 ghost use Rattle.pc_check.specs.inside.Bounds.{IsBounded};
@@ -14,7 +14,7 @@ use pc_cert::{EventFront, Place};
 use pc_crash::CrashNet;
 use std::alloc::{AllocError, Global};
 
-/// What is kept of the lines so far.
+/// The state after the lines so far.
 #[derive(Drop)]
 pub struct Kept {
     /// the place of the next line, and how many lines there were
@@ -24,12 +24,12 @@ pub struct Kept {
     pub(crate) normal: Option<Reached>,
     pub(crate) crash: Option<Reached>,
     pub(crate) crash_walk_started: bool,
-    /// how many segments are whole
+    /// how many segments are complete
     pub(crate) segments: u64,
     pub(crate) tally: Tally,
 }
 
-/// What is kept of the last segment that has begun.
+/// The state of the last segment that has begun.
 ///
 /// The sums of flows and of the cost stay from one segment to the next, since most activities do: an activity changes
 /// them where its line does. So they are those of the segment once all its activities have come.
@@ -48,7 +48,7 @@ pub struct Tally {
     pub(crate) inflow: Vec<u128>,
     pub(crate) outflow: Vec<u128>,
     pub(crate) spent: u64,
-    /// the cut, by the activities that have come
+    /// the cut, by the activities so far
     pub(crate) cut: Cut,
 }
 
@@ -72,7 +72,7 @@ impl Drop for Tally {
     }
 }
 
-/// What is kept before the first line.
+/// The state before the first line.
 pub(crate) fn kept_of(alloc: Global, net: &CrashNet<'_>) -> Result<Kept, AllocError>
     ensures kept { IfOk result (λ kept. IsKept net.now empty_draft kept) }
     ensures place { IfOk result (λ kept. kept.place ≡ Start) }
@@ -95,7 +95,7 @@ pub(crate) fn kept_of(alloc: Global, net: &CrashNet<'_>) -> Result<Kept, AllocEr
     })
 }
 
-/// What is kept before a segment has begun.
+/// The state before a segment has begun.
 fn tally_of(alloc: Global, net: &CrashNet<'_>) -> Result<Tally, AllocError>
     ensures begun { IfOk result (λ tally. IsBegun 0 0 0 0 tally) }
     ensures safe { IfOk result (λ tally. IsSafe net.now tally) }

@@ -1,4 +1,4 @@
-//! What passed last of each activity, so that a line that comes again is not asked everything anew.
+//! What passed last of each activity, so that a repeated line is not checked completely again.
 ghost use Rattle.std.specs.Prelude.{◌≡◌, ◌≢◌, ℕ, ◌+◌, ◌^◌, ◌<◌, ◌≤◌, min, true, IsTrue, IfOk, length};
 ghost use Rattle.pc_crash.specs.Priced.{knees_in};
 ghost use Rattle.pc_model.specs.Schedule.{normal_of};

@@ -233,7 +233,7 @@ fn fits_gap(net: &CrashNet<'_>, a: u32, gap: Gap, flows: &Flows) -> bool
     is_slack(gap, net.term(a).crash, list.as_slice(), flows.as_slice())
 }
 
-/// Whether the code is that of an activity, and there is a flow for each of its knees and one beside them.
+/// Whether the code is that of an activity, and there is a flow for each of its knees and one on its crash duration.
 pub(crate) fn has_act_code(net: &CrashNet<'_>, a: u32, code: &Code, flows: &Flows) -> bool
     ensures { result ≡ has_act_code net.now a code.now flows.now }
 {

@@ -62,7 +62,7 @@ pub fn length_in(net: &CrashNet<'_>, a: u32, is_crash: bool) -> u64
     if is_crash { term.crash } else { term.normal }
 }
 
-/// Whether a walk has come to the end of the network with this sum.
+/// Whether a walk leads to the end of the network with this sum.
 pub(crate) fn is_through(net: &CrashNet<'_>, sum: u64, at: Option<Reached>) -> bool
     ensures { result ≡ is_through net.now.network sum at }
 {

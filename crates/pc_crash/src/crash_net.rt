@@ -1,4 +1,4 @@
-//! A network whose activities can be shortened at a price: what one look at an activity tells, what durations cost,
+//! A network whose activities can be shortened at a price: what one look at an activity returns, what durations cost,
 //! what makes durations and times a schedule, and another term for one activity.
 ghost use Rattle.std.specs.Prelude.{
   ◌≡◌,
@@ -146,7 +146,7 @@ impl<'n> CrashNet<'n> {
         CrashNet::with_codes(alloc, net, terms, pieces, codes)
     }
 
-    /// Builds the network as [`CrashNet::build`] does, with codes that may be kept elsewhere.
+    /// Builds the network as [`CrashNet::build`] does, with codes that may be stored elsewhere.
     ///
     /// # Errors
     ///

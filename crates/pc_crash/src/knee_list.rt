@@ -7,7 +7,8 @@ use std::marker::Model;
 
 /// The knees of one activity's cost, in units: its normal duration, and then where each of its pieces begins.
 ///
-/// A unit by which the activity is shortened below knee k costs the sum of the rises of knees 0 to k.
+/// Each unit that the activity is shorter than knee k costs the sum of the rises of knees 0 to k, down to the next
+/// knee.
 #[derive(Drop)]
 pub struct KneeList<'n> {
     list: &'n [Knee],

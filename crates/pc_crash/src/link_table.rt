@@ -15,7 +15,7 @@ pub struct Link {
     pub other: u32,
 }
 
-/// Where the links of one event stand in the list of all: those of the activities that begin there from `begun` on, and
+/// The place of one event's links in the list of all: those of the activities that begin there from `begun` on, and
 /// those of the activities that end there from `ended` up to `end`.
 #[derive(Clone, Copy)]
 pub(crate) struct LinkRow {

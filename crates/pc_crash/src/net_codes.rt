@@ -14,7 +14,7 @@ pub struct NetCodes<'n> {
     lists: CodeLists<'n>,
 }
 
-/// The codes of events and activities, by who keeps them.
+/// The codes of events and activities, by their owner.
 #[derive(Drop)]
 pub(crate) enum CodeLists<'n> {
     Own {
@@ -61,7 +61,7 @@ impl<'n> NetCodes<'n> {
         })
     }
 
-    /// Returns these codes as they are kept elsewhere. Allocates nothing.
+    /// Returns these codes, which are stored elsewhere. Allocates nothing.
     pub fn of(project: Code, events: &'n [Code], activities: &'n Names) -> NetCodes<'n>
         ensures project { result.project ≡ project }
         ensures events { result.events ≡ events.now }

@@ -13,7 +13,7 @@ use pc_model::{Arc, Knee, MAX_PIECES_EACH, PieceRow, Term};
 use pc_net::Net;
 use std::alloc::{AllocError, Global};
 
-/// What is known of one activity. Its knees stand in the list of all of them, `count` from `first` on.
+/// The data of one activity. Its knees are in the list of all of them, `count` from `first` on.
 #[derive(Clone, Copy)]
 pub(crate) struct PriceRow {
     pub(crate) arc: Arc,

@@ -1,4 +1,4 @@
-//! A segment of the time-cost curve as its parts, wherever they are kept.
+//! A segment of the time-cost curve as its parts, wherever they are stored.
 ghost use Rattle.std.specs.Prelude.{◌≡◌, ◌<◌, ◌≤◌, length};
 ghost use Rattle.pc_laws.specs.Segment.{Segment};
 ghost use Rattle.pc_crash.specs.Priced.{PricedNetwork, knees_in};
@@ -7,7 +7,7 @@ ghost use Rattle.pc_crash.specs.Priced.{PricedNetwork, knees_in};
 ///
 /// Events and activities are numbered from 0 in card order.
 pub trait SegmentView {
-    // Whether a segment is there, of which network, and which one.
+    // Whether there is a segment, its network, and its value.
     ghost IsPresent: { Self → Type 0 };
 
     ghost net: { Self → PricedNetwork };
@@ -29,7 +29,7 @@ pub trait SegmentView {
         requires { IsPresent self.now }
         ensures { result ≡ (segment self.now).cost };
 
-    /// Returns what each unit by which the length is shorter costs.
+    /// Returns the cost of each unit that the length is shorter.
     fn slope(&self) -> u64
         requires { IsPresent self.now }
         ensures { result ≡ (segment self.now).slope };

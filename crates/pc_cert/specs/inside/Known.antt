@@ -6,7 +6,7 @@ use Rattle.pc_cert.specs.declared.event.EventFront.{EventFront}
 use Rattle.pc_text.specs.Fields.{run_len, Lacks}
 use Rattle.pc_cert.specs.inside.Reading.{line_of}
 
--- the line that was read last, if the bytes spelled one
+-- the line that was read last, if the bytes were one
 pub record Known : Type 0 where
   pub line : Option CertLine
 
@@ -17,13 +17,13 @@ pub record AreLine (bytes : List ℕ) (line : Option CertLine) : Type 0 where
   pub read : line_of text ≡ line
   pub whole : bytes ≡ text ++ 10 ∷ []
 
--- of 64 cells the first `len` are the line and its end, where these are kept
+-- of 64 cells the first `len` are the line and its end, if these are stored
 pub record AreCells (cells : List ℕ) (len : ℕ) (line : Option CertLine) : Type 0 where
   pub room : length cells ≡ 64
   pub within : len ≤ 64
   pub kept : 0 < len → AreLine (take len cells) line
 
--- the first line that ends in the piece is this one, and so many bytes are it and its end
+-- the first line that ends in the piece is this one, and the first `used` bytes are it and its end
 pub record IsAgain (line : Option CertLine) (piece : List ℕ) (used : ℕ) : Type 0 where
   pub within : used ≤ length piece
   pub ends : used ≡ run_len 10 piece + 1
@@ -35,11 +35,11 @@ pub record IsEventFront (code bytes : List ℕ) : Type 0 where
   pub short : length code + 6 ≤ 32
   pub same : take (length code + 6) bytes ≡ codes "EVENT" ++ 32 ∷ code
 
--- the bytes of a line and its end are kept
+-- the bytes of a line and its end are stored
 abbrev pub HasText : LineText → Type 0
 HasText text = 0 < text.len
 
--- where bytes are kept, they are those of this line and its end
+-- the stored bytes, if there are any, are those of this line and its end
 abbrev pub IsTextOf : Option CertLine → LineText → Type 0
 IsTextOf line text = AreCells text.cells text.len line
 

@@ -5,7 +5,7 @@ use Rattle.std.specs.Char.{is_ascii_digit}
 use Rattle.pc_text.specs.Number.{value_after}
 use Rattle.pc_cert.specs.declared.number.TheConstants.{MAX_DIGITS}
 
--- the first so many bytes, at most 18, are digits, and this is their value
+-- the first `count` bytes, at most 18, are digits, and this is their value
 pub record AreDigitsAt (bytes : List ℕ) (number count : ℕ) : Type 0 where
   pub within : count ≤ length bytes
   pub few : count ≤ MAX_DIGITS

@@ -1,4 +1,4 @@
--- What a reader of a certificate stands for.
+-- The state of a reader of a certificate.
 -- Here is what no clause of a top call and no law reaches.
 use Rattle.std.specs.Prelude.{◌≡◌, ℕ, ◌+◌, ◌^◌, ◌<◌, ◌≤◌, List, [], length, Option, Some, None, Result, Ok, Err, ◌⊎◌}
 use Rattle.pc_cert.specs.declared.line.CertLine.{CertLine}
@@ -9,8 +9,8 @@ use Rattle.pc_cert.specs.Grammar.{next}
 use Rattle.pc_cert.specs.declared.reader.Malformed.{Malformed}
 use Rattle.pc_cert.specs.Reader.{IsGoing, IsStopped, IsWhole, IsMissing}
 
--- what a reader keeps: its place in the order of lines, how many whole lines there were, the bytes of the line that has
--- not ended, and the first line that is malformed
+-- the state of a reader: its place in the order of lines, how many complete lines there were, the bytes of the line
+-- that has not ended, and the first line that is malformed
 pub record Reading : Type 0 where
   pub place : Place
   pub lines : ℕ
@@ -27,20 +27,21 @@ abbrev pub Stands : Option Malformed → Place → ℕ → List ℕ → List Cer
 Stands None place count held lines text = IsGoing place count held lines text
 Stands (Some malformed) place count held lines text = IsStopped malformed lines text
 
--- the reader stands for a text with these whole lines: for one that goes on, or for every one with its first malformed line
+-- the reader is in the state after a text with these complete lines: one without a malformed line, or any with its
+-- first one
 abbrev pub StandsFor : Reading → List CertLine → List ℕ → Type 0
 StandsFor reading lines text = Stands reading.malformed reading.place reading.lines reading.held lines text
 
--- how a text ends: whole, or with a line that is malformed or missing
+-- how a text ends: complete, or with a line that is malformed or missing
 abbrev pub EndsAs : {A : Type 0} → Result A Malformed → List CertLine → List ℕ → Type 0
 EndsAs (Ok done) lines text = IsWhole lines text
 EndsAs (Err malformed) lines text = IsStopped malformed lines text ⊎ IsMissing malformed lines text
 
--- the place behind a line, where there is one and it may stand in this place
+-- the place after a line, if there is one and it is allowed in this place
 abbrev pub place_behind : Place → Option CertLine → Option Place
 place_behind place line = line >>= next place
 
--- a reader has gone on behind a line that may stand in its place
+-- a reader has moved past a line that is allowed in its place
 pub record GoesBehind (line : Option CertLine) (used count : ℕ) (old new : Reading) : Type 0 where
   pub used_is : count ≡ used
   pub taken : CertLine
@@ -48,13 +49,13 @@ pub record GoesBehind (line : Option CertLine) (used count : ℕ) (old new : Rea
   pub goes : next old.place taken ≡ Some new.place
   pub moved : new ≡ record old { place = new.place; lines = old.lines + 1; held = [] }
 
--- a reader has stopped at a line that may not stand in its place, or at bytes that spell none
+-- a reader has stopped at a line that is not allowed in its place, or at bytes that are no line
 pub record StopsAt (line : Option CertLine) (malformed : Malformed) (old new : Reading) : Type 0 where
   pub number : malformed.line ≡ old.lines + 1
   pub kept : new ≡ record old { malformed = Some malformed }
   pub none : place_behind old.place line ≡ None
 
--- what comes of the line that ends in a piece, of which so many bytes are used with it
+-- the result of the line that ends in a piece, with `used` bytes used
 abbrev pub HasPassed : Option CertLine → ℕ → Reading → Reading → Result ℕ Malformed → Type 0
 HasPassed line used old new (Ok count) = GoesBehind line used count old new
 HasPassed line used old new (Err malformed) = StopsAt line malformed old new

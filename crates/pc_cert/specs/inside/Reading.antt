@@ -34,7 +34,7 @@ event_of fields = do
   moves ← bit_field time.1
   alone moves.1 (Event code.0 time.0 moves.0)
 
--- the numbers that the fields are, where there are at most so many
+-- the numbers in the fields, if there are at most `room`
 abbrev pub numbers_in : ℕ → List ℕ → Option (List ℕ)
 numbers_in room [] = Some []
 numbers_in zero (b ∷ bs) = None

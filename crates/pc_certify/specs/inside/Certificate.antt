@@ -17,7 +17,7 @@ pub record IsReadyFor (net : PricedNetwork) (certificate : Certificate) : Type 0
   pub acts : AreActsSpelled net certificate.lines.acts.items
   pub cells : 8 * net.network.events + 6 * length net.network.arcs + 2 * length net.pieces + 16 ≤ free_of certificate.region
 
--- the sink took a certificate of the network, whole
+-- the sink took a complete certificate of the network
 abbrev pub TookCertificate : PricedNetwork → Option (List ℕ) → Option (List ℕ) → ℕ → ℕ → Type 0
 TookCertificate net old new before after = (text : List ℕ) × IsCertificate net text × Wrote old new before after text
 

@@ -17,13 +17,13 @@ pub record IsAlong (net : PricedNetwork) (course : Course) : Type 0 where
   pub longest : IsAllNormalLength net.network net.terms course.longest
   pub shortest : IsAllCrashLength net.network net.terms course.shortest
 
--- no segment was given, and the course stands at the all-normal length
+-- no segment was given, and the course is at the all-normal length
 pub record IsAtTop (net : PricedNetwork) (course : Course) : Type 0 where
   pub along : IsAlong net course
   pub none : course.given ≡ false
   pub top : lower_of course ≡ course.longest
 
--- each segment's lines can be spelled
+-- each segment's lines can be written
 abbrev pub CanBeSpelled : PricedNetwork → List Segment → Type 0
 CanBeSpelled net segments = All (λ seg. AreWritable (segment_lines net seg)) segments
 

@@ -1,4 +1,4 @@
--- The lines of a segment as they were spelled last.
+-- The lines of a segment as they were written last.
 use Rattle.std.specs.Prelude.{◌≡◌, ℕ, ◌<◌, false, List, [], ◌∷◌, ◌++◌, length, slice_index_or}
 use Rattle.pc_model.specs.Codes.{text_at}
 use Rattle.pc_laws.specs.Stair.{stair_of, knee_flow, crash_flow}
@@ -10,18 +10,19 @@ use Rattle.pc_cert.specs.Listed.{listed}
 use Rattle.pc_certify.specs.declared.last_lines.EventRow.{EventRow}
 use Rattle.pc_certify.specs.declared.last_lines.ActRow.{ActRow}
 
--- the row spells what it says of the event with this code
+-- the text of the row is the line of the event with this code
 pub record SpellsEvent (code : List ℕ) (row : EventRow) : Type 0 where
   pub code_is : IsCode code
   pub text : row.spelling ≡ text_of (Event code row.time row.moves ∷ [])
 
--- a whole flow along activity a as it fills the knees in their order: what runs at each of them, and what is left beside them
+-- the flows along activity a when its total flow fills the knees in their order: at each of them, and on the crash
+-- duration
 abbrev pub filled_along : PricedNetwork → ℕ → ℕ → List ℕ
 filled_along net a whole =
     let stair = stair_of net.terms (knees_in net) a in
     listed stair.count (knee_flow stair whole) ++ crash_flow stair whole ∷ []
 
--- the row spells what it says of activity a: its duration, and the flows that its whole flow makes
+-- the text of the row is the line of activity a: its duration, and the flows into which its total flow is distributed
 pub record SpellsAct (net : PricedNetwork) (a : ℕ) (row : ActRow) : Type 0 where
   pub code_is : IsCode (text_at net.activities a)
   pub text : row.spelling ≡ text_of (Act (text_at net.activities a) row.duration (filled_along net a row.whole) ∷ [])
@@ -33,7 +34,7 @@ event_row rows e = slice_index_or rows e (record { time = 0; moves = false; spel
 abbrev pub act_row : List ActRow → ℕ → ActRow
 act_row rows a = slice_index_or rows a (record { duration = 0; whole = 0; spelling = [] })
 
--- each event has a row, which spells what it says of it
+-- each event has a row with the text of its line
 pub record AreEventsSpelled (net : PricedNetwork) (rows : List EventRow) : Type 0 where
   pub one_each : length rows ≡ net.network.events
   pub each : (e : ℕ) → e < net.network.events → SpellsEvent (text_at net.events e) (event_row rows e)

@@ -1,4 +1,4 @@
--- What has to hold so that a line can be added to what is kept.
+-- What must hold so that a line can be added to the checker's state.
 use Rattle.std.specs.Prelude.{◌+◌, ◌^◌, ◌<◌, length}
 use Rattle.pc_model.specs.declared.limits.TheConstants.{MAX_DURATION}
 use Rattle.pc_cert.specs.declared.line.CertLine.{CertLine}
@@ -12,7 +12,7 @@ abbrev pub IsAct : CertLine → Type 0
 IsAct (Act code duration flows) = Unit {0}
 IsAct other = ⊥
 
--- sums, lists and counts have room for one more
+-- sums, lists and counts have capacity for one more
 abbrev pub MayBeAdded : PricedNetwork → CertLine → Kept → Type 0
 MayBeAdded net (Step code) kept = (sum_of kept.normal + MAX_DURATION < 2 ^ 64) × (sum_of kept.crash + MAX_DURATION < 2 ^ 64)
 MayBeAdded net (Event code time moves) kept = (length kept.tally.times.items < net.network.events) × (length kept.tally.moves.items < net.network.events)

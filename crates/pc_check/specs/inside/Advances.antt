@@ -1,4 +1,4 @@
--- What one more line adds to what is kept.
+-- What one more line adds to the checker's state.
 use Rattle.std.specs.Prelude.{◌≡◌, ℕ, ◌+◌, ◌≤◌, Bool, true, false, List, [], ◌∷◌, ◌++◌, Some, if◌then◌else◌}
 use Rattle.pc_model.specs.declared.limits.TheConstants.{MAX_DURATION}
 use Rattle.pc_cert.specs.declared.line.CertLine.{CertLine}
@@ -40,11 +40,11 @@ Adds net (Act code duration flows) old new = KeepsAllBut old new × AddsAct net 
 Adds net Close old new = new ≡ record old { segments = old.segments + 1 }
 Adds net other old new = new ≡ old
 
--- what is kept behind the line, where the next one stands there
+-- the state after the line, with the next line after it
 abbrev pub moved_on : Kept → Place → Kept
 moved_on kept behind = record kept { place = behind; lines = kept.lines + 1 }
 
--- a line was added, and the next one stands behind it
+-- a line was added, and the next one comes after it
 pub record Advances (net : PricedNetwork) (line : CertLine) (old new : Kept) : Type 0 where
   pub goes : next old.place line ≡ Some new.place
   pub between : Kept

@@ -1,4 +1,4 @@
--- What an audit stands for.
+-- The state of an audit.
 -- Here is what no clause of a top call and no law reaches.
 use Rattle.std.specs.Prelude.{◌≡◌, ℕ, ◌+◌, ◌-◌, ◌*◌, ◌^◌, ◌<◌, ◌≤◌, List, ◌++◌, length, take, None, Result, IfOk, IfErr, OnOk}
 use Rattle.pc_cert.specs.declared.line.CertLine.{CertLine}
@@ -14,7 +14,7 @@ pub record Auditing : Type 0 where
   pub reader : Reading
   pub checker : Checking
 
--- the text was read, and its whole lines were checked
+-- the text was read, and its complete lines were checked
 pub record HasRead (text : List ℕ) (audit : Auditing) : Type 0 where
   pub lines : List CertLine
   pub read : ReadsAs audit.reader lines text

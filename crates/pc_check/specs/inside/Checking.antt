@@ -1,4 +1,4 @@
--- What a checker stands for.
+-- The state of a checker.
 use Rattle.std.specs.Prelude.{◌≡◌, ℕ, ◌<◌, List, length, map, Option, Some, None}
 use Rattle.pc_cert.specs.declared.line.CertLine.{CertLine}
 use Rattle.pc_cert.specs.declared.place.Place.TheVariants.{Start}
@@ -16,13 +16,13 @@ use Rattle.pc_check.specs.Said.{flow_along, forward_by, backward_by, said}
 use Rattle.pc_check.specs.Segments.{segment_in, stops_in}
 use Rattle.pc_check.specs.Failures.{failure_of}
 
--- a checker: the network of which it checks a certificate, what it keeps of the lines, and the first failure
+-- a checker: the network whose certificate it checks, its state after the lines, and the first failure
 pub record Checking : Type 0 where
   pub net : PricedNetwork
   pub kept : Kept
   pub fail : Option Fail
 
--- what is kept of a segment is what the rows of its part say
+-- the tally of a segment is what the rows of its part say
 pub record IsTallied (net : PricedNetwork) (part : Part) (tally : Tally) : Type 0 where
   pub upper : tally.upper ≡ part.upper
   pub lower : tally.lower ≡ part.lower
@@ -37,7 +37,7 @@ pub record IsTallied (net : PricedNetwork) (part : Part) (tally : Tally) : Type 
   pub backward : tally.cut.backward ≡ sum_to (length part.acts) (backward_by net (segment_in net part))
   pub stops : tally.cut.stops ≡ some_below (length part.acts) (stops_in net (segment_in net part))
 
--- what is kept is what is known of lines that say so much
+-- the state is what is known of lines with this draft
 pub record IsKept (net : PricedNetwork) (draft : Draft) (kept : Kept) : Type 0 where
   pub normal : kept.normal ≡ (said net draft).normal
   pub crash : kept.crash ≡ (said net draft).crash
@@ -45,7 +45,7 @@ pub record IsKept (net : PricedNetwork) (draft : Draft) (kept : Kept) : Type 0 w
   pub segments : kept.segments ≡ length draft.segments
   pub tally : IsTallied net draft.part kept.tally
 
--- lines of which none fails, in the order in which they may come, and what is kept of them
+-- lines in an order that is allowed, none of which fails, and the state after them
 pub record IsGoing (net : PricedNetwork) (kept : Kept) (lines : List CertLine) : Type 0 where
   pub order : ran Start lines ≡ Some kept.place
   pub count : kept.lines ≡ length lines

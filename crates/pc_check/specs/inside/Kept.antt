@@ -1,4 +1,4 @@
--- What a checker keeps, as what is known of the lines that have come.
+-- The state of a checker, as what is known of the lines so far.
 use Rattle.std.specs.Prelude.{false, length, slice_index, slice_index_or}
 use Rattle.pc_laws.specs.Segment.{Segment}
 use Rattle.pc_check.specs.declared.kept.Kept.{Kept}

@@ -12,7 +12,7 @@ use Rattle.pc_check.specs.KneeTests.{is_slack_at_knee}
 abbrev pub keeps_rises_over : List Knee → List ℕ → Bool
 keeps_rises_over knees flows = each_below (length knees) (λ k. nat_le (slice_index flows k) (knee_at knees k).rise)
 
--- at each knee, and where the gap is above crash nothing flows beside them
+-- at each knee, and if the gap is above crash there is no flow on the crash duration
 abbrev pub is_slack_over : ℕ → ℕ → ℕ → List Knee → List ℕ → Bool
 is_slack_over head tail crash knees flows =
     each_below (length knees) (λ k. is_slack_at_knee head tail (knee_at knees k).at (knee_at knees k).rise (slice_index flows k))

@@ -25,7 +25,7 @@ pub record AddsLine (net : PricedNetwork) (piece : List ℕ) (count : ℕ) (befo
   pub none : first_failing (conditions net (known_by old) line) ≡ None
   pub adds : Adds net line old new
 
--- what is kept where so many activities have come, with this cut
+-- the state after `a` activities, with this cut
 abbrev pub across_at : Kept → ℕ → Cut → Kept
 across_at kept a cut = record kept { tally = record kept.tally { acts = a; cut = cut } }
 

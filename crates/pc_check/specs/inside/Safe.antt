@@ -33,7 +33,7 @@ pub record IsSafe (net : PricedNetwork) (tally : Tally) : Type 0 where
   pub forward : tally.cut.forward ≤ tally.acts * 2 ^ 67
   pub backward : tally.cut.backward ≤ tally.acts * 2 ^ 67
 
--- the cut when no activity has come
+-- the cut before any activity
 abbrev pub no_cut : Cut
 no_cut = record { forward = 0; backward = 0; stops = false }
 
@@ -54,13 +54,13 @@ pub record IsExchanged (old new : List ℕ) (event before now : ℕ) : Type 0 wh
   pub elsewhere : (e : ℕ) → (e ≡ event → ⊥) → slice_index new e ≡ slice_index old e
   pub same_length : length new ≡ length old
 
--- this flow and this cost are kept of activity a, and of each other one what was
+-- this flow and this cost are stored for activity a, and those of each other activity are as before
 pub record IsRenewed (old new : List Passed) (a flows costs : ℕ) : Type 0 where
   pub flow : flow_of new a ≡ flows
   pub cost : cost_of new a ≡ costs
   pub others : (b : ℕ) → (b ≡ a → ⊥) → passed_at new b ≡ passed_at old b
 
--- one more activity has come, with its duration and its flows
+-- one more activity was added, with its duration and its flows
 pub record AddsAct (net : PricedNetwork) (old : Tally) (duration : ℕ) (flows : List ℕ) (new : Tally) : Type 0 where
   pub rest : new ≡ record old { acts = old.acts + 1; rows = new.rows; inflow = new.inflow; outflow = new.outflow; spent = new.spent; cut = new.cut }
   pub row : IsRenewed old.rows.items new.rows.items old.acts (flow_sum flows) (activity_cost net.terms (knees_in net) old.acts duration)

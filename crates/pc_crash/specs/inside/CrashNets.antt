@@ -33,7 +33,7 @@ pub record IsWhole (net : PricedNetwork) : Type 0 where
   pub events : AreNames net.network.events net.events
   pub activities : AreNames (length net.network.arcs) net.activities
 
--- the fields are those of a whole priced network, laid out, with the activities at each event linked
+-- the fields are those of a complete priced network, laid out, with the activities at each event linked
 pub record IsWholeInside (net : Inside) : Type 0 where
   pub whole : IsWhole (priced_network net)
   pub laid : AreLaid net.net.now.arcs (priced_network net).terms net.pieces.items (length net.layout.rows.items) net.layout.rows.items net.layout.knees.items

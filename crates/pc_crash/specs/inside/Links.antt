@@ -24,7 +24,7 @@ link_of other a = record { activity = a; other = other a }
 abbrev pub links_of : (ℕ → ℕ) → List ℕ → List Link
 links_of other activities = map (link_of other) activities
 
--- where one event's links stand; past the end of the rows there are none
+-- where one event's links are; past the end of the rows there are none
 abbrev pub link_row_at : List LinkRow → ℕ → LinkRow
 link_row_at rows e = slice_index_or rows e (record { begun = 0; ended = 0; end = 0 })
 

@@ -11,7 +11,8 @@ moved_knee old new zero knee = record { at = new.normal; rise = new.slope }
 moved_knee old new (suc zero) knee = record { at = knee.at - old.crash + new.crash; rise = knee.rise + old.slope - new.slope }
 moved_knee old new (suc (suc k)) knee = record { at = knee.at - old.crash + new.crash; rise = knee.rise }
 
--- it is no lower than the old crash duration, where its piece's slope is above the new one, and it has room there
+-- it is no lower than the old crash duration, if its piece's slope is above the new one, and it fits its type when
+-- moved
 pub record IsMovable (old new : Term) (k : ℕ) (knee : Knee) : Type 0 where
   pub above : 0 < k → old.crash ≤ knee.at
   pub low : 0 < k → knee.at - old.crash + new.crash < 2 ^ 64
