@@ -29,7 +29,7 @@ one_knee_slope net terms = record { count = λ a l. refl; knee = λ a l. refl; r
 module _ (net : Network) (terms : List Term) (knees : Knees) (one : HasOneSlope net terms knees) where
   -- Flows
 
-  -- the whole flow is f1 + f2
+  -- the total flow is f1 + f2
   both : (flow : ℕ → ℕ → ℕ) (beside : ℕ → ℕ) (a : ℕ) → a < length net.arcs → whole_flow knees flow beside a ≡ flow a 0 + beside a
   both flow beside a l = omega (arith, at_one (knees.count a) (flow a) (one.count a l))
 

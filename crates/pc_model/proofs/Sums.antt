@@ -31,7 +31,7 @@ sum_to-split n (suc m) f =
     let next : n + suc m ≡ suc (n + m) = omega arith in
     omega (arith, sum_to-split n m f, ap (λ (k : ℕ). sum_to k f) next)
 
--- a sum of so many terms, none above a bound
+-- a sum of n terms, none above a bound
 pub sum_to-most : (n most : ℕ) (f : ℕ → ℕ) → ((k : ℕ) → k < n → f k ≤ most) → sum_to n f ≤ n * most
 sum_to-most zero most f below = omega arith
 sum_to-most (suc n) most f below = omega (arith, sum_to-most n most f (λ k inside. below k (omega arith)), below n (omega arith))
@@ -91,7 +91,7 @@ pub times-if : (b : Bool) (c x : ℕ) → c * (if b then x else 0) ≡ (if b the
 times-if true c x = refl
 times-if false c x = omega arith
 
--- events weighted by what is put at them give the same sum as what is put, weighted by its event
+-- the sum over events of their weight times their amount is the sum over amounts of the weight of their event
 pub swap_sums : (n m : ℕ) (weight f place : ℕ → ℕ) → ((a : ℕ) → a < m → place a < n) →
     sum_to n (λ e. weight e * at_event m place f e) ≡ sum_to m (λ a. weight (place a) * f a)
 swap_sums n zero weight f place inside = sum_to-zero n (λ e. weight e * 0) (λ e h. omega arith)

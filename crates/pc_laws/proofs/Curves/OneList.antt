@@ -37,11 +37,11 @@ module _ (curve : ℕ → ℕ → Type 0) (one : (limit a b : ℕ) → curve lim
       ap (λ n. pointed n p.cost p.slope) same ∙ ap (λ n. pointed q.limit n p.slope) costs ∙ ap (λ s. pointed q.limit q.cost s) slopes
 
   module _ (ps qs : List Breakpoint) (p : AreBreakpoints curve shortest longest ps) (q : AreBreakpoints curve shortest longest qs) where
-    -- a length that stands in the one list stands in the other
+    -- a length in the one list is in the other
     found : (k : ℕ) → k < length ps → (j : ℕ) × (j < length qs) × ((breakpoint_at qs j).limit ≡ (breakpoint_at ps k).limit)
     found k l = q.every (breakpoint_at ps k).limit (p.each k l).breaks
 
-    -- where the lists agree in front of place k, what stands there in the other list stands no higher
+    -- if the lists agree before place k, the length there in the one list is at most that in the other
     not_above : (k : ℕ) → k < length ps → k < length qs → ((j : ℕ) → j < k → (breakpoint_at ps j).limit ≡ (breakpoint_at qs j).limit)
         → (breakpoint_at ps k).limit ≤ (breakpoint_at qs k).limit
     not_above k l m same =
@@ -65,7 +65,7 @@ one_list curve one shortest longest ps qs p q =
     (λ k l. one_point curve one shortest longest (breakpoint_at ps k) (breakpoint_at qs k) (p.each k l)
     (q.each k (agree ps qs p q (suc k) k (omega arith) l).0) (agree ps qs p q (suc k) k (omega arith) l).1)
   where
-    -- what stands in the one list at a place stands in the other there
+    -- the lengths at a place of the two lists are equal
     agree : (ps qs : List Breakpoint) → AreBreakpoints curve shortest longest ps → AreBreakpoints curve shortest longest qs
         → (n k : ℕ) → k < n → k < length ps → (k < length qs) × ((breakpoint_at ps k).limit ≡ (breakpoint_at qs k).limit)
     agree ps qs p q zero k below l = absurd (omega arith)

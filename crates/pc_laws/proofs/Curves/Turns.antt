@@ -10,7 +10,7 @@ use Rattle.pc_model.proofs.Costs.LeastCost.{unique}
 use Rattle.pc_model.proofs.Costs.Halfway.{convex}
 use Rattle.pc_laws.proofs.Segments.Readings.{right_at}
 
--- what is said of a curve: a length has one least cost, and of three lengths in a row the middle one's is at most the
+-- properties of a curve: a length has one least cost, and of three lengths in a row the middle one's is at most the
 -- mean of the outer ones'
 pub record IsCurve (curve : ℕ → ℕ → Type 0) : Type 0 where
   pub unique : (limit a b : ℕ) → curve limit a → curve limit b → a ≡ b
@@ -105,7 +105,7 @@ module _ (curve : ℕ → ℕ → Type 0) (is : IsCurve curve) where
           is.convex (later.upper - 1) a b c known.below (subst (λ n. curve n b) back known.at) (subst (λ n. curve n c) next known.above),
         )
 
--- the least costs are a curve, and right segments lie on it
+-- the least costs are a curve, and right segments are on it
 module _ (net : Network) (terms : List Term) (knees : Knees) (priced : IsPriced net terms knees) where
   pub is_curve : IsCurve (IsLeastCost net terms knees)
   is_curve = record {

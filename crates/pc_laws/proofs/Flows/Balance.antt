@@ -1,4 +1,4 @@
--- Laws of a flow through a network: `along a` is the whole flow along activity a.
+-- Laws of a flow through a network: `along a` is the total flow along activity a.
 use Rattle.std.proofs.Common.{◌≡◌, ◌==◌, ℕ, length, ◌+◌, ◌*◌, ◌<◌, ◌≤◌, Bool, true, false, not, ◌&&◌, if◌then◌else◌, ap, arith}
 use Rattle.std.proofs.lemmas.Bool.{ne_eqb, cond-false}
 use Rattle.std.proofs.Math.Nat.{add-mul, mul-le-mul_right}

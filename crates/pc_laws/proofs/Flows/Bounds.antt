@@ -75,7 +75,7 @@ unfolding is_second
 second_false (inl p) none = refl
 second_false (inr q) none = absurd (none q)
 
--- a test for: the event is none of the first n of a list
+-- a test for: the event is not among the first n of a list
 abbrev beyond : List ℕ → ℕ → ℕ → Bool
 beyond xs n e = is_second (stands_or_not xs n e)
 

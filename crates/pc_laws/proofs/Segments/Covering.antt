@@ -59,7 +59,7 @@ pub at_first_upper : (net : Network) (terms : List Term) (P : Segment → Type 0
 at_first_upper net terms P B at [] high low each joined normal = absurd joined
 at_first_upper net terms P B at (seg ∷ rest) high low (p, others) joined normal = subst B (joins-first seg rest high low joined) (at seg p normal)
 
--- a test for: the length lies between the ends of the segment
+-- a test for: the length is between the ends of the segment
 abbrev is_held : ℕ → Segment → Bool
 is_held limit seg = nat_le seg.lower limit && nat_le limit seg.upper
 
@@ -110,7 +110,7 @@ module _ (net : Network) (terms : List Term) (knees : Knees) (priced : IsPriced 
       (λ seg whole. crash_walk_at_lower net terms knees seg priced whole.right walk leads)
       segments high low each_one front.joined
 
-  -- what is read for each length that they hold is right
+  -- the reading for each length that they hold is right
   pub read_right : (limit : ℕ) → low ≤ limit → limit ≤ high → IsReadRight net terms knees segments limit
   read_right limit above below =
       found_for (IsSegment net terms knees) (λ seg. Holds seg limit × IsRight net terms knees seg limit) limit
@@ -157,7 +157,7 @@ all-long [] high low joined below long = absurd joined
 all-long (seg ∷ []) high low (upper, lower) below long = All-from_recursion IsLong (seg ∷ []) (omega (arith, upper, lower), tt)
 all-long (seg ∷ next ∷ rest) high low joined below long = long (omega arith)
 
--- one long segment more at the lower end goes on, where the front is long itself
+-- one more long segment at the lower end continues the front, if the front is long itself
 pub front_grows : (net : Network) (terms : List Term) (knees : Knees) (segments : List Segment) (seg : Segment) (high low : ℕ) →
     IsFront net terms knees segments high low → low < high → IsSegment net terms knees seg → seg.upper ≡ low → IsLong seg →
     IsFront net terms knees (segments ++ seg ∷ []) high seg.lower
@@ -171,7 +171,7 @@ front_grows net terms knees segments seg high low front below whole at long = re
 
 -- The conditions of a certificate
 
--- segments of which each begins where the one before ends are joined
+-- segments are joined if each begins where the one before ends
 joined_from : (seg : Segment) (rest : List Segment) →
     ((k : ℕ) → k + 1 < length (seg ∷ rest) → (segment_at (seg ∷ rest) (k + 1)).upper ≡ (segment_at (seg ∷ rest) k).lower) →
     Joins seg.upper (seg ∷ rest) (last_lower (seg ∷ rest))

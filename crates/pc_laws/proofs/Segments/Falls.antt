@@ -31,7 +31,7 @@ tight_amid terms knees a tail head flow g wide narrow within beyond = record {
   };
 }
 
--- what is tight depends on the gap alone
+-- whether an activity is tight depends only on its gap
 pub tight_shifted : (terms : List Term) (knees : Knees) (a tail head tail' head' : ℕ) (flow : ℕ → ℕ) (g : ℕ) → tail + head' ≡ head + tail' →
     IsTight terms knees a tail head flow g → IsTight terms knees a tail' head' flow g
 tight_shifted terms knees a tail head tail' head' flow g same p = tight_amid terms knees a tail' head' flow g p p (omega arith) (omega arith)

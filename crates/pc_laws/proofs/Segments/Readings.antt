@@ -196,7 +196,7 @@ module _ (net : Network) (terms : List Term) (knees : Knees) (priced : IsPriced 
       let split : seg.upper ≡ (seg.upper - limit) + limit = omega arith in
       omega (arith, promise_upper, mul_comm seg.slope seg.upper, mul-add seg.slope (seg.upper - limit) limit, mul_comm seg.slope limit, ap (λ x. seg.slope * x) split)
 
-  -- what is read for a length between the ends is right
+  -- the reading for a length between the ends is right
   pub right_at : (limit : ℕ) → seg.lower ≤ limit → limit ≤ seg.upper → IsRight net terms knees seg limit
   right_at limit above below =
       let read = tight_read limit above below in

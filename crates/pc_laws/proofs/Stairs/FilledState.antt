@@ -1,5 +1,5 @@
--- From one whole flow an activity to the flows at its knees: a state, labels that have come to a stand, and the fall
--- from there.
+-- From one total flow per activity to the flows at its knees: a state, labels that cannot grow, and the step of the
+-- times from there.
 use Rattle.std.proofs.Common.{◌≡◌, List, length, ℕ, ◌+◌, ◌-◌, ◌<◌, ◌≤◌, ◌==◌, Bool, true, inl, inr, ap, sym, ◌∙◌, arith}
 use Rattle.std.specs.Prelude.{if◌then◌else◌}
 use Rattle.pc_model.specs.declared.Term.{Term}
@@ -38,7 +38,7 @@ module _ (net : Network) (terms : List Term) (knees : Knees) where
       → whole_flow knees (λ b. knee_flow (stair_of terms knees b) (along b)) (λ b. crash_flow (stair_of terms knees b) (along b)) a ≡ along a
   whole along a = knee_flow-sum (stair_of terms knees a) (along a)
 
-  -- a whole flow that is filled in at the knees is a flow
+  -- a total flow that is distributed over the knees is a flow
   pub filled-flow : (along : ℕ → ℕ) (value : ℕ) → IsConserved net along → outflow net along net.start ≡ value
       → IsFlow net knees (λ a. knee_flow (stair_of terms knees a) (along a)) (λ a. crash_flow (stair_of terms knees a) (along a)) value
   filled-flow along value conserved leaves = record {
@@ -50,7 +50,7 @@ module _ (net : Network) (terms : List Term) (knees : Knees) where
   }
 
   module _ (falling : (a : ℕ) → a < length net.arcs → IsFalling (stair_of terms knees a)) where
-    -- a state in words of whole flows is one at knees
+    -- a state with total flows is one at knees
     pub filled-optimal : (limit : ℕ) (time along : ℕ → ℕ) (value : ℕ) → IsStairOptimal net terms knees limit time along value
         → IsOptimal net terms knees (filled_state terms knees limit time along value)
     filled-optimal limit time along value optimal = record {
@@ -63,7 +63,7 @@ module _ (net : Network) (terms : List Term) (knees : Knees) where
       flow = filled-flow along value optimal.conserved optimal.leaves;
     }
 
-    -- and a state at knees is one in words of whole flows
+    -- and a state at knees is one with total flows
     pub optimal-stair : (st : State) → IsOptimal net terms knees st
         → IsStairOptimal net terms knees st.limit st.time (whole_flow knees st.flow st.beside) st.value
     optimal-stair st optimal = record {
@@ -93,7 +93,7 @@ module _ (net : Network) (terms : List Term) (knees : Knees) where
       no_lower a l long (inr (at, some)) =
           omega (arith, long (omega arith), unit-past (stair_of terms knees a) (along a - 1) (omega arith))
 
-      -- labels that have come to a stand have done so at the knees
+      -- labels that cannot grow with total flows cannot grow at the knees
       pub filled-stuck : IsStairStuck net terms knees time along moves
           → IsStuck net terms knees (filled_state terms knees limit time along value) moves
       filled-stuck stuck = record {

@@ -16,7 +16,7 @@ knee_flows_to zero s flow = omega arith
 knee_flows_to (suc n) s flow = omega (arith, knee_flows_to n s flow)
 
 module _ (s : Stair) where
-  -- the knees and the arc beside them carry the whole flow
+  -- the knees and the crash duration carry the total flow
   pub knee_flow-sum : (flow : ℕ) → sum_to s.count (knee_flow s flow) + crash_flow s flow ≡ flow
   knee_flow-sum flow = omega (arith, knee_flows_to s.count s flow)
 
@@ -25,7 +25,7 @@ module _ (s : Stair) where
   knee_flow-within flow k = omega arith
 
   module _ (falling : IsFalling s) where
-    -- a gap that a flow fits leaves room for the crash duration
+    -- a gap that a flow fits is not below the crash duration
     pub stair-room : (gap flow : ℕ) → IsOnStair s gap flow → s.crash ≤ gap
     stair-room gap flow on = omega (arith, on.next, unit-crash s falling flow)
 
@@ -83,7 +83,7 @@ module _ (s : Stair) where
           | inr full ↦ omega arith
         ]
 
-  -- nothing runs beside the knees where the gap is above crash
+  -- nothing flows on the crash duration if the gap is above it
   pub crash_flow-none : (gap flow : ℕ) → IsOnStair s gap flow → s.crash < gap → crash_flow s flow ≡ 0
   crash_flow-none gap flow on wide =
       elim (cases_lt (full_reach s) flow) [

@@ -1,4 +1,4 @@
--- A raising in words of whole flows, walked back from the end, keeps what holds between two labellings.
+-- An augmentation with total flows, walked back from the end, preserves what holds between two labellings.
 use Rattle.std.proofs.Common.{◌≡◌, ◌≢◌, List, length, ℕ, ◌+◌, ◌<◌, inl, inr, sym, subst, arith}
 use Rattle.std.proofs.lemmas.Bool.{cases_eq}
 use Rattle.pc_model.specs.declared.Term.{Term}

@@ -1,4 +1,4 @@
--- Staircases with the same knees: a list of an activity's knees stands for the staircase of the activity.
+-- Staircases with the same knees: a list of an activity's knees represents the staircase of the activity.
 use Rattle.std.proofs.Common.{◌≡◌, ℕ, suc, ◌-◌, ◌<◌, ◌≤◌, inl, inr, ap, sym, ◌∙◌, arith}
 use Rattle.pc_model.proofs.Sums.{sum_to-same}
 use Rattle.pc_laws.specs.Stair.{Stair, IsFalling, IsSameStair, reach, full_reach, unit_length, IsOnStair, knee_flow, crash_flow}
@@ -44,7 +44,7 @@ module _ (s t : Stair) (same : IsSameStair s t) where
     above = λ k l. omega (arith, same.knee k l, same.crash, falling.above k (omega (arith, same.count)));
   }
 
-  -- and a whole flow is filled in alike
+  -- and a total flow is distributed alike
   pub same-knee_flow : (flow k : ℕ) → k < s.count → knee_flow s flow k ≡ knee_flow t flow k
   same-knee_flow flow k l = omega (arith, same.rise k l, same-reach k (omega arith))
 

@@ -1,5 +1,5 @@
--- What a state in words of whole flows gives, by the laws of states at knees: the first state, bounds, and the segment
--- and the state that a fall gives.
+-- What follows for a state with total flows from the laws of states at knees: the first state, bounds, and the segment
+-- and the state after a step of the times.
 use Rattle.std.proofs.Common.{◌≡◌, ◌⊎◌, List, length, ℕ, ◌+◌, ◌-◌, ◌*◌, ◌<◌, ◌≤◌, ◌==◌, Bool, true, false, inl, inr, refl, sym, ◌∙◌, subst, arith}
 use Rattle.std.specs.Prelude.{if◌then◌else◌}
 use Rattle.pc_model.specs.declared.Term.{Term}
@@ -82,7 +82,7 @@ module _ (net : Network) (terms : List Term) (knees : Knees) (priced : IsPriced 
         unmoved true = none
         unmoved false = refl
 
-    -- where nothing flows and no event moves, the segment of the present length alone is whole
+    -- if nothing flows and no event moves, the segment of only the present length is complete
     pub stair-level_segment : (moves : ℕ → Bool) → ((e : ℕ) → e < net.events → moves e ≡ false)
         → ((a : ℕ) → a < length net.arcs → along a ≡ 0) → value ≡ 0
         → IsSegment net terms knees (segment_of net terms knees (filled_state terms knees limit time along value) moves 0)
@@ -184,7 +184,7 @@ module _ (net : Network) (terms : List Term) (knees : Knees) (priced : IsPriced 
           fall_in_range net terms knees (filled_state terms knees limit time along value) moves fall
           at_knees fall_there priced
 
-      -- the lengths that the end falls through are a whole segment
+      -- the lengths through which the end falls are a complete segment
       pub stair-segment : IsSegment net terms knees (segment_of net terms knees (filled_state terms knees limit time along value) moves fall)
       stair-segment =
           segment_of_fall net terms knees (filled_state terms knees limit time along value) moves fall

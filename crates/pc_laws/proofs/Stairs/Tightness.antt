@@ -13,7 +13,7 @@ use Rattle.pc_laws.proofs.Stairs.Units.{place, unit-at, unit-past}
 use Rattle.pc_laws.proofs.Stairs.OnStair.{knee_flow-sum, stair-room, knee_flow-below_gap, knee_flow-above_gap, crash_flow-none}
 
 module _ (terms : List Term) (knees : Knees) (a : ℕ) (falling : IsFalling (stair_of terms knees a)) (tail head gap : ℕ) (spans : head ≡ tail + gap) where
-  -- a whole flow that fits the gap fits it at each knee when it is filled in
+  -- a total flow that fits the gap fits it at each knee when it is distributed
   pub stair-tight : (along : ℕ) → IsOnStair (stair_of terms knees a) gap along
       → IsTight terms knees a tail head (knee_flow (stair_of terms knees a) along) (crash_flow (stair_of terms knees a) along)
   stair-tight along on = record {
@@ -71,7 +71,7 @@ module _ (terms : List Term) (knees : Knees) (a : ℕ) (falling : IsFalling (sta
           | inr long ↦ long
         ]
 
-    -- so flows that fit the gap at the knees make a whole flow that fits it
+    -- so flows that fit the gap at the knees make a total flow that fits it
     pub tight-on_stair : IsOnStair (stair_of terms knees a) gap (sum_to (knees.count a) f + g)
     tight-on_stair = record { next = tight-next; last = tight-last }
 

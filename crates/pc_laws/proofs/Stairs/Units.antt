@@ -6,7 +6,7 @@ use Rattle.pc_model.specs.Sums.{sum_to}
 use Rattle.pc_model.proofs.Sums.{sum_to-le, sum_to-mono, sum_to-ends}
 use Rattle.pc_laws.specs.Stair.{Stair, IsFalling, reach, full_reach, length_to, unit_length, rises_over}
 
--- among rises one after the other, x lies behind all of them or within one
+-- among rises one after the other, x is after all of them or within one
 within : (n : ℕ) (rise : ℕ → ℕ) (x : ℕ) → (sum_to n rise ≤ x) ⊎ ((k : ℕ) × (k < n) × (sum_to k rise ≤ x) × (x < sum_to (suc k) rise))
 within zero rise x = inl (omega arith)
 within (suc n) rise x =
@@ -18,7 +18,7 @@ within (suc n) rise x =
       | inr at ↦ inr (at.0, omega (arith, at.1), at.2, at.3)
     ]
 
--- behind all rises a unit runs on the crash duration
+-- after all rises a unit runs on the crash duration
 past_all : (n : ℕ) (knee rise : ℕ → ℕ) (crash x : ℕ) → sum_to n rise ≤ x → length_to n knee rise crash x ≡ crash
 past_all zero knee rise crash x past = refl
 past_all (suc n) knee rise crash x past =
@@ -41,7 +41,7 @@ within_one (suc n) knee rise crash x k l from to =
     ]
 
 module _ (s : Stair) where
-  -- each unit runs on a knee, or lies behind them all
+  -- each unit runs on a knee, or is after them all
   pub place : (x : ℕ) → (full_reach s ≤ x) ⊎ ((k : ℕ) × (k < s.count) × (reach s k ≤ x) × (x < reach s (suc k)))
   place x = within s.count s.rise x
 
@@ -103,7 +103,7 @@ module _ (s : Stair) where
           | inr at ↦ omega (arith, unit-at x at.0 at.1 at.2 at.3, unit-most y at.0 at.1 (omega (arith, at.2)))
         ]
 
-    -- a unit whose arc is not longer than a gap comes behind the rises of all knees above the gap
+    -- a unit whose arc is not longer than a gap comes after the rises of all knees above the gap
     pub unit-over : (gap x : ℕ) → unit_length s x ≤ gap → rises_over s gap ≤ x
     unit-over gap x low =
         elim (place x) [
@@ -121,7 +121,7 @@ module _ (s : Stair) where
         at_most true r = omega arith
         at_most false r = omega arith
 
-    -- and where the gap is not below crash, one that comes behind them has no longer arc than the gap
+    -- and if the gap is not below crash, a unit after them has no longer arc than the gap
     pub over-unit : (gap x : ℕ) → s.crash ≤ gap → rises_over s gap ≤ x → unit_length s x ≤ gap
     over-unit gap x room behind =
         elim (cases_lt gap (unit_length s x)) [

@@ -17,7 +17,7 @@ use Rattle.pc_laws.proofs.Segments.Falls.{fall_of-zero, tight_shifted, falls_alo
 use Rattle.pc_laws.proofs.Segments.Readings.{right_at, cut_rises}
 use Rattle.pc_laws.proofs.States.Opening.{within_range}
 
--- what is known of a forward activity from s to t at one knee before a fall
+-- what holds of a forward activity from s to t at one knee before a fall
 record Shortens (s t knee rise flow fall : ℕ) : Type 0 where
   full : s + knee ≡ t → rise ≤ flow
   to_knee : 0 < rise → s + knee < t → s + knee + fall ≤ t
@@ -164,7 +164,7 @@ module _ (net : Network) (terms : List Term) (knees : Knees) (st : State) (moves
         falls_along net.arcs st.time moves fall (λ a here. let room = (tight_fallen a here).room in omega arith) walk net.start e walked
         (omega (arith, cond-false (moves net.start) fall 0 falls.stuck.start_rests))
 
-    -- and no further than the present length
+    -- and is at most the present length
     pub fall_within : fall ≤ st.limit
     fall_within = omega (arith, falls_above net.end priced.range.end_in, cond-true (moves net.end) fall 0 falls.stuck.end_moves, optimal.ends)
 
@@ -232,7 +232,7 @@ module _ (net : Network) (terms : List Term) (knees : Knees) (st : State) (moves
               stops,
         )
 
-    -- so it is a whole segment
+    -- so it is a complete segment
     pub segment_of_fall : IsSegment net terms knees (segment_of net terms knees st moves fall)
     segment_of_fall = record {
       right = right_of_fall;

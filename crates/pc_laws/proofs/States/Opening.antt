@@ -1,4 +1,5 @@
--- The first state, at the normal durations; and where it is as short as the crash durations allow, the whole curve.
+-- The first state, at the normal durations; and the complete curve, if that state is as short as the crash durations
+-- allow.
 use Rattle.std.proofs.Common.{◌≡◌, ◌≤◌, ◌<◌, ◌+◌, ℕ, List, [], ◌∷◌, length, ap, arith, refl, sym, ◌∙◌, subst}
 use Rattle.std.specs.Prelude.{◌==◌, if◌then◌else◌}
 use Rattle.std.proofs.lemmas.Bool.{cond_both}
@@ -18,7 +19,7 @@ use Rattle.pc_laws.proofs.Flows.Duality.{tight_schedule, tight_least}
 use Rattle.pc_model.proofs.Schedules.Shortest.{shortest_below_schedule}
 use Rattle.pc_model.proofs.Costs.PieceLaws.{knee-normal}
 
--- nothing is put at an event where nothing flows at a knee or beside them
+-- nothing flows at an event if nothing flows at a knee or on the crash duration
 none_at : (knees : Knees) (m : ℕ) (place : ℕ → ℕ) (e : ℕ) → at_event m place (whole_flow knees (λ a k. 0) (λ a. 0)) e ≡ 0
 none_at knees m place e =
     sum_to-zero m (λ a. if place a == e then whole_flow knees (λ a k. 0) (λ a. 0) a else 0)
@@ -56,7 +57,7 @@ module _ (net : Network) (terms : List Term) (knees : Knees) (limit : ℕ) (time
     };
   }
 
-  -- a segment of this one length alone is whole
+  -- a segment of only this length is complete
   pub level_segment : IsSegment net terms knees (segment_of net terms knees (opening limit times) rests 0)
   level_segment = record {
     right = record {

@@ -1,4 +1,4 @@
--- A raising keeps what holds between two labellings.
+-- An augmentation preserves what holds between two labellings.
 use Rattle.std.proofs.Common.{◌≡◌, ◌≢◌, ◌≤◌, ◌<◌, ◌+◌, ℕ, ◌⊎◌, inl, inr, ⊎_elim, List, length, arith, refl, sym, ◌∙◌, subst}
 use Rattle.std.proofs.lemmas.Bool.{cases_eq}
 use Rattle.pc_model.specs.declared.Term.{Term}
@@ -43,7 +43,7 @@ module _ (net : Network) (terms : List Term) (knees : Knees) (st : State) (room 
 
   module _ (f next_f : ℕ → ℕ → ℕ) (g next_g : ℕ → ℕ) (a x : ℕ) (l : a < length net.arcs) (step : IsStep net terms knees st f next_f g next_g a)
       (raising : IsRaising net terms knees st f g x room) where
-    -- the whole flow changes along a alone
+    -- the total flow changes only along a
     whole : (b : ℕ) → b < length net.arcs → b ≢ a → whole_flow knees f g b ≡ whole_flow knees next_f next_g b
     whole b m ne = omega (arith, sum_to-same (knees.count b) (f b) (next_f b) (λ k below. step.others b k m ne below), step.others_beside b m ne)
 

@@ -1,5 +1,5 @@
--- A raising walked back from the end: it begins with nothing, each step back carries it, and at the start it is a
--- flow of a higher value.
+-- An augmentation walked back from the end: it begins with no change, each step back continues it, and at the start it
+-- is a flow of a higher value.
 use Rattle.std.proofs.Common.{◌≡◌, ◌≢◌, ◌<◌, ◌+◌, ℕ, length, Bool, true, false, arith, refl, sym, subst, ap}
 use Rattle.std.specs.Prelude.{◌==◌, if◌then◌else◌}
 use Rattle.std.proofs.lemmas.Bool.{eq-eqb, ne_eqb, cond-true, cond-false}
@@ -11,7 +11,7 @@ use Rattle.pc_laws.specs.State.{IsPart}
 use Rattle.pc_model.proofs.Sums.{sum_to-change}
 use Rattle.pc_laws.proofs.Flows.Balance.{at_event-none}
 
--- where activity a has `room` more and the others have the same, so has the event at which it is put
+-- if activity a has `room` more and the others have the same, so has the event at its place
 at_event-more : (m : ℕ) (place now next : ℕ → ℕ) (e a room : ℕ) → a < m → next a ≡ now a + room → ((b : ℕ) → b < m → b ≢ a → now b ≡ next b)
     → at_event m place next e ≡ at_event m place now e + (if place a == e then room else 0)
 at_event-more m place now next e a room l more same =
@@ -27,7 +27,7 @@ at_event-more m place now next e a room l more same =
     parts false = refl
 
 module _ (net : Network) (old : ℕ → ℕ) (room : ℕ) where
-  -- at the end nothing is changed yet
+  -- at the end nothing has changed
   pub part_begins : IsPart net old old net.end room
   part_begins e l = omega arith
 

@@ -132,7 +132,7 @@ module _ (net : Network) (terms : List Term) (knees : Knees) (seg : Segment) whe
           eqb-true _ _ (subst (λ b. b ≡ true) (cond-false (e == net.end) true _ (ne_eqb e net.end t))
           (subst (λ b. b ≡ true) (cond-false (e == net.start) true _ (ne_eqb e net.start s)) passed))
 
-  -- and with an activity that stops it is whole
+  -- and with an activity that stops it is complete
   pub whole_from : IsPriced net terms knees → passes ≡ true → StopsAtLower net terms knees seg → IsSegment net terms knees seg
   whole_from priced passed stops = record {
     right = right_from passed;

@@ -35,7 +35,7 @@ pub upper_fits : (crash d d2 s t s2 t2 : ℕ) → crash ≤ d → crash ≤ d2 �
     → upper_half s s2 + crash ≤ upper_half t t2
 upper_fits crash d d2 s t s2 t2 a b p q = omega arith
 
--- what is missing to a knee at the two durations halfway is together at most what is missing at the two
+-- the two durations halfway are together at most as far below a knee as the two durations
 pub halfway : (normal knee d d2 s t s2 t2 : ℕ) → knee ≤ normal → s + d ≤ t → s2 + d2 ≤ t2
     → (knee - fitted normal (lower_half s s2) (lower_half t t2)) + (knee - fitted normal (upper_half s s2) (upper_half t t2))
     ≤ (knee - d) + (knee - d2)

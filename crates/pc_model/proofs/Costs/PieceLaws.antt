@@ -13,13 +13,13 @@ use Rattle.pc_model.specs.Pieces.{pieces_of, units_of, slope_in, knee_in, rise_i
 use Rattle.pc_model.proofs.Sums.{sum_to-add, sum_to-same, sum_to-zero}
 use Rattle.pc_model.proofs.Schedules.Durations.{crash-normal}
 
--- no knee lies above the normal duration
+-- no knee is above the normal duration
 pub knee-normal : (net : Network) (terms : List Term) (knees : Knees) → AreKnees net terms knees → (a k : ℕ) → a < length net.arcs →
     k < knees.count a → knees.knee a k ≤ normal_of terms a
 knee-normal net terms knees are a k inside below =
     omega (arith, are.first a inside, are.falling a 0 k inside (omega arith) below)
 
--- the normal durations cost what is said of them
+-- the normal durations cost what the terms say
 pub normal_cost : (net : Network) (terms : List Term) (knees : Knees) → AreTerms net terms → AreKnees net terms knees →
     cost_of terms knees (normal_of terms) ≡ sum_to (length terms) (base_cost_of terms)
 normal_cost net terms knees sized are =
@@ -46,7 +46,7 @@ one_knee_fits net terms are = record {
   above = λ a k inside below. crash-normal net terms are a inside;
 }
 
--- each unit by which a duration is below normal costs the slope
+-- each unit that a duration is below normal costs the slope
 pub one_knee_cost : (terms : List Term) (a d : ℕ) → activity_cost terms (one_knee terms) a d ≡ base_cost_of terms a + slope_of terms a * (normal_of terms a - d)
 one_knee_cost terms a d = omega arith
 
@@ -76,7 +76,7 @@ knee_in-falls term pieces leaving zero (suc k) order below =
 knee_in-falls term pieces leaving (suc j) (suc k) order below =
     omega (arith, units_of-drop pieces j k (omega arith) (omega arith))
 
--- and none lies below crash
+-- and none is below crash
 knee_in-above : (term : Term) (pieces : List PieceRow) → term.crash ≤ term.normal → (k : ℕ) → term.crash ≤ knee_in term pieces k
 knee_in-above term pieces ordered zero = ordered
 knee_in-above term pieces ordered (suc k) = omega arith
@@ -102,7 +102,7 @@ rises-slope term pieces rising zero below = omega arith
 rises-slope term pieces rising (suc k) below =
     omega (arith, rises-slope term pieces rising k (omega arith), rising k (omega arith), ap (slope_in term pieces) (add-one k))
 
--- without pieces each unit by which a duration is below normal costs the slope
+-- without pieces each unit that a duration is below normal costs the slope
 pub no_pieces_cost : (terms : List Term) (a d : ℕ) → activity_cost terms (knees_of terms []) a d ≡ base_cost_of terms a + slope_of terms a * (normal_of terms a - d)
 no_pieces_cost terms a d = omega arith
 
@@ -145,7 +145,7 @@ sum_to-front (suc n) m f g within same none =
       | inr h ↦ omega (arith, sum_to-front n m f g h same (λ k above below. none k above (omega arith)), none n h (omega arith))
     ]
 
--- the unit of a duration that lies in a piece costs the slope of this piece
+-- a unit of a duration within a piece costs the slope of this piece
 pub piece_cost : (net : Network) (terms : List Term) (pieces : List PieceRow) (a d k : ℕ) → AreTerms net terms → ArePieces terms pieces →
     a < length net.arcs → k ≤ length (pieces_of pieces a) → d < (knees_of terms pieces).knee a k →
     (k < length (pieces_of pieces a) → (knees_of terms pieces).knee a (k + 1) ≤ d) →

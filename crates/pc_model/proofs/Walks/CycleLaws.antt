@@ -29,7 +29,7 @@ pub length-passed : (arcs : List Arc) (e : ℕ) (walk : List ℕ) → length (pa
 length-passed arcs e [] = omega arith
 length-passed arcs e (a ∷ walk) = omega (arith, length-passed arcs (to_of arcs a) walk)
 
--- the front of a walk leads to the event that stands behind it
+-- the front of a walk leads to the event after it
 pub IsWalk-passed : (arcs : List Arc) (e f i : ℕ) (walk : List ℕ) → IsWalk arcs e walk f → i < length (passed arcs e walk) → IsWalk arcs e (take i walk) (slice_index (passed arcs e walk) i)
 IsWalk-passed arcs e f zero [] walked below = refl
 IsWalk-passed arcs e f (suc i) [] walked below = absurd (omega arith)
@@ -83,12 +83,12 @@ long_walk_has_cycle net ranged e f walk walked known long =
     )))
     (cycle_or_once net.arcs e f walk walked)
 
--- what stands in a list is a member of it
+-- an element of a list is a member of it
 member_from_stands : (xs : List ℕ) (q : ℕ) → StandsBelow xs (length xs) q → is_member nat_eq xs q ≡ true
 member_from_stands xs q (j, j_in, at) =
     (is_member-Decides unsigned_Decides xs q).1 (j, j_in, get_or_default xs j q 0 j_in ∙ at)
 
--- numbers below n that all stand in a list are no more than it has elements
+-- if all numbers below n are in a list, n is at most its length
 pub all_stand : (xs : List ℕ) (n : ℕ) → ((v : ℕ) → v < n → StandsBelow xs (length xs) v) → n ≤ length xs
 all_stand xs n stand =
     omega (arith, length-range_with_len 0 n, length-le_from_is_member nat_eq_equiv (range_with_len 0 n) xs apart within)
@@ -111,7 +111,7 @@ all_stand xs n stand =
         let same : k ≡ q = omega (arith, get_or-range_with_len 0 n k q below, at_k) in
         member_from_stands xs q (stand q (omega arith))
 
--- each number below n stands in a list, or one of them does not
+-- all numbers below n are in a list, or one of them is not
 pub stand_or_misses : (xs : List ℕ) (n : ℕ) → ((v : ℕ) → v < n → StandsBelow xs (length xs) v) ⊎ ((v : ℕ) × (v < n) × ((j : ℕ) → j < length xs → slice_index xs j ≢ v))
 stand_or_misses xs zero = inl (λ v below. absurd (omega arith))
 stand_or_misses xs (suc n) =

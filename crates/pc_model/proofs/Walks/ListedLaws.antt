@@ -1,4 +1,4 @@
--- Numbers that stand in a list, and lists of the numbers below a bound that have a property.
+-- Elements of a list, and lists of the numbers below a bound that have a property.
 use Rattle.std.proofs.Common.{◌≡◌, ℕ, ◌+◌, ◌<◌, ◌≤◌, zero, suc, List, [], ◌∷◌, ◌++◌, length, slice_index, take, Bool, true}
 use Rattle.std.proofs.Common.{false, cond, eqb, refl, sym, ◌∙◌, ap, subst, ⊎_elim, arith, eq-eqb, add-zero, length-take}
 use Rattle.std.proofs.lemmas.Bool.{cases_eq, ne_eqb}
@@ -6,21 +6,21 @@ use Rattle.std.proofs.lemmas.List.{get_or_append_left, get_or_push, length_push,
 use Rattle.pc_model.specs.Greatest.{StandsBelow, places}
 use Rattle.pc_model.specs.inside.Greatest.{IsListed}
 
--- what stands among the first n stands among more of them
+-- an element among the first n is among more of them
 pub StandsBelow-more : (xs : List ℕ) (n m v : ℕ) → StandsBelow xs n v → n ≤ m → StandsBelow xs m v
 StandsBelow-more xs n m v stands le = (stands.0, omega (arith, stands.1), stands.2)
 
--- it still stands there after one more is put behind the list
+-- it is still there after one more is appended
 pub StandsBelow-push : (xs : List ℕ) (y n v : ℕ) → StandsBelow xs n v → n ≤ length xs → StandsBelow (xs ++ y ∷ []) n v
 StandsBelow-push xs y n v stands le =
     (stands.0, stands.1, get_or_append_left xs (y ∷ []) 0 stands.0 (omega (arith, stands.1)) ∙ stands.2)
 
--- what stands in the front of a list stood there before one more was put behind it
+-- an element of the front of a list was there before one more was appended
 pub StandsBelow-unpush : (xs : List ℕ) (y n v : ℕ) → StandsBelow (xs ++ y ∷ []) n v → n ≤ length xs → StandsBelow xs n v
 StandsBelow-unpush xs y n v stands le =
     (stands.0, stands.1, sym (get_or_append_left xs (y ∷ []) 0 stands.0 (omega (arith, stands.1))) ∙ stands.2)
 
--- what is put behind a list stands in it
+-- what is appended to a list is in it
 pub StandsBelow-last : (xs : List ℕ) (y : ℕ) → StandsBelow (xs ++ y ∷ []) (length (xs ++ y ∷ [])) y
 StandsBelow-last xs y = (length xs, omega (arith, length_push xs y), get_or_push xs y 0 (length xs) refl)
 
@@ -32,7 +32,7 @@ IsListed-none P = record {
   rising = λ j k before below. absurd (omega arith);
 }
 
--- the bound itself has the property, and is put behind the list
+-- the bound itself has the property, and is appended to the list
 pub IsListed-push : (P : ℕ → Type 0) (n : ℕ) (xs : List ℕ) → IsListed P n xs → P n → IsListed P (n + 1) (xs ++ n ∷ [])
 IsListed-push P n xs listed holds = record {
   each = λ k below. ⊎_elim

@@ -14,7 +14,7 @@ use Rattle.pc_model.specs.Greatest.{StandsBelow}
 use Rattle.pc_model.specs.Walk.{to_of, IsWalk, IsCycle}
 use Rattle.pc_model.specs.Network.{Network, IsInRange, IsPartOrder, IsOrder}
 
--- a number stands among the first n of a list, or is none of them
+-- a number is among the first n of a list, or it is not
 pub stands_or_not : (xs : List ℕ) (n v : ℕ) → StandsBelow xs n v ⊎ ((j : ℕ) → j < n → slice_index xs j ≢ v)
 stands_or_not xs zero v = inr (λ j below. absurd (omega arith))
 stands_or_not xs (suc n) v =
@@ -40,7 +40,7 @@ room_below xs n below once =
         let small : q < n = omega (arith, below k in_list, at, get_or_default xs k q 0 in_list) in
         (is_member-Decides unsigned_Decides (range_with_len 0 n) q).1 (q, omega (arith, length-range_with_len 0 n), omega (arith, get_or-range_with_len 0 n q q small))
 
--- each event stands in an order of all events
+-- each event is in an order of all events
 pub stands_in_order : (net : Network) (order : List ℕ) → IsOrder net order → (e : ℕ) → e < net.events → StandsBelow order (length order) e
 stands_in_order net order ordered e below =
     ⊎_elim (λ s. s) (λ none. absurd (too_many none)) (stands_or_not order (length order) e)
@@ -74,7 +74,7 @@ walk_is_short net order ordered e f walk walked below =
     let (j, rises, at_j) = places_rise net order ordered.part e f k walk walked in_order at in
     omega (arith, ordered.whole)
 
--- no event stands at two places of an order
+-- no event is at two places of an order
 pub same_place : (net : Network) (order : List ℕ) → IsPartOrder net order → (j k : ℕ) → j < length order → k < length order → slice_index order j ≡ slice_index order k → j ≡ k
 same_place net order part j k j_in k_in same =
     ⊎_elim (λ s. s) (λ other. absurd (⊎_elim (λ lt. part.once j k lt k_in same) (λ gt. part.once k j (omega arith) j_in (sym same)) (cases_lt j k))) (cases_eq j k)

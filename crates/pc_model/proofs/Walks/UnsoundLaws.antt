@@ -1,4 +1,4 @@
--- A sound network has nothing of what makes one unsound.
+-- A sound network has none of the properties that make one unsound.
 use Rattle.std.proofs.Common.{◌≢◌, ℕ, ◌<◌, List, [], ◌∷◌, sym, inl, inr}
 use Rattle.pc_model.specs.Walk.{IsWalk, IsCycle}
 use Rattle.pc_model.specs.Network.{Network, IsEntered, IsLeft, IsDangling, IsSound}

@@ -11,7 +11,7 @@ IsWalk-append arcs e m f [] rest front back = subst (λ (x : ℕ). IsWalk arcs x
 IsWalk-append arcs e m f (a ∷ walk) rest front back =
     (front.0, front.1, IsWalk-append arcs (to_of arcs a) m f walk rest front.2 back)
 
--- a walk goes on by an activity that begins where it ends
+-- a walk is continued by an activity that begins where it ends
 pub IsWalk-push : (arcs : List Arc) (e m : ℕ) (walk : List ℕ) (a : ℕ) → IsWalk arcs e walk m → a < length arcs → from_of arcs a ≡ m → IsWalk arcs e (walk ++ a ∷ []) (to_of arcs a)
 IsWalk-push arcs e m walk a front below begins =
     IsWalk-append arcs e m (to_of arcs a) walk (a ∷ []) front (below, begins, refl)
@@ -32,7 +32,7 @@ split_walk arcs e f (a ∷ walk) rest whole =
     let (m, front, back) = split_walk arcs (to_of arcs a) f walk rest whole.2 in
     (m, (whole.0, whole.1, front), back)
 
--- a walk stands at some event after its first k activities, and goes on from there
+-- a walk is at some event after its first k activities, and continues from there
 pub split_walk_at : (arcs : List Arc) (e f k : ℕ) (walk : List ℕ) → IsWalk arcs e walk f → (m : ℕ) × IsWalk arcs e (take k walk) m × IsWalk arcs m (drop k walk) f
 split_walk_at arcs e f zero walk whole = (e, refl, whole)
 split_walk_at arcs e f (suc k) [] whole = (e, refl, whole)

@@ -20,7 +20,7 @@ each3 P p q r (suc zero) below = q
 each3 P p q r (suc (suc zero)) below = r
 each3 P p q r (suc (suc (suc a))) below = absurd (omega arith)
 
--- the deck names no event that it has not, and no activity begins where it ends
+-- the deck names no unknown event, and no activity begins where it ends
 pub small_in_range : IsInRange small_net
 small_in_range = record {
   start_in = omega arith;
