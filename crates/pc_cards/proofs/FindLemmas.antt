@@ -1,10 +1,10 @@
--- What is found, and what is not, by one test behind another.
+-- What is found, and what is not, by one test after another.
 use Rattle.std.proofs.Common.{◌≡◌, ℕ, Bool, true, false, not, List, [], ◌∷◌, Option, Some, None, if◌then◌else◌, ap, refl}
 use Rattle.std.specs.Option.{option_or}
 use Rattle.pc_cards.specs.Forms.{AllFit, Slot, field_numbered, first_misshapen, first_over_limit, has_shape, is_over_limit}
 use Rattle.pc_cards.specs.inside.Findings.{flaw_of_fields, misshapen_at, over_limit_at}
 
--- what is found later, where nothing is found before
+-- what is found later, if nothing is found before
 pub none_then : {A : Type 0} (first later found : Option A) → first ≡ None → later ≡ found → option_or first later ≡ found
 none_then None later found none is = is
 none_then (Some other) later found none is = absurd (let none' = none in cc)

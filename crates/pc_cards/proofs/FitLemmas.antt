@@ -1,4 +1,4 @@
--- A card of which nothing is found to be wrong: what each test found of it.
+-- A card without a fault: what each test found of it.
 use Rattle.std.proofs.Common.{◌≡◌, ℕ, ◌≤◌, Bool, true, false, not, ◌||◌, ◌==◌, nat_lt, List, [], ◌∷◌, find, Option, Some, None, is_some, unwrap_or, if◌then◌else◌, refl, subst, arith}
 use Rattle.std.proofs.lemmas.Bool.Decides.{nat_tests}
 use Rattle.std.specs.Option.{option_or}
@@ -29,7 +29,7 @@ pub no_limit : (row : ℕ) (slot : Option Slot) → over_limit_at row slot ≡ N
 no_limit row None h = refl
 no_limit row (Some slot) h = absurd (let h' = h in cc)
 
--- an element that is not found first, and none behind it
+-- an element that is not found first, and none after it
 none_found : {A : Type 0} (test : Bool) (x : A) (rest : Option A) → (if test then Some x else rest) ≡ None → (test ≡ false) × (rest ≡ None)
 none_found true x rest h = absurd (let h' = h in cc)
 none_found false x rest h = (refl, h)
@@ -44,7 +44,7 @@ all_fit (slot ∷ slots) fields shapes limits =
     let limit = none_found (is_over_limit slot.1 (field_numbered fields slot.0)) slot (find (λ (slot : Slot). is_over_limit slot.1 (field_numbered fields slot.0)) slots) limits in
     ((not_not _ shape.0, limit.0), all_fit slots fields shape.1 limit.1)
 
--- there is room for one more
+-- there is capacity for one more
 pub room_as : (kind : Kind) (row count limit : ℕ) (found : Option ℕ) → found ≡ Some limit → one_too_many kind row count found ≡ None → (count == limit) ≡ false
 room_as kind row count limit found is none =
     not_so _ _ (subst (λ (o : Option ℕ). one_too_many kind row count o ≡ None) is none)

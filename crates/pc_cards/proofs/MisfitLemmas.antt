@@ -24,7 +24,7 @@ over true true is = refl
 over true false is = absurd (let is' = is in cc)
 over false limit is = absurd (let is' = is in cc)
 
--- what was found to be wrong with a field, if anything was, tells whether it has the shape
+-- the error that was found of a field, if any, shows whether it has the shape
 pub shape_told : (number : ℕ) (form : FieldForm) (field : List ℕ) (misfit : Misfit) → IsMisfit number form field misfit → is_of_shape misfit.flaw ≡ not (has_shape form field)
 shape_told number form field misfit is = flawed (has_shape form field) (is_over_limit form field) misfit.flaw is.1
 
@@ -77,7 +77,7 @@ either : (test : Bool) (fields : List (List ℕ)) (xs ys : List Slot) → first_
 either true fields xs ys same = refl
 either false fields xs ys same = same
 
--- where the first of the fields that are not what they must be is over its limit, one of a wrong shape stands behind it
+-- if the first field error is a value over its limit, a field of a wrong shape comes after it
 behind_is : (slots : List Slot) (fields : List (List ℕ)) (misfit : Misfit) → IsFirstMisfit slots fields misfit → misfit.flaw ≡ flaw.Limit →
     first_misshapen slots fields ≡ first_misshapen (slots_behind misfit.number slots) fields
 behind_is [] fields misfit first is = absurd first
@@ -93,7 +93,7 @@ behind_is (slot ∷ slots) fields misfit (inr behind) is =
     passes (not (has_shape slot.1 (field_numbered fields slot.0))) slot (first_misshapen slots fields) (ap not behind.0.0)
     ∙ either (slot.0 == misfit.number) fields slots (slots_behind misfit.number slots) (behind_is slots fields misfit behind.1 is)
 
--- and F7 where that of one behind it is
+-- and F7 if that of one after it is
 pub misshapen_behind : (row : ℕ) (slots : List Slot) (fields : List (List ℕ)) (misfit : Misfit) (slot : Slot) →
     IsFirstMisfit slots fields misfit → misfit.flaw ≡ flaw.Limit → first_misshapen (slots_behind misfit.number slots) fields ≡ Some slot →
     flaw_of_fields row slots fields ≡ Some (fault.misshapen row slot.0)

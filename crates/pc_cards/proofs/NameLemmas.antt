@@ -1,4 +1,4 @@
--- Lists of cards in which no code stands twice.
+-- Lists of cards in which no code occurs twice.
 use Rattle.std.proofs.Common.{◌≡◌, ℕ, ◌+◌, ◌<◌, Bool, true, false, not, ◌||◌, nat_eq, List, [], ◌∷◌, ◌++◌, length, map}
 use Rattle.std.proofs.Common.{drop, get_or, refl, sym, ap, subst, append_assoc, ◌∙◌, arith, length-append, suc}
 use Rattle.std.proofs.lemmas.List.{drop_more, get_or_at, map-append}
@@ -9,7 +9,7 @@ use Rattle.pc_cards.specs.Named.{is_among}
 named_rest : (code : List ℕ) (codes : List (List ℕ)) → IsNamedOnce (code ∷ codes) → IsNamedOnce codes
 named_rest code codes once = λ j k before within same. once (suc j) (suc k) (omega arith) (omega arith) same
 
--- a code that stands behind others is none of them
+-- a code after others is none of them
 pub new_code : (front rest : List (List ℕ)) (code : List ℕ) → IsNamedOnce (front ++ code ∷ rest) → is_among code front ≡ false
 new_code [] rest code once = refl
 new_code (other ∷ front) rest code once = by (pointwise nat_eq code other) refl (new_code front rest code (named_rest other (front ++ code ∷ rest) once))
@@ -21,7 +21,7 @@ new_code (other ∷ front) rest code once = by (pointwise nat_eq code other) ref
         absurd (once 0 (suc (length front)) (omega arith) (omega (arith, length-append front (code ∷ rest))) (sym same ∙ sym at))
     by false is more = more
 
--- one more card of a list, no two of which have one code, is added to those before it
+-- one more card of a list without repeated codes is added to those before it
 pub added_more : {C : Type 0} (code_of : C → List ℕ) (all so_far next cards : List C) (i : ℕ) (card : C) (is_new : Bool)
     → IsNamedOnce (map code_of all) → so_far ++ drop i cards ≡ all → i < length cards → card ≡ get_or cards i card
     → is_new ≡ not (is_among (code_of card) (map code_of so_far)) → (is_new ≡ true → next ≡ so_far ++ card ∷ []) → next ++ drop (i + 1) cards ≡ all

@@ -105,7 +105,7 @@ length-fits (form.NumberOrNone least most) field fit =
     or_none (is_some (number_of field)) field 13 fit.0 (λ some. number-room field (is_read (is_number field) (value_after 0 field) some))
 length-fits form.Letter field fit = letter-room field fit.0
 
--- how many bytes the fields behind the kind take at most, a comma or the end of the line behind each
+-- how many bytes the fields after the kind take at most, a comma or the end of the line after each
 abbrev pub rooms : List Slot → ℕ
 rooms [] = 0
 rooms (slot ∷ slots) = (room slot.1 + 1) + rooms slots

@@ -1,4 +1,4 @@
--- Each form has one spelling: what is written of the value of a field that fits is the field.
+-- Each form has one text per value: the text written for the value of a field that fits is the field.
 use Rattle.std.proofs.Common.{◌≡◌, ℕ, Bool, true, false, not, ◌||◌, List, [], ◌∷◌, length, map, Some, None, is_some, unwrap_or, if◌then◌else◌, bytes_eq, codes, Result, Ok, Err, refl, sym, arith, ℤ}
 use Rattle.std.specs.Prelude.{decimal, pos}
 use Rattle.std.specs.Result.{result_unwrap_or}
@@ -18,7 +18,7 @@ use Rattle.pc_cards.specs.Forms.{AllFit, Fits, Slot, code_text, day_in, field_nu
 use Rattle.pc_cards.specs.declared.form.FieldForm.{FieldForm}
 use Rattle.pc_cards.specs.declared.form.FieldForm.TheVariants as form
 
--- what is written of the value of a field
+-- the text written for the value of a field
 abbrev pub respelled : FieldForm → List ℕ → List ℕ
 respelled form.Code field = field
 respelled form.GivenCode field = field
@@ -80,7 +80,7 @@ respelled-same (form.Number least most) field fit = a_number (is_number field) f
 respelled-same (form.NumberOrNone least most) field fit = a_number_or_none (is_number field) field refl fit.0
 respelled-same form.Letter field fit = a_letter (bytes_eq field (codes "F")) field refl fit.0
 
--- what is written of the values of a card's fields
+-- the texts written for the values of a card's fields
 abbrev pub all_respelled : List Slot → List (List ℕ) → List (List ℕ)
 all_respelled slots fields = map (λ slot. respelled slot.1 (field_numbered fields slot.0)) slots
 

@@ -8,7 +8,7 @@ use Rattle.std.proofs.Common.{inl, inr}
 use Rattle.pc_cells.specs.declared.region.Span.{Span}
 use Rattle.pc_cells.specs.inside.Spans.{span_at, cells_before, IsSpan}
 
--- what is written into a span moves no other
+-- a write into a span moves no other
 pub cells_before-set : (spans : List (List ℕ)) (k j : ℕ) (xs : List ℕ) → length xs ≡ length (span_at spans k)
     → cells_before (set spans k xs) j ≡ cells_before spans j
 cells_before-set [] k j xs size = refl

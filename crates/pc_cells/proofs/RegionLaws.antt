@@ -45,11 +45,11 @@ module _ (r : Inside) (now : Cells) (view : cells_of r ≡ now) (laid : IsLaidOu
   pub region-room : slice_index r.starts.items r.count ≤ now.capacity
   region-room = omega (arith, laid.starts.within, region-capacity)
 
-  -- there is a start for each span and one behind them
+  -- there is a start for each span and one after them
   pub region-count : r.count ≤ length r.cells.items
   region-count = omega (arith, start-above r.starts.items r.count (length r.cells.items) laid.starts r.count (omega arith), laid.starts.within)
 
-  -- the place behind the last span, as it is read
+  -- the place after the last span, as it is read
   pub region-end : (x : ℕ) → x ≡ get_or r.starts.items r.count x → x ≡ slice_index r.starts.items r.count
   region-end x read = get_or_read r.starts.items r.count x (omega (arith, region-count, laid.room)) read 0
 
@@ -57,7 +57,7 @@ module _ (r : Inside) (now : Cells) (view : cells_of r ≡ now) (laid : IsLaidOu
   region-free x size read is =
       ap (λ n. n - x) (is ∙ sym region-capacity) ∙ ap (λ n. now.capacity - n) (region-end x read ∙ region-used)
 
-  -- there is room for one more start where there is room for one more cell
+  -- there is capacity for one more start if there is capacity for one more cell
   pub starts-room : (place len : ℕ) → 0 < len → place ≡ slice_index r.starts.items r.count → place + len ≤ length r.cells.items
       → r.count + 1 < length r.starts.items
   starts-room place len some begins fits =
@@ -143,7 +143,7 @@ pub record HasOneMore (next : Inside) (now : Cells) (place len : ℕ) : Type 0 w
   pub taken : cells_of next ≡ record { capacity = now.capacity; spans = now.spans ++ replicate len 0 ∷ [] }
   pub span : IsSpan (cells_of next).spans (length now.spans) (record { place = place; len = len })
 
--- one more span: behind the last, with 0 in each of its cells
+-- one more span: after the last, with 0 in each of its cells
 module _ (r next : Inside) (now : Cells) (view : cells_of r ≡ now) (laid : IsLaidOut r) (place len : ℕ) (some : 0 < len)
     (begins : place ≡ slice_index r.starts.items r.count) (fits : place + len ≤ length r.cells.items)
     (filled : IsRangeFilled r.cells.items next.cells.items place (place + len) 0)

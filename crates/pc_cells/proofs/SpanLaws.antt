@@ -24,7 +24,7 @@ module _ (starts : List ℕ) (n size : ℕ) (good : AreStarts starts n size) whe
         ap (slice_index starts) (let e : j + d + 1 ≡ j + suc d = omega arith in e),
       )
 
-  -- no start lies below an earlier one
+  -- no start is below an earlier one
   pub start-rises : (j k : ℕ) → j ≤ k → k ≤ n → slice_index starts j ≤ slice_index starts k
   start-rises j k before within =
       omega (arith, rises_by j (k - j) (omega arith), ap (slice_index starts) (let e : j + (k - j) ≡ k = omega arith in e))
@@ -71,7 +71,7 @@ module _ (cells starts : List ℕ) (n : ℕ) (good : AreStarts starts n (length 
         ap (slice_index starts) next,
       )
 
-  -- the spans have together what lies before the last start
+  -- the spans have together the cells before the last start
   pub sum-spans : sum_by length (spans_of cells starts n) ≡ slice_index starts n
   sum-spans =
       ap (sum_by length) (sym (take_all_spans)) ∙ cells_before-spans n (omega arith)
@@ -79,7 +79,7 @@ module _ (cells starts : List ℕ) (n : ℕ) (good : AreStarts starts n (length 
       take_all_spans : take n (spans_of cells starts n) ≡ spans_of cells starts n
       take_all_spans = take-map-range_with_len (between_starts cells starts) 0 n n (omega arith)
 
-  -- where the k-th span stands
+  -- the place of the k-th span
   pub span-begins : (k : ℕ) (s : Span) → IsSpan (spans_of cells starts n) k s → s.place ≡ slice_index starts k
   span-begins k s is = is.begins ∙ cells_before-spans k (omega (arith, is.known, length-spans))
 
@@ -111,7 +111,7 @@ module _ (cells starts : List ℕ) (n : ℕ) (good : AreStarts starts n (length 
             | inr apart ↦ others j below apart ∙ sym (get_or-set_other (spans_of cells starts n) k j xs d apart ∙ spans-at j d below)
           ]
 
--- a write behind a range, or in front of it
+-- a write after a range, or before it
 range-off : (xs : List ℕ) (from to at v : ℕ) → (at < from) ⊎ (to ≤ at) → slice_range (set xs at v) from to ≡ slice_range xs from to
 range-off xs from to at v (inl before) = ap (take (to - from)) (drop-set-lt from xs at v before)
 range-off xs from to at v (inr behind) = between_is (set xs at v) from to ∙ ap (drop from) (take-set-le to xs at v behind) ∙ sym (between_is xs from to)
@@ -120,7 +120,7 @@ range-in : (xs : List ℕ) (from to i v : ℕ) → from + i < to → slice_range
 range-in xs from to i v below =
     ap (take (to - from)) (drop-set-add from xs i v) ∙ take-set-lt (to - from) (drop from xs) i v (omega arith)
 
--- what is written over a range stands there
+-- what is written over a range is there
 pub range-written : (xs : List ℕ) (from to : ℕ) (ys : List ℕ) → from ≤ to → to ≤ length xs → length ys ≡ to - from
     → IsRangeWritten xs (put_mid from (to - from) xs ys) from to ys
 range-written xs from to ys ordered within long = record {
@@ -170,7 +170,7 @@ module _ (cells starts : List ℕ) (n : ℕ) (good : AreStarts starts n (length 
       (λ j jn apart. range-off cells (slice_index starts j) (slice_index starts (j + 1)) (s.place + i) v
       (elim (apart_starts starts n (length cells) good j k jn known apart) [ inl before ↦ inl (omega arith) | inr behind ↦ inr (omega arith) ]))
 
-  -- writing a whole span changes its list alone
+  -- writing a complete span changes only its list
   pub spans-written : (after : List ℕ) (k : ℕ) (s : Span) (ys : List ℕ) → IsSpan (spans_of cells starts n) k s
       → IsRangeWritten cells after s.place (s.place + s.len) ys
       → spans_of after starts n ≡ set (spans_of cells starts n) k ys
@@ -186,7 +186,7 @@ module _ (cells starts : List ℕ) (n : ℕ) (good : AreStarts starts n (length 
       (λ j jn apart. written.outside (slice_index starts j) (slice_index starts (j + 1))
       (elim (apart_starts starts n (length cells) good j k jn known apart) [ inl before ↦ inl (omega arith) | inr behind ↦ inr (omega arith) ]))
 
-  -- what stands in a span's cell
+  -- the contents of a span's cell
   pub spans-get : (k : ℕ) (s : Span) (i : ℕ) → IsSpan (spans_of cells starts n) k s → i < s.len
       → slice_index (span_at (spans_of cells starts n) k) i ≡ slice_index cells (s.place + i)
   spans-get k s i is below =
@@ -213,7 +213,7 @@ module _ (cells starts : List ℕ) (n : ℕ) (good : AreStarts starts n (length 
     within = start-within starts n (length cells) good k within;
   }
 
--- one more start gives the spans before it and what stands between it and the last
+-- one more start gives the spans before it and the cells between it and the last
 pub spans-grown : (cells starts after_cells after_starts : List ℕ) (n : ℕ) (xs : List ℕ) → AreStarts starts n (length cells)
     → ((k : ℕ) → k < n → between_starts after_cells after_starts k ≡ between_starts cells starts k)
     → between_starts after_cells after_starts n ≡ xs

@@ -11,7 +11,7 @@ use Rattle.pc_days.specs.inside.Dates.{NamesDeckDay}
 use Rattle.pc_days.proofs.Form.{day_count-1900, day_number_range}
 use Rattle.pc_days.proofs.Reading.{NamesDay-same, day_clause}
 
--- the calendar day is a date, and lies so many days after 1 January 1900
+-- the calendar day is a date, n days after 1 January 1900
 record Lies (n : ℕ) (today : CalendarDay) : Type 0 where
   civil : IsCivilDate (pos today.year) today.month today.day
   number : days_from_civil (pos today.year) today.month today.day +ℤ pos 25_567 ≡ pos n
@@ -91,7 +91,7 @@ lies (suc n) few =
     let next : suc n ≡ n + 1 = omega arith in
     subst (λ (k : ℕ). Lies k (next_day (calendar_day n))) (sym next) (next_lies n (calendar_day n) (omega arith) (lies n (omega arith)))
 
--- so many days as there are from 1 January 1900 to a day that can be printed
+-- the number of days from 1 January 1900 to a day that can be printed
 count_of : (day : ℤ) → IsPrintedDay day → pos (unsigned_abs (day +ℤ pos 25_567)) ≡ day +ℤ pos 25_567
 count_of day within = by_sign (day +ℤ pos 25_567) (omega (arith, signed_arith, within.0))
   where

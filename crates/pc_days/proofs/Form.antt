@@ -12,7 +12,7 @@ use Rattle.jiff_core.proofs.MarchLemmas.{day_count-early}
 use Rattle.jiff_core.proofs.SignedLemmas.{signed_arith}
 use Rattle.pc_days.specs.Dates.{date_text, IsDateText, are_digits, number_at, year_of, has_form, has_day}
 
--- two digits stand at i
+-- there are two digits at i
 pub record Digits (text : List ℕ) (i : ℕ) : Type 0 where
   pub low : 48 ≤ slice_index text i
   pub high : slice_index text i ≤ 57
@@ -87,7 +87,7 @@ second_digit text i h = omega (arith, h.low, h.high, h.next_low, h.next_high)
 year_digits : (a b : ℕ) → a < 100 → b < 100 → ((100 * a + b) / 1000 ≡ a / 10) × ((100 * a + b) / 100 % 10 ≡ a % 10) × ((100 * a + b) / 10 % 10 ≡ b / 10) × ((100 * a + b) % 10 ≡ b % 10)
 year_digits a b h k = (omega arith, omega arith, omega arith, omega arith)
 
--- a text of that form is spelled by its numbers
+-- a text of that form is written from its numbers
 pub spelled : (text : List ℕ) → Form text → text ≡ date_text (year_of text) (number_at text 5) (number_at text 8)
 spelled text h =
     let y = year_digits (number_at text 0) (number_at text 2) (number_at-bound text 0 h.century) (number_at-bound text 2 h.year) in

@@ -118,7 +118,7 @@ NamesDay-read text day e = from_deck ((day_clause text (day_of text) refl day).0
     from_deck : NamesDeckDay text day → NamesDay text day
     from_deck (y, (m, (d, (years, h)))) = (y, (m, (d, h)))
 
--- a date that is spelled out names its day
+-- the text of a date names its day
 pub NamesDay-date : (text : List ℕ) (y : ℤ) (m d : ℕ) (day : ℤ) → IsCivilDate y m d → pos 1900 ≤ℤ y → text ≡ date_text (unsigned_abs y) m d → days_from_civil y m d ≡ day → NamesDay text day
 NamesDay-date text (pos y) m d day h low e is =
     (y, (m, (d, (record { civil = h; spelled = e }, is))))

@@ -32,7 +32,7 @@ pub after_sixths : (start days t : ℤ) → IsRoundedUp t days → IsAfterSixths
 after_sixths start days t h =
     ((omega (arith, signed_arith, h.0)), (omega (arith, signed_arith, h.1)))
 
--- only one day is the start and so many sixths
+-- only one day is the start and this many sixths
 pub after_sixths-only : (start days t day : ℤ) → IsRoundedUp t days → IsAfterSixths start t day → day ≡ start +ℤ days
 after_sixths-only start days t day h g =
     omega (arith, signed_arith, h.0, h.1, g.0, g.1)

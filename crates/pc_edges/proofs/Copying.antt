@@ -3,11 +3,11 @@ use Rattle.std.proofs.Common.{◌≡◌, ℕ, ◌+◌, ◌-◌, List, ◌++◌, 
 use Rattle.std.proofs.Math.Seq.{take-add, take-append_seam}
 use Rattle.std.proofs.lemmas.List.{take-append-drop, drop-drop, take_rest}
 
--- one more front of what stands behind the place
+-- one more front of the bytes after the place
 pub take-at_add : (xs : List ℕ) (at n : ℕ) → take (at + n) xs ≡ take at xs ++ take n (take (length xs - at) (drop at xs))
 take-at_add xs at n = take-add at n xs ∙ ap (λ l. take at xs ++ take n l) (sym (take_rest xs at))
 
--- what stands from the place on is a copied front and the rest
+-- the bytes from the place on are a copied front and the rest
 pub drop-copied : (bytes copied room : List ℕ) (at n : ℕ) → length copied ≡ n → copied ≡ take (at + n - at) (drop at bytes)
     → drop at bytes ≡ take n (copied ++ room) ++ drop (at + n) bytes
 drop-copied bytes copied room at n len e =

@@ -1,4 +1,4 @@
--- What a source that was read to its end tells of where the reading stopped.
+-- What a source that was read to its end shows about where the reading stopped.
 use Rattle.std.proofs.Common.{ℕ, ◌<◌, List, ◌++◌, length, length-append, Option, ◌↔◌, arith}
 use Rattle.std.specs.Io.KnownBytes.{Consumes}
 use Rattle.std.proofs.KnownBytes.{Consumes-trans}
@@ -21,7 +21,7 @@ module _ {X TooLong : Type 0} {limit room : ℕ} {left : X → Option (List ℕ)
     once = is.once;
   }
 
-  -- what was taken is longer than the limit exactly if that is the answer
+  -- what was taken is longer than the limit if and only if TooLong is returned
   pub long_only : (bytes : List ℕ) × Consumes (left old) (left new) bytes × (TooLong ↔ (limit < length bytes))
   long_only =
       let all = length-append is.front is.last in

@@ -22,7 +22,7 @@ TakesPulls-more j k None b more p = tt
 TakesPulls-more j k (Some a) None more p = absurd p
 TakesPulls-more j k (Some a) (Some b) more p = omega (arith, p, more)
 
--- one pull more than so many is at most one more than more
+-- at most j + 1 pulls are at most k + 1 pulls if j is at most k
 pub TakesPulls-one_more : (j k : ℕ) (a b : Option ℕ) → j ≤ k → TakesPulls (j + 1) a b → TakesPulls (k + 1) a b
 TakesPulls-one_more j k a b more p = TakesPulls-more (j + 1) (k + 1) a b (omega (arith, more)) p
 

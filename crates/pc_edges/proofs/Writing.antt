@@ -1,6 +1,6 @@
--- What several writes to one sink leave, one after the other.
+-- What several writes to one sink do, one after the other.
 --
--- `Wrote` is where a writer stands after the calls so far; `?` leaves `Stopped`; both together are `Writes`.
+-- `Wrote` is the state of a writer after the calls so far; `?` leaves `Stopped`; both together are `Writes`.
 use Rattle.std.proofs.Common.{◌≡◌, ℕ, ◌+◌, ◌≤◌, zero, suc, List, [], ◌∷◌, ◌++◌, length, take, Option, Some}
 use Rattle.std.proofs.Common.{None, Result, Ok, Err, refl, sym, ap, ◌∙◌, subst, arith, append_assoc, add-one}
 use Rattle.std.proofs.Math.Seq.{take-append-add}
@@ -42,7 +42,7 @@ take-front [] y (suc n) = (0, refl)
 take-front (a ∷ x) y zero = (0, refl)
 take-front (a ∷ x) y (suc n) = let r = take-front x y n in (suc r.0, ap (λ l. a ∷ l) r.1)
 
--- the text goes on
+-- the text continues
 pub Stopped-before : {a b : Option (List ℕ)} {s t : ℕ} {x : List ℕ} (rest : List ℕ) → Stopped a b s t x → Stopped a b s t (x ++ rest)
 Stopped-before {a = a} {b = b} {x = x} rest p =
     let n = take-front x rest p.front.0 in
@@ -61,7 +61,7 @@ Stopped-after {a = a} {c = c} {s = s} {u = u} {x = x} {y = y} p q = record {
 pub Writes-ok : {A E : Type 0} {v : A} {a b : Option (List ℕ)} {s t : ℕ} {x : List ℕ} → Wrote a b s t x → Writes {A = A} {E = E} (Ok v) a b s t x
 Writes-ok {s = s} {t = t} p = record { ok = p; err = tt; count = omega (arith, p.no_fault) }
 
--- ---- a flush behind a text
+-- ---- a flush after a text
 
 -- a text is still there where a call keeps what was taken
 Appends-kept : (a b c : Option (List ℕ)) (text : List ℕ) → Appends a b text → Keeps b c → Appends a c text
@@ -70,7 +70,7 @@ Appends-kept (Some xs) None c text grown kept = absurd grown
 Appends-kept (Some xs) (Some ys) None text grown kept = absurd kept
 Appends-kept (Some xs) (Some ys) (Some zs) text grown kept = kept ∙ grown
 
--- the text was taken whole, and then the sink was flushed
+-- the complete text was taken, and then the sink was flushed
 pub Writes-flushed : {A E : Type 0} (r : Result A E) {a b c : Option (List ℕ)} {s t u : ℕ} {text : List ℕ} → Wrote a b s t text →
     Keeps b c → OnOk r (u ≡ t) → OnErr r (Rose t u) → t ≤ u → Writes r a c s u text
 Writes-flushed (Ok v) {a = a} {b = b} {c = c} {text = text} wrote kept no_fault failed count =
@@ -86,7 +86,7 @@ Writes-flushed (Err e) {a = a} {b = b} {c = c} {u = u} {text = text} wrote kept 
       count = omega (arith, wrote.no_fault, count);
     }
 
--- ---- texts that are gathered before they are pushed
+-- ---- texts that are buffered before they are pushed
 
 -- a text is added to what is pending
 pub Gathered-more : {a b : Option (List ℕ)} {s t : ℕ} {p x : List ℕ} (y p' : List ℕ) → p' ≡ p ++ y → Gathered a b p s t x → Gathered a b p' s t (x ++ y)

@@ -1,4 +1,4 @@
--- Codes of which none stands twice.
+-- Lists of codes without repetition.
 use Rattle.std.proofs.Common.{◌≡◌, ◌≢◌, ℕ, ◌+◌, ◌<◌, Bool, true, false, not, nat_eq, List, [], ◌∷◌, ◌++◌, length, take, get_or, ◌⊎◌, inl, inr, sym, ap, ◌∙◌, ⊎_elim, arith, length-append}
 use Rattle.std.proofs.lemmas.Bool.{cases_Bool}
 use Rattle.std.proofs.lemmas.List.{get_or_append_left, get_or-take, length-take, take_more, get_or_default}
@@ -11,25 +11,25 @@ use Rattle.std.specs.Cmp.Lexicographic.{pointwise, same_text}
 use Rattle.std.specs.List.{list_any, IsDistinct}
 use Rattle.pc_model.specs.Codes.{text_at, IsNamedOnce}
 
--- no code stands twice where there is none
+-- no code occurs twice in an empty list
 pub IsNamedOnce-nil : IsNamedOnce []
 IsNamedOnce-nil = λ j k before within same. omega arith
 
--- no code stands twice where no two are found to be equal
+-- no code occurs twice if no two are found to be equal
 pub IsNamedOnce-distinct : (codes : List (List ℕ)) → IsDistinct (pointwise nat_eq) codes → IsNamedOnce codes
 IsNamedOnce-distinct codes distinct = λ j k before within same.
     let apart = apart_from_distinct (pointwise nat_eq) codes j k [] distinct before within in
     let itself : pointwise nat_eq (text_at codes j) (text_at codes k) ≡ true = rw same (nat_list_eq_equiv.refl (text_at codes k)) in
     cc
 
--- a code that is not among those stands at none of their places
+-- a code that is not among those is at none of their places
 pub absent : (codes : List (List ℕ)) (code : List ℕ) (j : ℕ) → list_any (pointwise nat_eq code) codes ≡ false → j < length codes → text_at codes j ≢ code
 absent codes code j new within same =
     let itself : pointwise nat_eq code (text_at codes j) ≡ true = rw same (nat_list_eq_equiv.refl code) in
     let found = list_any_at (pointwise nat_eq code) codes j [] within itself in
     cc
 
--- a place among the first n, or the one behind them
+-- a place among the first n, or the one after them
 pub inner_or_last : (k n : ℕ) → k < n + 1 → (k < n) ⊎ (k ≡ n)
 inner_or_last k n h = grind arith
 

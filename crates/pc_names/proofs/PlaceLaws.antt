@@ -1,4 +1,4 @@
--- Where a code stands among others.
+-- The place of a code among others.
 use Rattle.std.proofs.Common.{◌≡◌, ◌≢◌, ℕ, ◌<◌, ◌≤◌, Bool, true, false, nat_eq, List, [], length, Some, None, ◌⊎◌, refl, sym, ◌∙◌, ap, ⊎_elim, arith}
 use Rattle.std.specs.Prelude.{is_some}
 use Rattle.std.proofs.lemmas.Bool.{cases_Bool, lt-ltb, le-ltb}
@@ -29,7 +29,7 @@ module _ (codes : List (List ℕ)) (code : List ℕ) where
       (λ _. ap is same ∙ nat_list_eq_equiv.refl code) in
       rw (at, lt-ltb a (length codes) inside) refl
 
-  -- one that stands nowhere is not found
+  -- a code that is nowhere is not found
   pub position-unknown : ((a : ℕ) → a < length codes → text_at codes a ≢ code) → position is codes ≡ None
   position-unknown nowhere =
       let at : position_or_len is codes ≡ length codes =
@@ -66,7 +66,7 @@ module _ (codes : List (List ℕ)) (code : List ℕ) where
       by false new = ap is_some (position-absent new) ∙ sym new
       by true known = rw (lt-ltb (position_or_len is codes) (length codes) (first_within known)) (sym known)
 
-  -- a code that is not found stands at no place
+  -- a code that is not found is at no place
   pub code-missing : position is codes ≡ None → (a : ℕ) → a < length codes → text_at codes a ≢ code
   code-missing none a inside same =
       let itself : is (text_at codes a) ≡ true = rw same (nat_list_eq_equiv.refl code) in

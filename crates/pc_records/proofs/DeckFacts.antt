@@ -135,7 +135,7 @@ records_after-next s xs p b e =
 pub records_after-none : (s : State) (xs : List ℕ) → next_record default_config s [] [] xs ≡ None → records_after s (Some xs) ≡ []
 records_after-none s xs e = records_from-step default_config (length xs) s xs None e
 
--- after a record the reader stands between two
+-- after a record the reader is between two
 pub next_record-between : (s : State) (xs : List ℕ) (p : Read) → next_record default_config s [] [] xs ≡ Some p → ends_at_end p.1 ≡ false
 next_record-between s xs p e = (next_record-leaves default_config s [] [] xs p e).between
 

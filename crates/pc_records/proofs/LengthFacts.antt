@@ -20,7 +20,7 @@ length-escaped (b ∷ rest) = by (b == 34) (length-escaped rest)
     by true more = omega arith
     by false more = omega arith
 
--- and quotes stand around it
+-- and there are quotes around it
 pub length-written_field : (field : List ℕ) → length (written_field field) ≤ 2 * length field + 2
 length-written_field field = by (list_any (needs_byte default_writer) field)
   where
@@ -54,7 +54,7 @@ plain_field passes (b ∷ rest) plain pass =
 pub written_field-plain : (passes : ℕ → Bool) (field : List ℕ) → IsPlain passes → list_all passes field ≡ true → written_field field ≡ field
 written_field-plain passes field plain pass = rw (plain_field passes field plain pass) refl
 
--- how long fields are as they are written, a comma or the end of the line behind each
+-- how long fields are as they are written, a comma or the end of the line after each
 abbrev pub written_length : List (List ℕ) → ℕ
 written_length [] = 0
 written_length (field ∷ rest) = (length (written_field field) + 1) + written_length rest

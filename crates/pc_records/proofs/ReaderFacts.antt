@@ -41,7 +41,7 @@ read-found old new fields g r =
     let one = reached-found old.state xs.0 fields new.state more.0 g.between more.2 in
     record { gives = rw (xs.1, more.1) one.0; known = is-known _ more.0 more.1; between = one.1 }
 
--- a reader that found a record goes on
+-- a reader that found a record continues
 pub read-going : (old new : ByteReader) (fields : List (List ℕ)) → IsGoing old
     → ReadRecord (λ (bytes : Bor (List ℕ)). Some bytes.now) old new true fields → took_first new ≡ true → is_flexible new ≡ is_flexible old
     → IsGoing new

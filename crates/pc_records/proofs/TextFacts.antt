@@ -82,7 +82,7 @@ strip_bom-none (a ∷ b ∷ []) none = refl
 strip_bom-none (a ∷ b ∷ c ∷ rest) none =
     rw (is_bom-none a b c rest none) refl
 
--- the records of a deck's text are the rows that it was written from: each has a field, and no mark stands in front
+-- the records of a deck's text are the rows that it was written from: each has a field, and no mark comes first
 pub deck_records-records_text : (rows : List (List (List ℕ))) → All HasField rows → starts_with nat_eq (records_text rows) mark ≡ false
     → deck_records (records_text rows) ≡ rows
 deck_records-records_text rows some none =

@@ -17,7 +17,7 @@ use Rattle.csv.specs.declared.parser.State.TheVariants as st
 use Rattle.pc_records.specs.Deck.{deck_records, mark, without_mark}
 use Rattle.pc_records.specs.Text.{record_text, records_text}
 
--- where a byte of ASCII stands in a text, the text may be cut before it and behind it
+-- if a byte of ASCII is in a text, the text may be split before it and after it
 split_ascii : (front rest : List ℕ) (c : ℕ) → c < 128 → IsUtf8 (front ++ c ∷ rest) → IsUtf8 front × IsUtf8 rest
 split_ascii front rest c small u =
     let at : get_or (front ++ c ∷ rest) (length front) 0 ≡ c = get_or_at front c rest 0 (length front) refl in

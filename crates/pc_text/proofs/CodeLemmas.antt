@@ -8,7 +8,7 @@ use Rattle.std.specs.List.{list_all}
 use Rattle.pc_text.specs.Code.{is_code_byte}
 use Rattle.pc_text.specs.inside.Words.{padded}
 
--- the first of the zeros behind a text is set
+-- the first of the zeros after a text is set
 set_behind : (xs : List ℕ) (zeros : ℕ) (y : ℕ) → set (xs ++ replicate (suc zeros) 0) (length xs) y ≡ xs ++ y ∷ replicate zeros 0
 set_behind xs zeros y = set-append_seam xs 0 (replicate zeros 0) y
 
@@ -24,7 +24,7 @@ one_more_copied field i below short =
     ∙ behind
     ∙ rw (take_more field i 0 below) (sym (append_assoc (take i field) (get_or field i 0 ∷ []) (replicate (16 - (i + 1)) 0)))
 
--- the byte where it may stand in a code, and a comma (44) where it may not
+-- the byte if it is allowed in a code, and a comma (44) if it is not
 abbrev pub byte_or_comma : ℕ → ℕ
 byte_or_comma b = if is_code_byte b then b else 44
 
@@ -42,7 +42,7 @@ one_more_looked_up field i below short =
     looked_up (x ∷ xs) zero lt = refl
     looked_up (x ∷ xs) (suc k) lt = looked_up xs k (omega arith)
 
--- no comma is looked up exactly where the byte may stand in a code
+-- the byte looked up is a comma if and only if the byte is not allowed in a code
 comma_test : (b : ℕ) → not (nat_eq (byte_or_comma b) 44) ≡ is_code_byte b
 comma_test b = by_test (is_code_byte b) refl
   where
@@ -54,7 +54,7 @@ comma_test b = by_test (is_code_byte b) refl
     by_test true passes = apart passes (nat_eq b 44) refl
     by_test false fails = refl
 
--- there is none in the cells where each byte may stand in a code
+-- there is none in the cells if each byte is allowed in a code
 pub no_comma : (field : List ℕ) (zeros : ℕ) → list_all (λ cell. not (nat_eq cell 44)) (map byte_or_comma field ++ replicate zeros 0) ≡ list_all is_code_byte field
 no_comma [] zero = refl
 no_comma [] (suc zeros) = no_comma [] zeros

@@ -8,7 +8,7 @@ use Rattle.std.proofs.Math.ListN.{length-set}
 use Rattle.std.specs.Prelude.{unsigned_abs}
 use Rattle.std.specs.Fmt.{decimal, signed_decimal}
 
--- of so many cells those from `start` on have the last digits of n, and `rest` is the number before them
+-- of `most` cells those from `start` on have the last digits of n, and `rest` is the number before them
 pub record IsWritten (most n rest start : ℕ) (cells : List ℕ) : Type 0 where
   pub within : start ≤ most
   pub full : length cells ≡ most
@@ -24,7 +24,7 @@ begun most n cells some fits small full = record {
   whole = rw (drop_all most cells (omega (arith, full))) (sym (append-nil (decimal n)));
 }
 
--- there is room for a digit
+-- there is capacity for a digit
 pub room_left : {most n rest start : ℕ} {cells : List ℕ} → IsWritten most n rest start cells → rest < 10 ^ 64 → 1 ≤ start
 room_left {rest = rest} w small = omega (arith, w.room, (decimal_is_IsNumeral_wide rest small).0.0)
 
@@ -58,7 +58,7 @@ last {most} {n} {rest} {start} {cells} w few =
     written start (48 + rest) cells some (omega (arith, w.within, w.full))
     ∙ sym (w.whole ∙ ap (λ front. front ++ drop start cells) (decimal_digit rest few))
 
--- there is room for two digits
+-- there is capacity for two digits
 pub room_for_two : {most n rest start : ℕ} {cells : List ℕ} → IsWritten most n rest start cells → rest < 10 ^ 64 → 10 ≤ rest → 2 ≤ start
 room_for_two {start = start} w small more =
     let behind : 1 ≤ start - 1 = room_left (next w small more) (omega arith) in

@@ -1,4 +1,4 @@
--- Words of a line, and what stands behind them.
+-- Words of a line, and the bytes after them.
 use Rattle.std.proofs.Common.{◌≡◌, ℕ, ◌^◌, ◌<◌, suc, Bool, true, false, ◌&&◌, cond, List, [], ◌∷◌, ◌++◌, length, take, drop, Option, Some, None, refl, ap, subst, ◌∙◌}
 use Rattle.std.proofs.lemmas.Bool.{eqb-true, eq-eqb, ne_eqb}
 use Rattle.std.proofs.lemmas.Option.{cond_some}
@@ -17,7 +17,7 @@ pub bind_some : {A B : Type 0} (o : Option A) (f : A → Option B) (y : B) → (
 bind_some (Some x) f y e = (x, refl, e)
 bind_some None f y e = absurd cc
 
--- nothing is left behind a value that stands alone
+-- nothing is left after a value that is alone
 pub alone_takes : {A : Type 0} (rest : List ℕ) (value found : A) → alone rest value ≡ Some found → (rest ≡ []) × (value ≡ found)
 alone_takes rest value found e =
     let read = cond_some _ value found e in
@@ -55,7 +55,7 @@ pub run_len-before : (stop : ℕ) (bytes rest : List ℕ) → Lacks stop bytes �
 run_len-before stop [] rest h = rw (eq-eqb stop stop refl) refl
 run_len-before stop (b ∷ bs) rest h = rw (ne_eqb _ _ (h.0)) (ap suc (run_len-before stop bs rest (h.1)))
 
--- what may stand behind a word: nothing, or a space
+-- what may follow a word: nothing, or a space
 pub data IsBehind : List ℕ → Type 0 where
   nothing : IsBehind []
   space : (rest : List ℕ) → IsBehind (32 ∷ rest)
@@ -64,13 +64,13 @@ run_len-word : (word rest : List ℕ) → Lacks 32 word → IsBehind rest → ru
 run_len-word word rest h nothing = rw append-nil (run_len-whole 32 word h)
 run_len-word word rest h (space more) = run_len-before 32 word more h
 
--- the word that is spelled is read
+-- a word that is written is read
 pub field_again : (word rest : List ℕ) → Lacks 32 word → IsBehind rest → field (spaced word rest) ≡ Some (word, rest)
 unfolding field
 field_again word rest h behind =
     rw (run_len-word word rest h behind, take-append_seam word rest, drop-append_seam word rest) refl
 
--- and the word that is read is spelled so
+-- and a word that is read was written so
 pub field_takes : (bytes : List ℕ) (x : List ℕ × List ℕ) → field bytes ≡ Some x → bytes ≡ spaced (x.0) (x.1)
 unfolding field
 field_takes [] x e = absurd cc
@@ -80,7 +80,7 @@ field_takes (b ∷ bs) x e =
     let whole : take (run_len 32 bs) bs ++ drop (run_len 32 bs) bs ≡ bs = take-append-drop (run_len 32 bs) bs in
     subst (λ (y : List ℕ × List ℕ). b ∷ bs ≡ spaced (y.0) (y.1)) (read.1) cc
 
--- what is read of a word stands behind a space, with the rest behind it
+-- what is read from a word follows a space, and the rest follows it
 pub record TakesWord {A : Type 0} (read : List ℕ → Option A) (bytes : List ℕ) (value : A) (rest : List ℕ) : Type 0 where
   pub word : List ℕ
   pub text : bytes ≡ spaced word rest
@@ -99,7 +99,7 @@ pub field_by_again : {A : Type 0} (read : List ℕ → Option A) (word rest : Li
 unfolding field_by
 field_by_again read word rest value h behind reads = rw (field_again word rest h behind, reads) refl
 
--- a code that is read is spelled behind a space
+-- a code that is read is written after a space
 pub record TakesCode (bytes code rest : List ℕ) : Type 0 where
   pub text : bytes ≡ spaced code rest
   pub code_is : IsCode code
@@ -121,7 +121,7 @@ code_field_again code rest h behind =
 pub decimal_lacks : {most : ℕ} → IsLimit most → (stop : ℕ) → is_ascii_digit stop ≡ false → (n : ℕ) → n < 10 ^ most → Lacks stop (decimal n)
 decimal_lacks {most} limit stop fails n h = lacks is_ascii_digit stop fails (decimal n) (decimal_parts most n limit h).digits
 
--- a number that is read is spelled behind a space
+-- a number that is read is written after a space
 pub record TakesNumber (most : ℕ) (bytes : List ℕ) (n : ℕ) (rest : List ℕ) : Type 0 where
   pub text : bytes ≡ spaced (decimal n) rest
   pub small : n < 10 ^ most

@@ -28,7 +28,7 @@ below_18_digits n i small h =
     let within : i ≤ 18 = omega arith in
     omega (arith, pow-le-pow_right positive within)
 
--- so many digits that a number of them can be read
+-- a number of digits with which every value fits in 64 bits
 pub record IsLimit (most : ℕ) : Type 0 where
   pub some : 1 ≤ most
   pub fits : most ≤ 19
@@ -58,13 +58,13 @@ joined most word p =
     let some = p.some in let short = p.short in let digits = p.digits in let plain = p.plain in
     grind (arith, nat_tests)
 
--- what a word of digits spells
+-- the value of a word of digits
 pub spelled : (most : ℕ) (word : List ℕ) → IsLimit most → IsDigits most word → Spells most word (value_after 0 word)
 spelled most word limit p =
     let small = digits_value_short own word most p.digits p.short in
     (small, sym (decimal-digits_value own word p.digits p.some p.plain (in_64_bits most _ limit small)))
 
--- what is read is spelled so
+-- a number that is read is written so
 pub number_takes : (most : ℕ) (word : List ℕ) (n : ℕ) → IsLimit most → numeral_of most word ≡ Some n → Spells most word n
 number_takes most word n limit h =
     let read = cond_some (is_numeral most word) (value_after 0 word) n h in
@@ -85,7 +85,7 @@ decimal_parts most n limit h =
       plain = plain_decimal n small;
     }
 
--- what is spelled so is read
+-- a number that is written so is read
 pub number_again : (most : ℕ) (word : List ℕ) (n : ℕ) → IsLimit most → Spells most word n → numeral_of most word ≡ Some n
 number_again most word n limit h =
     let test : is_numeral most (decimal n) ≡ true = joined most (decimal n) (decimal_parts most n limit (h.0)) in
@@ -93,19 +93,19 @@ number_again most word n limit h =
 
 -- ---- numbers of a deck
 
--- numbers of so many digits can be read
+-- numbers of this many digits can be read
 pub of_deck : IsLimit DECK_DIGITS
 of_deck = record { some = omega arith; fits = omega arith }
 
--- what a field of digits spells
+-- the value of a field of digits
 pub spelled_by : (field : List ℕ) → is_number field ≡ true → IsDecimal field (value_after 0 field)
 spelled_by field h = spelled 13 field of_deck (parts 13 field h)
 
--- what is read of a field is spelled so
+-- a number read from a field is written so
 pub number_spelled : (field : List ℕ) (found : Option ℕ) → found ≡ numeral_of 13 field → IfSome found (IsDecimal field)
 number_spelled field (Some n) e = number_takes 13 field n of_deck (sym e)
 number_spelled field None e = tt
 
--- what is spelled so is read
+-- a number that is written so is read
 pub number_read : (field : List ℕ) (n : ℕ) → IsDecimal field n → numeral_of 13 field ≡ Some n
 number_read field n h = number_again 13 field n of_deck h

@@ -1,4 +1,4 @@
--- Lines whose first word says what they are: what is read of a line is spelled so.
+-- Lines with a first word that gives their kind: what is read from a line is written so.
 use Rattle.std.proofs.Common.{◌≡◌, ℕ, Bool, true, false, cond, List, ◌++◌, Option, Some, None, refl, sym, ap, subst, ◌∙◌}
 use Rattle.std.proofs.lemmas.Slice.Eq.{bytes_eq-Decides}
 use Rattle.std.proofs.lemmas.List.{append-nil}
@@ -6,7 +6,7 @@ use Rattle.std.specs.Prelude.{bytes_eq}
 use Rattle.pc_text.specs.Fields.{alone}
 use Rattle.pc_text.proofs.FieldLemmas.{alone_takes}
 
--- the word and the fields spell the value, which can be spelled
+-- the word and the fields are the text of the value, which can be written
 pub record IsSpelled {A : Type 0} (spelling : A → List ℕ) (Fits : A → Type 0) (word fields : List ℕ) (a : A) : Type 0 where
   pub text : word ++ fields ≡ spelling a
   pub fits : Fits a
@@ -17,7 +17,7 @@ by_test : {A : Type 0} (Reads : List ℕ → Type 0) (word name : List ℕ) (fou
 by_test Reads word name found other a true is here later e = subst Reads (sym ((bytes_eq-Decides word name).0 is)) (here e)
 by_test Reads word name found other a false is here later e = later e
 
--- the word is this name and the value comes of it, or it comes of the names that are tried later
+-- the word is this name and the value is read with it, or with the names that are tried later
 pub either : {A : Type 0} (Reads : List ℕ → Type 0) (word name : List ℕ) (found other : Option A) (a : A)
     → (found ≡ Some a → Reads name) → (other ≡ Some a → Reads word)
     → cond (bytes_eq word name) found other ≡ Some a → Reads word

@@ -22,13 +22,13 @@ agree_at f g (suc n) h b lt =
     let both = both_of (f n) (g n) (agree_below f g n) h in
     elim (cases_eq b n) [ inl same ↦ rw same both.0 | inr other ↦ agree_at f g n both.1 b (omega arith) ]
 
--- a byte may stand in a code where no comma (44) stands at its place of the table
+-- a byte is allowed in a code if there is no comma (44) at its place of the table
 pub from_table : (table : List ℕ) (b : ℕ) → b < 256
     → agree_below (λ k. not (nat_eq (get_or table k 0) 44)) is_code_byte 256 ≡ true
     → not (nat_eq (get_or table b 0) 44) ≡ is_code_byte b
 from_table table b lt h = agree_at _ _ 256 h b lt
 
--- the same table has the byte itself where it may stand in a code, and a comma elsewhere
+-- the same table has the byte itself if it is allowed in a code, and a comma elsewhere
 pub byte_from : (table : List ℕ) (b : ℕ) → b < 256
     → agree_below (λ k. nat_eq (get_or table k 0) (if is_code_byte k then k else 44)) (λ k. true) 256 ≡ true
     → get_or table b 0 ≡ (if is_code_byte b then b else 44)
@@ -40,7 +40,7 @@ pub tens_from : (table : List ℕ) (n : ℕ) → n < 100
     → get_or table (2 * n) 0 ≡ 48 + n / 10
 tens_from table n lt h = eqb-true _ _ (agree_at _ (λ k. true) 100 h n lt)
 
--- and the second behind it
+-- and the second after it
 pub ones_from : (table : List ℕ) (n : ℕ) → n < 100
     → agree_below (λ k. nat_eq (get_or table (2 * k + 1) 0) (48 + k % 10)) (λ k. true) 100 ≡ true
     → get_or table (2 * n + 1) 0 ≡ 48 + n % 10

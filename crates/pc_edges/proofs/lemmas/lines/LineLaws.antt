@@ -65,7 +65,7 @@ open_behind-open front [] p = sym (append-nil front)
 open_behind-open front (b ∷ back) p =
     rw (ne_eqb b 10 (p.0)) (open_behind-open (front ++ b ∷ []) back (p.1) ∙ append_assoc front (b ∷ []) back)
 
--- the whole lines of a text of lines and of a rest in which no line ends are these lines
+-- the complete lines of a text of lines and of a rest in which no line ends are these lines
 pub whole_lines-are : (lines : List (List ℕ)) (rest : List ℕ) → AreOpen lines → IsOpen rest → whole_lines (text_of lines ++ rest) ≡ lines
 whole_lines-are [] rest p q = lines_behind-open [] rest q
 whole_lines-are (line ∷ lines) rest p q =
@@ -84,7 +84,7 @@ open_line-is (line ∷ lines) rest p q =
 pub lines_of-are : (lines : List (List ℕ)) (rest : List ℕ) → AreOpen lines → IsOpen rest → lines_of (text_of lines ++ rest) ≡ lines ++ last_line rest
 lines_of-are lines rest p q = rw (whole_lines-are lines rest p q, open_line-is lines rest p q) refl
 
--- lines at the front of a text are its first lines, however the text goes on
+-- lines at the front of a text are its first lines, however the text continues
 pub whole_lines-front : (lines : List (List ℕ)) (rest : List ℕ) → AreOpen lines → whole_lines (text_of lines ++ rest) ≡ lines ++ whole_lines rest
 whole_lines-front [] rest p = refl
 whole_lines-front (line ∷ lines) rest p =

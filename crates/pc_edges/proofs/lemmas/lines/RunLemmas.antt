@@ -1,4 +1,4 @@
--- Where the first `stop` stands is how many bytes stand before it.
+-- The place of the first `stop` is the number of bytes before it.
 use Rattle.std.proofs.Common.{◌≡◌, ◌≢◌, ℕ, ◌<◌, zero, suc, List, [], ◌∷◌, length, get_or, Some, None, refl, ap, arith}
 use Rattle.std.proofs.lemmas.Bool.{eqb-true, eq-eqb, ne_eqb}
 use Rattle.memchr.specs.Find.{IsFirstByte, is_byte}

@@ -139,7 +139,7 @@ within_limit limit bytes more fits =
     let split : limit ≡ length bytes + (limit - length bytes) = omega arith in
     ap (λ n. take n (bytes ++ more)) split ∙ take-append-add bytes more (limit - length bytes)
 
--- all bytes that were pulled lie within the limit, and nothing is ahead
+-- all bytes that were pulled are within the limit, and nothing is ahead
 short_whole : {lines : List (List ℕ)} {bytes : List ℕ} {left left_now : Option (List ℕ)} {reading : Reading} (h : IsWithin lines bytes left left_now reading)
     → reading.ahead ≡ [] → reading.taken ≤ INPUT_LIMIT → bytes ++ h.more ≡ text_of lines ++ h.part
 short_whole {lines} {bytes} h nothing fits =
@@ -168,7 +168,7 @@ fills {lines} {bytes} left_after {old} new count h nothing fits f =
       count = f.counted ∙ ap (λ n. n + count) h.count ∙ ap (λ n. length all + n) (sym f.length_is) ∙ sym (length-append all f.more) ∙ ap length (append_assoc bytes h.more f.more);
     }
 
--- one pull more: the lines are all whole ones before it
+-- one pull more: the lines are all complete ones before it
 pub pulls_once : {X : Type 0} {left : X → Option (List ℕ)} {faults : X → ℕ} {pulls : X → Option ℕ} {source source_now : X} {lines : List (List ℕ)} {bytes : List ℕ}
     (source_after : X) {reading : Reading} → IsUnder left faults pulls source source_now lines bytes reading → reading.ahead ≡ [] → reading.taken ≤ INPUT_LIMIT
     → (last : List ℕ) → Consumes (left source_now) (left source_after) last → length last ≤ STREAM_ROOM → TakesPulls 1 (pulls source_now) (pulls source_after)

@@ -1,4 +1,4 @@
--- How a talk goes on and ends.
+-- How a session continues and ends.
 use Rattle.std.proofs.Common.{◌≡◌, ℕ, List, [], ◌∷◌, ◌++◌, map, Option, refl, sym, ap, ◌∙◌, subst, arith, append_assoc, append-nil}
 use Rattle.std.proofs.lemmas.List.{map-append, take_all}
 use Rattle.std.proofs.KnownBytes.{Consumes-nil, Consumes-trans}
@@ -98,7 +98,7 @@ module _ {T C O : Type 0} {says : T → List ℕ → List ℕ → T → Type 0} 
     taken_so_far : Consumes (left source) (left source_now) h.bytes
     taken_so_far = CameIn-consumes left source_faults pulls h.pieces h.bytes source source_now h.read
 
-    -- what a step pulls goes on with what was pulled before it
+    -- what a step pulls follows what was pulled before it
     taken_on : (source_after : C) → HasPulled left source_faults pulls source_now source_after h.lines h.bytes → IsTakenFor left source_faults pulls source source_after h.lines
     taken_on source_after (no_pull same) = subst (λ s. IsTakenFor left source_faults pulls source s h.lines) (sym same) h.taken_for
     taken_on source_after (some_pulls before pieces more last came within pulled short once whole) = record {

@@ -48,7 +48,7 @@ pub ◌⨾◌ : {d e f : Desk} {x y : List ℕ} → Adds d e x → Adds e f y �
 p ⨾ q = Adds-then p q
 
 infixr 6 ◌▸◌
--- the same, where the texts behind are put together first
+-- the same, with the later texts put together first
 pub ◌▸◌ : {d e f : Desk} {x y : List ℕ} → Adds d e x → Adds e f y → Adds d f (x ++ y)
 p ▸ q = Adds-then p q
 
@@ -60,7 +60,7 @@ Adds-as {d = d} {e = e} text is a = subst (Adds d e) is a
 pub Adds-line : {d e f : Desk} (i : ℕ) (text : ℕ → List ℕ) → Adds d e (texts_to i text) → Adds e f (text i) → Adds d f (texts_to (i + 1) text)
 Adds-line i text a b = Adds-as _ (sym (texts_to-more i text)) (Adds-then a b)
 
--- a text is behind what was pending
+-- a text follows what was pending
 AddsFrom-behind : (f : Bool) (p q : List ℕ) (o : Option (List ℕ)) (s : ℕ) (x : List ℕ) → q ≡ p ++ x → AddsFrom f f p q o o s s x
 AddsFrom-behind false p q o s x is = record { pushed = ([], Appends-nil o, sym is); no_fault = refl }
 AddsFrom-behind true p q o s x is = (refl, refl)
@@ -79,7 +79,7 @@ emptied page none = ap (λ (bytes : List ℕ). record { pending = bytes; failed 
 
 -- ---- the end of a text that began on a fresh page
 
--- without a failure it was pushed whole
+-- without a failure all of it was pushed
 AddsFrom-whole : (f g : Bool) (p q : List ℕ) (o n : Option (List ℕ)) (s t : ℕ) (x : List ℕ) → f ≡ false → p ≡ [] → g ≡ false → q ≡ [] → AddsFrom f g p q o n s t x → Wrote o n s t x
 AddsFrom-whole false false p q o n s t x first begun last done a =
     let front = a.pushed.0 in

@@ -53,7 +53,7 @@ returns-clause-there_is_room c =
     region-free c.self.inside c.args.self.now c.self.view_is c.self.invariant c.index-place.result.now c.len.result c.index-place.ensures (c.len.ensures ∙ c.self.inside.cells.ok.0) in
     (λ is. omega (arith, c.if-free-len.false), λ room. refl)
 
--- the fields when the cells of the span are filled and the next start stands behind them
+-- the fields when the cells of the span are filled and the next start follows them
 taken : (c : goal.After-self-3-1) → HasOneMore (record {
   cells = with_items c.self.inside.cells c.fill_range.new.cells;
   starts = with_item c.self.inside.starts (c.self.inside.count + 1) (c.index-place.result.now + c.args.len);
