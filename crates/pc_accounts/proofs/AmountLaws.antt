@@ -114,7 +114,7 @@ actuals_skip accounts charges as_of i actuals row so_far within is off =
     let same : money_at charges i ≡ row = get_or_default charges i (record { account = 0; day = pos 0; amount = 0 }) row within ∙ sym is in
     AreActuals-late accounts charges as_of i actuals so_far within (ap (λ (r : MoneyRow). int_le r.day as_of) same ∙ off)
 
--- an account's sum leaves room for one charge more
+-- an account's sum leaves capacity for one charge more
 actual_fits : (accounts : ℕ) (charges : List MoneyRow) (as_of : ℤ) (i a : ℕ) (actuals : List ℕ) → AreActuals accounts charges as_of i actuals → a < accounts → slice_index actuals a ≤ i * MAX_COST
 actual_fits accounts charges as_of i a actuals so_far lt =
     let known : a < length actuals = omega (arith, so_far.one_each) in
@@ -206,7 +206,7 @@ latest_skip accounts togos as_of i latest row so_far within is off =
     let same : money_at togos i ≡ row = get_or_default togos i (record { account = 0; day = pos 0; amount = 0 }) row within ∙ sym is in
     AreLatest-late accounts togos as_of i latest so_far (ap (λ (r : MoneyRow). int_le r.day as_of) same ∙ off)
 
--- what counts of all amounts to go is what is to go
+-- the amount that counts of all amounts to go is what is to go
 to_go_is : (togos : List MoneyRow) (as_of : ℤ) (a budget actual : ℕ) (o : Option ℕ) → LatestBelow togos as_of a (length togos) o → IsToGo togos as_of a (entry_from togos budget actual o)
 to_go_is togos as_of a budget actual None none = inr (λ k is. none k is.in_rows is, refl)
 to_go_is togos as_of a budget actual (Some k) (lt, is, most) =

@@ -15,7 +15,7 @@ use Rattle.pc_accounts.specs.inside.Packages.{AreWork}
 use Rattle.pc_accounts.specs.inside.Parts.{option_at, AreBudgetSums, CostBelow, AreCostSums}
 use Rattle.pc_accounts.proofs.PartLaws.{part_more, part_le}
 
--- no item's budgets are more than so many accounts can have
+-- no item's budgets are more than this many accounts can have
 pub budgets_fit : (items : ℕ) (accounts : List AcctRow) (i item : ℕ) (sums : List ℕ) → AreBudgets accounts →
     AreBudgetSums items accounts i sums → i ≤ length accounts → item < items → slice_index sums item ≤ i * MAX_COST
 budgets_fit items accounts i item sums small so_far within lt =
@@ -54,7 +54,7 @@ cost_more : (work : List WorkRow) (item i : ℕ) → i < length work → costs_o
 cost_more work item i h =
     part_more (λ (row : WorkRow). row.cost) (λ row. row.item == item) work i (record { item = 0; cost = 0 }) h
 
--- what an item has so far, with none for nothing
+-- what an item has so far, or 0 for none
 cost_so_far : (work : List WorkRow) (item i : ℕ) (o : Option ℕ) → CostBelow work item i o → unwrap_or o 0 ≡ costs_of (take i work) item
 cost_so_far work item i None (none, zero_is) = sym zero_is
 cost_so_far work item i (Some cost) (has, e) = e
@@ -97,7 +97,7 @@ AreCostSums-more items work i sums rows so_far h = record {
         let other : item ≢ own = λ e. ne (sym e) in
         rw (get_or-set_other sums own item sum None other) (CostBelow-there work item i (option_at sums item) h ne (so_far.each item lt))
 
--- an item's sum leaves room for one cost more
+-- an item's sum leaves capacity for one cost more
 pub cost_fits : (items : ℕ) (work : List WorkRow) (i item sum : ℕ) (o : Option ℕ) (sums : List (Option ℕ)) → length work ≤ MAX_ACTIVITIES →
     AreWork items work → AreCostSums items work i sums → i < length work → item ≡ (work_at work i).item → o ≡ get_or sums item o →
     sum ≡ unwrap_or o 0 → Fits w64 (sum + (work_at work i).cost)

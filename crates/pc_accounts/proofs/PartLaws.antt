@@ -25,7 +25,7 @@ part_sum f xs d (suc i) h =
     let e : suc i ≡ i + 1 = omega arith in
     omega (arith, ap (λ (k : ℕ). sum_by f (take k xs)) e, sum_by_more f xs i d (omega arith), part_sum f xs d i (omega arith))
 
--- where no row adds more than m, so many rows add at most so many times m
+-- if no row adds more than m, i rows add at most i times m
 pub part_le : {X : Type 0} (f : X → ℕ) (p : X → Bool) (xs : List X) (d : X) (m i : ℕ) → i ≤ length xs → ((k : ℕ) → k < length xs → f (get_or xs k d) ≤ m) → sum_by f (filter p (take i xs)) ≤ i * m
 part_le f p xs d m zero h small = omega arith
 part_le {X} f p xs d m (suc i) h small =

@@ -29,7 +29,7 @@ key_eq x y = is_at (key_cmp x) y
 abbrev pub key_of : List MoneyRow → ℕ → ℕ × ℤ
 key_of togos k = ((money_at togos k).account, (money_at togos k).day)
 
--- each of the first n rows stands in the map under its account and its day, and nothing else does
+-- the map has exactly each of the first n rows, under its account and its day
 pub record IsSeen (togos : List MoneyRow) (n : ℕ) (seen : Seen) : Type 0 where
   pub each : (k : ℕ) → k < n → get key_cmp seen (key_of togos k) ≡ Some k
   pub only : (q : ℕ × ℤ) (k : ℕ) → get key_cmp seen q ≡ Some k → (k < n) × (key_of togos k ≡ q)

@@ -1,4 +1,4 @@
--- What all accounts come to together: each charge up to as-of counts once.
+-- The sums over all accounts: each charge up to as-of counts once.
 use Rattle.std.proofs.Common.{◌≡◌, ℕ, zero, suc, ◌+◌, ◌<◌, ◌≤◌, ◌==◌, ◌&&◌, Bool, true, false, cond, List, length, take, refl, sym, ap, ◌∙◌, ℤ, arith}
 use Rattle.std.specs.Prelude.{int_le, pos, sum_by}
 use Rattle.std.proofs.Math.Seq.{take-length}
@@ -29,7 +29,7 @@ counts_once accounts account amount true known =
 counts_once accounts account amount false known =
     sum_to-zero accounts (λ a. cond ((account == a) && false) amount 0) (λ a lt. when_late (account == a) amount)
 
--- what all accounts are charged by the first i rows is what these come to
+-- the charges of all accounts in the first i rows are the sum of these rows
 charged_so_far : (accounts : ℕ) (charges : List MoneyRow) (as_of : ℤ) (i : ℕ) → AreMoney accounts charges → i ≤ length charges →
     sum_to accounts (actual_of (take i charges) as_of) ≡ all_charged (take i charges) as_of
 charged_so_far accounts charges as_of zero money h =
@@ -61,7 +61,7 @@ entries_sum : (f : Entry → ℕ) (entries : List Entry) → sum_by f entries �
 entries_sum f entries =
     ap (sum_by f) (sym (take-length entries)) ∙ part_sum f entries (record { budget = 0; actual = 0; to_go = 0 }) (length entries) (omega arith)
 
--- what all accounts have spent is what all charges up to as-of come to
+-- what all accounts have spent is the sum of all charges up to as-of
 pub all_spent : (accounts : List AcctRow) (charges togos : List MoneyRow) (as_of : ℤ) (entries : List Entry) →
     AreMoney (length accounts) charges → AreEntriesOf accounts charges togos as_of entries →
     sum_by (λ (entry : Entry). entry.actual) entries ≡ all_charged charges as_of
@@ -84,7 +84,7 @@ all_budgets accounts charges togos as_of entries are =
     ∙ (sym (part_sum (λ (account : AcctRow). account.budget) accounts (record { item = 0; budget = 0 }) (length accounts) (omega arith))
     ∙ ap (sum_by (λ (account : AcctRow). account.budget)) (take-length accounts))))
 
--- so all entries come to what the project does
+-- so the sums over all entries are those of the project
 pub entries_are_project : (accounts : List AcctRow) (charges togos : List MoneyRow) (as_of : ℤ) (entries : List Entry) →
     AreMoney (length accounts) charges → AreEntriesOf accounts charges togos as_of entries →
     entry_of_all entries ≡ entry_of_project accounts charges as_of entries

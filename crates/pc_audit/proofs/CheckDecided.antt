@@ -1,4 +1,4 @@
--- Where no fault came, the deck and the certificate decide how a check ends, but for want of memory.
+-- Without a fault, the deck and the certificate decide how a check ends, except for out of memory.
 use Rattle.std.proofs.Common.{◌≡◌, ℕ, List, Option, ◌⊎◌, inl, inr, arith}
 use Rattle.std.specs.Prelude.{IfSome, String}
 use Rattle.std.specs.declared.alloc.Global.{Global}
@@ -32,7 +32,7 @@ of_first left right P Q follows = of_one left P _ (λ bytes is. of_any right (Q 
 
 -- ---- the headline
 
--- a check that ended with 0 found a certificate that proves the whole curve
+-- a check that ended with 0 found a certificate that proves the complete curve
 pub proves : {D C O : Type 0} (words : List (String Global)) (deck : Side D) (cert : Side C) (out : Side O) (segments : ℕ) → IsChecked words deck cert out (Yes segments) → OfBoth deck cert ProvesCurve
 proves words deck cert out segments is =
     of_two (deck.bytes deck.old) (cert.bytes cert.old) (λ bytes text. HasVerdict bytes text (Yes segments)) ProvesCurve (λ bytes text h. curve_of bytes text segments h) is.has
@@ -66,7 +66,7 @@ module _ {D C O E : Type 0} (words : List (String Global)) (deck : Side D) (cert
   found_failing _ (read_fault asked unread same also) code at_6 = absurd (omega (arith, code, at_6))
   found_failing _ (write_fault is) code at_6 = absurd (omega (arith, code, at_6))
 
-  -- a check that ended with 0 found a certificate that proves the whole curve
+  -- a check that ended with 0 found a certificate that proves the complete curve
   pub headline : (status : Status) → CheckOutcome words deck cert out err status → answer ≡ code_of status → answer ≡ 0 → OfBoth deck cert ProvesCurve
   headline _ (certified segments is read same) code at_0 = proves words deck cert out segments is
   headline _ (not_certified line reason is same) code at_0 = absurd (omega (arith, code, at_0))

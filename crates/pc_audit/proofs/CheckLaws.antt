@@ -59,7 +59,7 @@ one_finding bytes text (No line reason) (No number cause) a b =
     let same = one_project bytes b.project a.project b.accepted a.accepted in
     ap (λ (fail : Fail). No fail.line fail.reason) (one_failure (priced_in a.project) text f g a.finds (subst (λ p. IsFailing (priced_in p) text g) same b.finds))
 
--- a certified certificate proves the whole curve
+-- a certified certificate proves the complete curve
 pub curve_of : (bytes text : List ℕ) (segments : ℕ) → HasVerdict bytes text (Yes segments) → ProvesCurve bytes text
 curve_of bytes text segments h =
     let prints : PrintsWholeCurve (priced_of h.accepted.deck) text = subst (λ (net : PricedNetwork). PrintsWholeCurve net text) (priced_as h.accepted.deck h.project h.accepted.is)

@@ -36,7 +36,7 @@ module _ (c d : Course) (limit : ℕ) (to_come : IsToCome c limit) (level : c.gi
         | inr none ↦ begins none
       ]
 
-  -- a segment that does not come down to the length ends above it
+  -- a segment that does not reach down to the length ends above it
   not_low : (c.given ≡ true → lower_of c ≤ limit → ⊥) → c.given ≡ true → limit < lower_of c
   not_low high had =
       elim (cases_lt limit (lower_of c)) [
@@ -44,7 +44,7 @@ module _ (c d : Course) (limit : ℕ) (to_come : IsToCome c limit) (level : c.gi
         | inr low ↦ absurd (high had low)
       ]
 
-  -- one that does not come down to it leaves it to come
+  -- one that does not reach down to it leaves it to come
   pub still-to_come : (c.given ≡ true → lower_of c ≤ limit → ⊥) → IsToCome d limit
   still-to_come high = record {
     above = omega (arith, to_come.above, same.shortest);

@@ -1,4 +1,4 @@
--- The segments of a solver lie on the curve of its network, and show where it breaks.
+-- The segments of a solver are on the curve of its network, and show where it breaks.
 use Rattle.std.proofs.Common.{◌≡◌, ◌≢◌, ℕ, ◌<◌, ◌≤◌, ◌⊎◌, true, false, Option, Some, None, inl, inr, sym, ◌∙◌, ap, subst, arith}
 use Rattle.std.proofs.lemmas.Bool.{cases_lt}
 use Rattle.pc_model.specs.Cost.{IsPriced}
@@ -21,11 +21,11 @@ use Rattle.pc_curve.proofs.TurnLaws.{IsClear, clear-begins, clear-goes_on, next-
 abbrev pub IsPricedThere : Course → Type 0
 IsPricedThere c = IsPriced c.net.network c.net.terms (knees_in c.net)
 
--- what is known of a network is known of that of its solver
+-- what holds of a network holds of that of its solver
 priced-there : (net : PricedNetwork) (c : Course) → c.net ≡ net → IsPriced net.network net.terms (knees_in net) → IsPricedThere c
 priced-there net c same priced = subst (λ (n : PricedNetwork). IsPriced n.network n.terms (knees_in n)) (sym same) priced
 
--- what is read from the present segment for a length that it holds is right
+-- the reading of the present segment for a length that it holds is right
 pub right-there : (net : PricedNetwork) → IsPriced net.network net.terms (knees_in net) → (c : Course) → c.net ≡ net → (limit : ℕ) → IsThere c limit
     → IsRight net.network net.terms (knees_in net) (present c) limit
 right-there net priced c same limit there =
@@ -33,7 +33,7 @@ right-there net priced c same limit there =
     (right_at c.net.network c.net.terms (knees_in c.net) (priced-there net c same priced) (present c) there.whole.right limit
     there.holds.above there.holds.below)
 
--- a whole segment further down lies on the same curve
+-- a complete segment further down is on the same curve
 lies-there : (from : Course) → IsPricedThere from → (c : Course) → c.net ≡ from.net → IsOnCurve c → LiesOn (curve_in from.net) (present c)
 lies-there from priced c same whole =
     subst (λ (n : PricedNetwork). LiesOn (curve_in n) (present c)) same
@@ -104,7 +104,7 @@ first-place c d b none same next upper =
 
 -- The way down from a length
 
--- the solver has come down from there, and the curve has not broken since
+-- the solver has advanced from there, and the curve has not broken since
 pub record IsOnTheWay (from : Course) (last : ℕ) (c : Course) : Type 0 where
   pub same : IsSameCurve from c
   pub further : IsFurther from c
@@ -141,7 +141,7 @@ module _ (from : Course) (last : ℕ) (priced : IsPricedThere from) (within : la
       let ordered : lower_of c ≤ upper_of c = way.whole.right.proper.ordered in
       record { given = way.given; whole = way.whole; holds = record { above = omega arith; below = ordered } }
 
-  -- and the solver stands there
+  -- and the solver is there
   pub ends-place : (b : Break) → b.length ≡ (present c).lower → StandsAt b.length c
   ends-place b is =
       let ordered : (present c).lower ≤ (present c).upper = way.whole.right.proper.ordered in
@@ -166,7 +166,7 @@ module _ (from : Course) (last : ℕ) (priced : IsPricedThere from) (within : la
     long : (present d).lower < (present d).upper
     long = next.long above
 
-    -- the lower end comes down
+    -- the lower end decreases
     pub way-lower : lower_of d < lower_of c
     way-lower =
         let lower : (present d).lower < (present c).lower = omega (arith, long, joined) in

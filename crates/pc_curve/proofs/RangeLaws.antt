@@ -10,7 +10,7 @@ pub one_range : (net : PricedNetwork) (low high short long : ℕ) → IsRange ne
 one_range net low high short long is also =
     (greatest_unique _ low short is.all_crash also.all_crash, greatest_unique _ high long is.all_normal also.all_normal)
 
--- a length of the network lies between the ends of its range
+-- a length of the network is between the ends of its range
 pub in_range : (net : PricedNetwork) (shortest longest limit : ℕ) → IsRange net shortest longest → IsLengthInRange net limit → (shortest ≤ limit) × (limit ≤ longest)
 in_range net shortest longest limit range inside =
     let same = one_range net inside.shortest inside.longest shortest longest inside.range range in

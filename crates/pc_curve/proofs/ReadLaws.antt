@@ -38,7 +38,7 @@ schedule-alike net terms limit durations times others moments range lasts stands
   ends = omega (arith, is.ends, stands net.end range.end_in);
 }
 
--- what is read costs no more than a project may
+-- a reading costs no more than a project may
 pub reading-small : (net : PricedNetwork) → IsPriced net.network net.terms (knees_in net) → AreWithinLimits net.terms → ArePieces net.terms net.pieces
     → ArePiecesWithinLimits net.pieces → (c : Course) → c.net ≡ net → (limit : ℕ) → IsThere c limit
     → cost_for (present c) limit ≤ 220000000000000000

@@ -1,4 +1,4 @@
--- The lines of breakpoints that come one after another.
+-- The lines of breakpoints that follow one another.
 use Rattle.std.proofs.Common.{◌≡◌, ℕ, ◌+◌, ◌<◌, List, [], ◌∷◌, ◌++◌, Option, Some, None, sym, ◌∙◌, ap, subst, arith}
 use Rattle.std.proofs.lemmas.List.{append_assoc, append-nil}
 use Rattle.pc_crash.specs.Priced.{PricedNetwork}
@@ -28,7 +28,7 @@ pub record ArePutTo (from : Course) (last : Option ℕ) (c : Course) (old new : 
   pub breaks : AreBreakpointsTo (curve_in from.net) from.shortest from.longest last points
   pub text : Adds old new (curve_text points)
 
--- no more than so many breakpoints are still to come
+-- at most this many breakpoints are still to come
 abbrev pub still_to_come : Course → Option ℕ → ℕ
 still_to_come c None = c.longest + 1
 still_to_come c (Some last) = last

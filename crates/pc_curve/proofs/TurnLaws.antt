@@ -1,4 +1,4 @@
--- Where a curve breaks below a length, along the segments that lie on it.
+-- Where a curve breaks below a length, along the segments on it.
 use Rattle.std.proofs.Common.{◌≡◌, ◌≢◌, ℕ, ◌-◌, ◌*◌, ◌<◌, ◌≤◌, ◌⊎◌, Some, None, inl, inr, sym, subst, ap, arith}
 use Rattle.std.proofs.lemmas.Bool.{cases_lt, cases_eq}
 use Rattle.pc_laws.specs.Segment.{Segment, cost_for}
@@ -6,7 +6,7 @@ use Rattle.pc_laws.specs.Curve.{IsTurn, IsBreak, Breakpoint, Meet, upper_point, 
 use Rattle.pc_laws.proofs.Curves.Turns.{IsCurve, LiesOn, straight, upper_costs, turns, turned}
 use Rattle.pc_curve.specs.Breaks.{IsNextBreakpoint}
 
--- the segment comes down from a length, below which the curve does not break above its lower end
+-- the segment reaches down to a length or below it, and the curve does not break between its lower end and that length
 pub record IsClear (curve : ℕ → ℕ → Type 0) (shortest longest last : ℕ) (seg : Segment) : Type 0 where
   pub within : shortest ≤ seg.lower
   pub below : seg.lower ≤ last
@@ -69,7 +69,7 @@ module _ (curve : ℕ → ℕ → Type 0) (is : IsCurve curve) (shortest longest
                 | inr other ↦ omega (arith, beyond, other)
               ]
 
-      -- a segment of the same slope goes on
+      -- a segment of the same slope continues
       pub clear-goes_on : (seg.slope ≡ next.slope) ⊎ (last ≤ next.upper) → IsClear curve shortest longest last next
       clear-goes_on goes = record {
         within = low;

@@ -76,7 +76,7 @@ added_more rows periods entry width n old new by so_far v are known before behin
     here =
         column-set_same rows new n entry.row v known ∙ (ap (λ (l : List ℤ). set l entry.row v) (are.rest n (omega arith)) ∙ ap (set column entry.row) value)
 
--- the periods behind the end have nothing of it
+-- the periods after the end have nothing of it
 pub added_all : (rows periods : ℕ) (entry : LoadRow) (width n : ℕ) (old new : List ℤ) → IsAddedTo rows periods entry width n old new →
     1 ≤ width → ((k : ℕ) → n ≤ k → k < periods → (entry.spread.begin + entry.spread.length) / width + 1 ≤ k) →
     IsAdded rows periods entry width old new

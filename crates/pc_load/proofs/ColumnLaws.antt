@@ -1,4 +1,4 @@
--- Where the cells of a table stand.
+-- The places of the cells of a table.
 use Rattle.std.proofs.Common.{◌≡◌, ◌≢◌, ℕ, suc, ◌+◌, ◌-◌, ◌*◌, ◌<◌, ◌≤◌, ⊎_elim, List, take, drop, set, ap, sym, ◌∙◌, arith}
 use Rattle.std.specs.Prelude.{ℤ, pos}
 use Rattle.std.proofs.lemmas.Bool.{cases_order}
@@ -8,7 +8,7 @@ use Rattle.std.proofs.Math.Nat.{mul-le-mul_right, suc-mul}
 use Rattle.pc_rollup.specs.Totals.{amount_at}
 use Rattle.pc_load.specs.Table.{column_of}
 
--- the cells of a period stand before those of a later one
+-- the cells of a period are before those of a later one
 pub before_next : (rows j k : ℕ) → j < k → j * rows + rows ≤ k * rows
 before_next rows j k lt =
     let up = mul-le-mul_right {m = suc j} {n = k} rows (omega arith) in

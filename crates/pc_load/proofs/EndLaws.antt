@@ -1,4 +1,4 @@
--- No activity ends behind the project.
+-- No activity ends after the project.
 use Rattle.std.proofs.Common.{ℕ, ◌+◌, ◌<◌, ◌≤◌, List, ◌++◌, length, slice_index, refl, arith}
 use Rattle.pc_model.specs.Network.{Network, IsEarly, IsInRange, IsSound}
 use Rattle.pc_model.specs.Walk.{from_of, to_of, walk_sum}

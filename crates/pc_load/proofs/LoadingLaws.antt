@@ -17,7 +17,7 @@ use Rattle.pc_load.specs.inside.Table.{IsTableOf, part_in, row_of, spread_of}
 use Rattle.pc_load.proofs.EntryLaws.{load_known, spread_over}
 use Rattle.pc_load.proofs.SeriesLaws.{adds_up}
 
--- no cost stands on an item that is no leaf
+-- no cost is on an item that is no leaf
 pub costs_at_leaves : (project : Project) (times : List ℕ) (entries : List LoadRow) (width periods : ℕ) (leaves : Table) →
     IsPlanned project → AreCosts project times (length project.network.arcs) entries →
     IsTableOf (length project.tree) entries width periods leaves → (k : ℕ) → k < periods → AreAtLeaves project.tree (column leaves k)

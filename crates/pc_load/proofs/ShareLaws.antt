@@ -7,15 +7,15 @@ use Rattle.std.proofs.Math.Nat.{div-le_of_le-mul, div-mul-le_self, mul_comm, mul
 use Rattle.pc_load.specs.declared.spread.Spread.{Spread}
 use Rattle.pc_load.specs.Share.{share, part}
 
--- up to the beginning nothing has come
+-- up to the beginning the share is nothing
 pub share_none : (s : Spread) (t : ℕ) → t ≤ s.begin → share s t ≡ 0
 share_none s t le = grind (arith, nat_tests)
 
--- behind the beginning, from the end on, all has come
+-- after the beginning, from the end on, the share is all
 pub share_all : (s : Spread) (t : ℕ) → s.begin < t → s.begin + s.length ≤ t → share s t ≡ s.amount
 share_all s t lt le = grind (arith, nat_tests)
 
--- between them the ratio has come
+-- between them the share is the ratio
 share_some : (s : Spread) (t : ℕ) → s.begin < t → t < s.begin + s.length → share s t ≡ s.amount * (t - s.begin) / s.length
 share_some s t lt less = grind (arith, nat_tests)
 
@@ -26,7 +26,7 @@ ratio_grows amount length d e some le =
     let more = mul-le-mul_left amount le in
     le-div (amount * d / length) (amount * e) length some (omega arith)
 
--- it is no more than the whole
+-- it is at most the complete amount
 ratio_most : (amount length d : ℕ) → d ≤ length → amount * d / length ≤ amount
 ratio_most amount length d le =
     let more = mul-le-mul_left amount le in
@@ -62,7 +62,7 @@ part_more s t u le = let grows = share_grows s t u le in omega arith
 pub part_most : (s : Spread) (t u : ℕ) → part s t u ≤ s.amount
 part_most s t u = let most = share_most s u in omega arith
 
--- nothing comes before the beginning or behind the end
+-- there is no part before the beginning or after the end
 pub part_before : (s : Spread) (t u : ℕ) → t ≤ u → u ≤ s.begin → part s t u ≡ 0
 part_before s t u le before = let is = share_none s u before in omega arith
 

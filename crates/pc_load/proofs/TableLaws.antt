@@ -36,7 +36,7 @@ pub part_is : (entries : List LoadRow) (width k e : ℕ) → e < length entries 
 part_is entries width k e lt =
     get_or-map (part_on width k) entries e (record { row = 0; spread = record { begin = 0; length = 0; amount = 0 } }) (record { item = 0; amount = pos 0 }) lt
 
--- all parts together are no more than so many greatest amounts
+-- all parts together are at most this many greatest amounts
 parts_most : (rows : ℕ) (entries : List LoadRow) (width k : ℕ) → AreEntries rows entries → magnitude_of (parts_in entries width k) ≤ MAX_LOADS * MAX_COST
 parts_most rows entries width k are =
     let long = length-map entries (part_on width k) in
@@ -55,7 +55,7 @@ parts_most rows entries width k are =
         let most = part_most (spread_of entries e) (width * k) (width * (k + 1)) in
         subst (λ (p : Placed). unsigned_abs p.amount ≤ MAX_COST) (sym (part_is entries width k e within)) (omega arith)
 
--- the sums of the first n entries in each of so many periods
+-- the sums of the first n entries in each of `periods` periods
 pub record AreSummedIn (rows periods : ℕ) (entries : List LoadRow) (width n : ℕ) (cells : List ℤ) : Type 0 where
   pub whole : length cells ≡ periods * rows
   pub each : (k : ℕ) → k < periods → AreSummed rows (parts_in entries width k) n (column_of rows cells k)

@@ -46,7 +46,7 @@ AreChains-step xs events i x heads nexts chains below is known = record {
       (cases_eq k i);
 }
 
--- what the first place of x from place j on says: it is at j or further on and x stands there, or there is none
+-- what the first place of x from place j on says: it is at j or after it and x is there, or there is none
 pub record IsFirstPlace (xs : List ℕ) (x j at : ℕ) : Type 0 where
   pub low : j ≤ length xs → j ≤ at
   pub here : at < length xs → (slice_index xs at ≡ x) × (places_from xs x j ≡ at ∷ places_from xs x (at + 1))

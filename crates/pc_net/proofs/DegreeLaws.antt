@@ -1,4 +1,4 @@
--- Over distinct events each activity stands at most once among those that begin there, and over all events just once.
+-- Over distinct events each activity is at most once among those that begin there, and over all events exactly once.
 use Rattle.std.proofs.Common.{◌≡◌, ◌≢◌, ℕ, ◌+◌, ◌<◌, ◌≤◌, ◌==◌, if◌then◌else◌, zero, suc, List, [], ◌∷◌, length, slice_index, inl, inr, refl, ap, sym, subst, ◌∙◌, arith}
 use Rattle.std.specs.Prelude.{sum_by}
 use Rattle.std.proofs.lemmas.Bool.{cases_eq, eq-eqb, ne_eqb, cond-true, cond-false}
@@ -47,18 +47,18 @@ split i y ys (e ∷ events) =
       split i y ys events,
     )
 
--- what is distinct is so without its first
+-- a list of distinct events without its first is one too
 distinct-rest : (e : ℕ) (events : List ℕ) → AreDistinct (e ∷ events) → AreDistinct events
 distinct-rest e events distinct j k earlier inside = distinct (suc j) (suc k) (omega arith) (omega arith)
 
--- an event that stands nowhere in the list
+-- an event that is nowhere in the list
 ones-none : (y : ℕ) (events : List ℕ) → ((j : ℕ) → j < length events → slice_index events j ≢ y) → sum_by (one_at y) events ≡ 0
 unfolding one_at
 ones-none y [] none = refl
 ones-none y (e ∷ events) none =
     omega (arith, sum_by-cons (one_at y) e events, cond-false {A = ℕ} (y == e) 1 0 (ne_eqb y e (λ is. none 0 (omega arith) (sym is))), ones-none y events (λ j inside. none (suc j) (omega arith)))
 
--- one stands at most once among distinct ones
+-- an event is at most once among distinct ones
 ones-most : (y : ℕ) (events : List ℕ) → AreDistinct events → sum_by (one_at y) events ≤ 1
 unfolding one_at
 ones-most y [] distinct = omega arith
@@ -73,7 +73,7 @@ ones-most y (e ∷ events) distinct =
       | inr isnt ↦ omega (arith, sum_by-cons (one_at y) e events, cond-false {A = ℕ} (y == e) 1 0 (ne_eqb y e isnt), ones-most y events (distinct-rest e events distinct))
     ]
 
--- and one that stands in the list is counted
+-- and one that is in the list is counted
 ones-some : (y : ℕ) (events : List ℕ) (j : ℕ) → j < length events → slice_index events j ≡ y → 1 ≤ sum_by (one_at y) events
 unfolding one_at
 ones-some y [] j inside at = absurd (omega arith)

@@ -17,7 +17,7 @@ never_fall_along arcs labels rising e f [] walked = omega (arith, ap (slice_inde
 never_fall_along arcs labels rising e f (a ∷ walk) walked =
     omega (arith, rising a walked.0, ap (slice_index labels) walked.1, never_fall_along arcs labels rising (to_of arcs a) f walk walked.2)
 
--- an activity between events of different labels lies on no cycle
+-- an activity between events of different labels is on no cycle
 pub apart_off_cycle : (arcs : List Arc) (labels : List ℕ) (a : ℕ) → NeverFalls arcs labels → slice_index labels (from_of arcs a) ≢ slice_index labels (to_of arcs a) → LiesOnCycle arcs a → ⊥
 apart_off_cycle arcs labels a rising apart lies =
     let (a_in, (rest, walked)) = way_round arcs a lies in
@@ -102,7 +102,7 @@ module _ (net : Network) (label : ℕ) (reached labels : List ℕ) (at : ℕ) (s
   queued_still : (v : ℕ) → IsQueued reached at v → IsQueued (reached ++ w ∷ []) at v
   queued_still v (k, from, below, is) = (k, from, omega (arith, length_push reached w), in_front k below ∙ is)
 
-  -- an event without a label gets this one, and is put behind those reached
+  -- an event without a label gets this one, and is appended to those reached
   pub IsSpread-push : IsSpread net label (reached ++ w ∷ []) (set labels w label) at
   IsSpread-push = record {
     labels_len = length-set labels w label ∙ spread.labels_len;

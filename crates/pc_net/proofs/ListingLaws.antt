@@ -26,12 +26,12 @@ AreListed-start xs = record {
   part = λ x below. absurd (omega arith);
 }
 
--- a part of a list is the same after more is put behind it
+-- a part of a list is the same after more is appended
 range-append : (items more : List ℕ) (a b : ℕ) → a ≤ b → b ≤ length items → slice_range (items ++ more) a b ≡ slice_range items a b
 range-append items more a b order within =
     ap (take (b - a)) (drop-append-le a items more (omega arith)) ∙ take-append-le (b - a) (drop a items) more (omega (arith, length-drop a items))
 
--- what is put behind a list is its last part
+-- what is appended to a list is its last part
 range_last : (items more : List ℕ) → slice_range (items ++ more) (length items) (length (items ++ more)) ≡ more
 range_last items more =
     ap (take (length (items ++ more) - length items)) (drop_at items more (length items) refl) ∙ take_all (length (items ++ more) - length items) more (omega (arith, length-append items more))
@@ -82,7 +82,7 @@ pub record IsFollowed (xs : List ℕ) (x at : ℕ) (before items : List ℕ) : T
 pub IsFollowed-start : (xs : List ℕ) (x at : ℕ) (before : List ℕ) → at ≡ first_or (length xs) (places_from xs x 0) → IsFollowed xs x at before before
 IsFollowed-start xs x at before is = record { from = 0; first = is; rest = refl }
 
--- it goes on at the next place of the same event
+-- it continues at the next place of the same event
 pub IsFollowed-step : (xs : List ℕ) (events x at next : ℕ) (heads nexts before items : List ℕ) → AreChains xs events 0 heads nexts →
     IsFollowed xs x at before items → at < length xs → next ≡ slice_index nexts at →
     IsFollowed xs x next before (items ++ at ∷ []) × (at < next)

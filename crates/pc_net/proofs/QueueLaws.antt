@@ -26,7 +26,7 @@ IsWaiting-same net order missing waits C D waiting there back = record {
   placed = waiting.placed;
 }
 
--- nothing is crossed yet, and the events that nothing enters stand in the queue
+-- nothing is crossed yet, and the events that nothing enters are in the queue
 pub IsQueue-start : (net : Network) (counts order : List ℕ) → AreEntering net counts → IsListed (λ v. slice_index counts v ≡ 0) (length counts) order → IsQueue net order counts 0
 IsQueue-start net counts order entering listed = (
   omega arith,
@@ -159,7 +159,7 @@ module _ (net : Network) (order missing waits : List ℕ) (C : ℕ → Type 0) (
         (cases_eq k (length order));
   }
 
-  -- it was the last to enter the event where it ends, which is put behind the queue
+  -- it was the last to enter the event where it ends, which is appended to the queue
   pub IsWaiting-push : slice_index missing w - 1 ≡ 0 → IsWaiting net (order ++ w ∷ []) (set missing w (slice_index missing w - 1)) (set waits a net.events) (λ k. C k ⊎ (k ≡ a))
   IsWaiting-push none = record {
     missing_len = length-set missing w _ ∙ waiting.missing_len;
@@ -255,7 +255,7 @@ module _ (net : Network) (order missing : List ℕ) (at event : ℕ) (leaving : 
         (λ k k_in. ⊎_elim (λ before. inl (inl before)) (λ out. ⊎_elim (λ old. inl (inr old)) (λ same. inr same) (out_less k out)));
   }
 
-  -- the next activity is crossed, and the event where it ends is put behind the queue
+  -- the next activity is crossed, and the event where it ends is appended to the queue
   pub IsCrossing-push : slice_index missing w - 1 ≡ 0 → IsCrossing net (order ++ w ∷ []) (set missing w (slice_index missing w - 1)) at event leaving (j + 1)
   IsCrossing-push none = record {
     queued = omega (arith, crossing.queued, length_push order w);

@@ -1,4 +1,4 @@
--- A refusal for another cause than want of memory says that the network is unsound, which a sound one never is.
+-- A refusal for another reason than out of memory says that the network is unsound, which a sound one never is.
 use Rattle.std.proofs.Common.{◌≢◌, refl, inl, inr}
 use Rattle.pc_model.specs.Network.{Network, IsSound}
 use Rattle.pc_model.proofs.Walks.UnsoundLaws.{IsUnsound, IsSound-not-IsUnsound}
@@ -6,7 +6,7 @@ use Rattle.pc_net.specs.declared.refusal.NetError.{NetError}
 use Rattle.pc_net.specs.declared.refusal.NetError.TheVariants.{StartEntered, EndLeft, Dangling, Cycle, OutOfMemory}
 use Rattle.pc_net.specs.Refusals.{IsNetError}
 
--- a network that is refused for another cause than want of memory is unsound
+-- a network that is refused for another reason than out of memory is unsound
 pub refused_is_unsound : (net : Network) (e : NetError) → IsNetError net e → e ≢ OutOfMemory → IsUnsound net
 refused_is_unsound net (StartEntered arc) refused other = inl (arc, refused.holds.0, refused.holds.1)
 refused_is_unsound net (EndLeft arc) refused other = inr (inl (arc, refused.1.holds.0, refused.1.holds.1))

@@ -146,7 +146,7 @@ way_round arcs a (cycle, (some, (e, walked)), (i, below, is)) =
       ),
     )
 
--- where the end of an activity was not found, it lies on no cycle
+-- if the end of an activity was not found, it is on no cycle
 pub off_cycle : (net : Network) (a : ℕ) (steps ranks : List ℕ) → IsSearch net a steps ranks (length steps) → slice_index ranks (to_of net.arcs a) ≡ 0 → LiesOnCycle net.arcs a → ⊥
 off_cycle net a steps ranks search none lies =
     let (rest, walked) = (way_round net.arcs a lies).1 in
@@ -163,7 +163,7 @@ pub record IsWayBack (net : Network) (a : ℕ) (steps ranks cycle : List ℕ) (r
   pub falls : (i : ℕ) → 0 < i → i < length cycle → rank < slice_index ranks (from_of net.arcs (slice_index cycle i))
   pub once : MeetsOnce net.arcs cycle
 
--- it goes on by the step that leaves the event
+-- it continues by the step that leaves the event
 pub IsWayBack-step : (net : Network) (a : ℕ) (steps ranks cycle : List ℕ) (rank step next : ℕ) → IsSearch net a steps ranks (length steps) →
     IsWayBack net a steps ranks cycle rank → 1 < rank → (k : ℕ) → k + 1 ≡ rank → step ≡ slice_index steps k →
     next ≡ slice_index ranks (to_of net.arcs step) → IsWayBack net a steps ranks (cycle ++ step ∷ []) next × (next < rank)
@@ -237,7 +237,7 @@ nonempty : (xs : List ℕ) → xs ≢ [] → 0 < length xs
 nonempty [] some = absurd (some refl)
 nonempty (x ∷ xs) some = omega arith
 
--- where no earlier activity lies on a cycle, a cycle that begins with this one is the first
+-- if no earlier activity is on a cycle, a cycle that begins with this one is the first
 pub IsFirstCycle-from_round : (arcs : List Arc) (a : ℕ) (cycle : List ℕ) → IsRound arcs a cycle → ((b : ℕ) → b < a → LiesOnCycle arcs b → ⊥) → IsFirstCycle arcs cycle
 IsFirstCycle-from_round arcs a cycle round none = record {
   cycle = round.cycle;
@@ -248,6 +248,6 @@ IsFirstCycle-from_round arcs a cycle round none = record {
   };
 }
 
--- some activity lies on a cycle
+-- some activity is on a cycle
 pub LiesOnCycle-from_cycle : (arcs : List Arc) (cycle : List ℕ) → IsCycle arcs cycle → LiesOnCycle arcs (slice_index cycle 0)
 LiesOnCycle-from_cycle arcs cycle is = (cycle, is, (0, nonempty cycle is.0, refl))

@@ -25,7 +25,7 @@ entered net sound e below not_start =
     (λ (front, a, is, in_arcs, front_walked, ends). (a, in_arcs, ends))
     (last_of_walk net.arcs net.start e walk walked)
 
--- the greatest of what g gives for the activities that end at an event
+-- the greatest value of g for the activities that end at an event
 pub last_of_greatest : (net : Network) (g : ℕ → ℕ) (e n : ℕ) → IsSound net → e < net.events →
     IsGreatestWhere (λ a. to_of net.arcs a ≡ e) (length net.arcs) g n → IsLastAt net g e n
 last_of_greatest net g e n sound below all = record {

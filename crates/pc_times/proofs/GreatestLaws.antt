@@ -1,14 +1,14 @@
--- The greatest of what some activities give, taken one after another.
+-- The greatest value of some activities, taken one after another.
 use Rattle.std.proofs.Common.{◌≡◌, ℕ, ◌+◌, ◌<◌, ◌≤◌, ◌⊎◌, inl, inr, ⊎_elim, List, length, slice_index, ap, max, below_more, arith}
 use Rattle.std.proofs.lemmas.Bool.{cases_lt}
 use Rattle.pc_model.specs.inside.Greatest.{IsListed}
 
--- n is the greatest of what g gives for the first k of the items, or 0 where there are none
+-- n is the greatest value of g for the first k of the items, or 0 if there are none
 pub record IsGreatestOf (g : ℕ → ℕ) (items : List ℕ) (k n : ℕ) : Type 0 where
   pub above : (j : ℕ) → j < k → g (slice_index items j) ≤ n
   pub attained : ((j : ℕ) × (j < k) × (g (slice_index items j) ≡ n)) ⊎ ((n ≡ 0) × (k ≡ 0))
 
--- n is the greatest of what g gives for the numbers below a count that have P, or 0 where there are none
+-- n is the greatest value of g for the numbers below a count that have P, or 0 if there are none
 pub record IsGreatestWhere (P : ℕ → Type 0) (count : ℕ) (g : ℕ → ℕ) (n : ℕ) : Type 0 where
   pub above : (a : ℕ) → a < count → P a → g a ≤ n
   pub attained : ((a : ℕ) × (a < count) × P a × (g a ≡ n)) ⊎ ((n ≡ 0) × ((a : ℕ) → a < count → P a → ⊥))

@@ -29,7 +29,7 @@ first_listed P n e k place items named listed in_items holds none = record { hol
         (λ later. ⊎_elim (λ same. omega (arith, at, ap (slice_index items) same)) (λ other. omega (arith, at, listed.rising k j (omega arith) j_in)) (cases_eq k j))
         (cases_lt j k)
 
--- the walk leads from the start to event e by the picked activities, and goes on as the picked walk from e does
+-- the walk leads from the start to event e by the picked activities, and continues as the picked walk from e does
 pub record IsPickedTo (net : Network) (lengths times tails path : List ℕ) (e : ℕ) : Type 0 where
   pub walked : IsWalk net.arcs net.start path e
   pub in_range : e < net.events
@@ -63,13 +63,13 @@ module _ (net : Network) (lengths times tails : List ℕ) (ranged : IsInRange ne
         (length front, omega (arith, length-append front (a ∷ back)), get_or_at front a back a (length front) refl),
       )
 
-  -- an activity that meets the test lies on a longest walk
+  -- an activity that meets the test is on a longest walk
   pub critical_without_slack : (e a : ℕ) → HasNoSlack net lengths times tails e a → IsCriticalAt net lengths e a
   critical_without_slack e a (below, begins, tight) =
       let (walk, walked, sums, has) = walk_through a below in
       (below, begins, (walk, (walked, subst (λ (n : ℕ). IsLongest net lengths n) (omega (arith, sums, tight, ap (slice_index times) begins)) (early.each net.end ranged.end_in)), has))
 
-  -- an activity that lies on a longest walk meets the test
+  -- an activity on a longest walk meets the test
   pub without_slack_where_critical : (e a : ℕ) → IsCriticalAt net lengths e a → HasNoSlack net lengths times tails e a
   without_slack_where_critical e a (below, begins, (walk, (walked, longest), (k, in_walk, at))) =
       let rest : List ℕ = drop (k + 1) walk in

@@ -1,4 +1,4 @@
--- How the greatest sum at one event comes from those at its neighbours.
+-- How the greatest sum at one event follows from those at its neighbours.
 use Rattle.std.proofs.Common.{◌≡◌, ◌≢◌, ℕ, ◌+◌, ◌*◌, ◌<◌, ◌≤◌, List, [], ◌∷◌, ◌++◌, length, slice_index, set, get_or-set_same}
 use Rattle.std.proofs.Common.{get_or-set_other, length-set, ◌∙◌, refl, sym, ap, subst, ⊎_elim, below_more, arith}
 use Rattle.std.proofs.Math.Nat.{mul-le-mul_right}

@@ -13,7 +13,7 @@ use Rattle.pc_wbs.specs.inside.Ends.{AreEnds, AreDoubled, StayInside, IsLeastBel
 use Rattle.pc_wbs.proofs.ClimbLaws.{climb-add, climb-lower, climb-more, climb-range, HasLevel-same}
 use Rattle.pc_wbs.proofs.LoopLaws.{IsOnLoop-end, end-IsOnLoop}
 
--- a row from which so many steps lead somewhere is deeper than that
+-- a row from which this many steps lead somewhere is deeper than that
 pub HasLevel-deep : (rows : List ItemRow) (steps x end level : ℕ) → climb rows steps x ≡ Some end → HasLevel rows x level → steps < level
 HasLevel-deep rows steps x end level h (k, (top, (g, t, l))) =
     ⊎_elim (λ lt. let z = climb-lower rows (k + 1) steps x end (omega arith) h in let over = climb-more rows k x top g in let is = z.1 in absurd cc)

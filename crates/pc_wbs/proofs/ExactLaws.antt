@@ -1,4 +1,4 @@
--- Rows have one answer: they are a tree, or one refusal holds of them.
+-- Rows have one result: they are a tree, or one refusal holds of them.
 use Rattle.std.proofs.Common.{◌≡◌, ◌≢◌, ℕ, zero, suc, ◌+◌, ◌-◌, ◌<◌, List, length, Some, refl, sym, ap, ◌∙◌, ⊎_elim, add-one, arith}
 use Rattle.std.specs.Prelude.{slice_index}
 use Rattle.std.proofs.lemmas.Bool.{cases_order}
@@ -77,7 +77,7 @@ IsTree-not_refused rows (TooDeep item level) t h =
     absurd (omega (arith, deep.1.1.1, own.1.1))
 IsTree-not_refused rows OutOfMemory t h = refl
 
--- and of other rows one alone, but for want of memory
+-- and of other rows only one, except for out of memory
 pub IsRefusal-same : (rows : List ItemRow) (e f : TreeError) → e ≢ OutOfMemory → f ≢ OutOfMemory → IsTreeError rows e → IsTreeError rows f → e ≡ f
 IsRefusal-same rows OutOfMemory f he hf h g = absurd (he refl)
 IsRefusal-same rows e OutOfMemory he hf h g = absurd (hf refl)

@@ -1,4 +1,4 @@
--- How levels tell rows above one another apart.
+-- How levels distinguish rows above one another.
 use Rattle.std.proofs.Common.{◌≡◌, ℕ, ◌+◌, ◌≤◌, List, Some, refl, ap, ◌∙◌, arith}
 use Rattle.pc_wbs.specs.declared.tree.ItemRow.{ItemRow}
 use Rattle.pc_wbs.specs.Climb.{climb, IsBelow, HasLevel}

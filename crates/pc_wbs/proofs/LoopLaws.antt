@@ -20,7 +20,7 @@ place-is (Some y) z h = refl
 climb-place : (rows : List ItemRow) (x i z : ℕ) → climb rows i x ≡ Some z → climb rows i x ≡ Some (place rows x i)
 climb-place rows x i z h = place-is (climb rows i x) z h
 
--- a climb of at least as many steps as there are rows comes to some row twice
+-- a climb of at least as many steps as there are rows reaches some row twice
 repeated : (rows : List ItemRow) (steps x y : ℕ) → AreInRange rows → x < length rows → length rows ≤ steps → climb rows steps x ≡ Some y → Repeats (length rows) (place rows x)
 repeated rows steps x y r lt long h = repeats (length rows) (place rows x) small
   where
@@ -45,7 +45,7 @@ IsOnLoop-end rows steps x y r lt long h = around (repeated rows steps x y r lt l
         let on = climb-add rows (steps - j) (j - i - 1 + 1) (steps - i) (place rows x i) y (omega arith) end in
         (j - i - 1, sym on ∙ sym from_i ∙ h)
 
--- from a row of a loop, whole rounds lead back
+-- from a row of a loop, complete rounds lead back
 rounds : (rows : List ItemRow) (k x m : ℕ) → climb rows (k + 1) x ≡ Some x → climb rows (m * (k + 1)) x ≡ Some x
 rounds rows k x zero h = rw (zero-mul (k + 1)) refl
 rounds rows k x (suc m) h =
@@ -89,7 +89,7 @@ HasLevel-no_loop rows x level (k, (top, (h, t, l))) on =
     let is = z.1 in
     cc
 
--- a walk round the loop: the rows that were passed, each where so many steps lead, and not yet back
+-- a walk round the loop: the rows that were passed, each reached by that many steps, and none is the first again
 pub record IsOnTheWay (rows : List ItemRow) (start steps : ℕ) (found : List ℕ) (here : ℕ) : Type 0 where
   pub so_many : length found ≡ steps
   pub now : climb rows steps start ≡ Some here
@@ -142,7 +142,7 @@ IsLoopFrom-walked rows start steps found here h e = record {
         let back = by_j ∙ ap (λ n. climb rows (steps - k + 1) n) same ∙ sym by_k ∙ round in
         h.away (j + (steps - k)) (omega arith) back
 
--- a walk of as many steps as there are rows has come back
+-- a walk of as many steps as there are rows has returned
 pub not_for_ever : (rows : List ItemRow) (start steps : ℕ) (found : List ℕ) (here : ℕ) → AreInRange rows → IsLooped rows start → length rows ≤ steps → IsOnTheWay rows start steps found here → ⊥
 not_for_ever rows start steps found here r on long h =
     let short = IsOnLoop-short rows start r on.0 on.1 in

@@ -26,7 +26,7 @@ parent_below rows x p y parent below other =
     (IsBelow-cases rows x y below)
 
 module _ (rows : List ItemRow) (tree : IsTree rows) where
-  -- a row that stands behind the first k in one order, where the two agree on these, does so in the other
+  -- if two orders agree on the first k rows, a row after these in one order is after them in the other
   behind : (xs ys : List ℕ) (k y : ℕ) → IsPreorder rows xs → IsPreorder rows ys → ((j : ℕ) → j < k → slice_index xs j ≡ slice_index ys j) → k < length ys → slice_index ys k ≡ y → slice_index xs k ≢ y
       → (m : ℕ) × ((k < m) × (m < length xs) × (slice_index xs m ≡ y))
   behind xs ys k y a b agree inside is other =
@@ -35,7 +35,7 @@ module _ (rows : List ItemRow) (tree : IsTree rows) where
       (λ not_before. ⊎_elim (λ here. absurd (other (ap (slice_index xs) (sym here) ∙ at))) (λ apart. (m, (omega (arith, not_before, apart), lower, at))) (cases_eq m k))
       (cases_lt m k)
 
-  -- what a row with a parent tells of the row that stands in its place in the other order: that is below that parent too
+  -- for a row with a parent, the row in its place in the other order is below that parent too
   both_below : (xs ys : List ℕ) (k p : ℕ) → IsPreorder rows xs → IsPreorder rows ys →
       ((j : ℕ) → j < k → slice_index xs j ≡ slice_index ys j) → k < length xs → k < length ys → slice_index xs k ≢ slice_index ys k
       → parent_of rows (slice_index xs k) ≡ Some p → IsBelow rows (slice_index ys k) p × (slice_index ys k ≢ p)
@@ -51,7 +51,7 @@ module _ (rows : List ItemRow) (tree : IsTree rows) where
         λ same. b.once j k before in_ys (there ∙ sym same),
       )
 
-  -- a row without a parent stands first
+  -- a row without a parent is first
   first_alone : (xs : List ℕ) (k : ℕ) → IsPreorder rows xs → k < length xs → parent_of rows (slice_index xs k) ≡ None → k ≡ 0
   first_alone xs k a inside none =
       ⊎_elim (λ zero_is. zero_is)

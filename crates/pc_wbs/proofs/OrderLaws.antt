@@ -1,4 +1,4 @@
--- The row right behind another in preorder, and the preorder that is made of such steps.
+-- The row directly after another in preorder, and the preorder that is made of such steps.
 use Rattle.std.proofs.Common.{◌≡◌, ◌≢◌, ℕ, zero, suc, ◌+◌, ◌-◌, ◌<◌, ◌≤◌, ◌⊎◌, ◌++◌, ◌∷◌, [], below_more, List, length, Option, Some, None, refl, sym, ap, ◌∙◌, inl, inr, ⊎_elim, add-one, arith}
 use Rattle.std.specs.Prelude.{slice_index}
 use Rattle.std.proofs.lemmas.Bool.{cases_lt, cases_eq, cases_order}
@@ -148,7 +148,7 @@ IsFront-none rows top r t only = record {
   continues = (only.is_top.0, λ k h. absurd (omega arith), λ u lt. inr (below-precedes rows u top (IsBelow-top rows top u r t only lt)));
 }
 
--- the rows and the next one behind them are rows in order
+-- the rows and the next one after them are rows in order
 front_push : (rows : List ItemRow) (xs : List ℕ) (x : ℕ) → IsFront rows xs (Some x) →
     ((k : ℕ) → k < length xs + 1 → slice_index (xs ++ x ∷ []) k < length rows)
     × ((j k : ℕ) → j < k → k < length xs + 1 → Precedes rows (slice_index (xs ++ x ∷ []) j) (slice_index (xs ++ x ∷ []) k))

@@ -19,7 +19,7 @@ find (suc m) f v =
     last i h none ne (inl e) = rw e ne
     last i h none ne (inr d) = none i (omega arith)
 
--- n is left out: where f i is n, the last number stands for it
+-- n is left out: if f i is n, the last number replaces it
 squeezed : ℕ → (ℕ → ℕ) → ℕ → ℕ
 squeezed n f i = if f i == n then f (suc n) else f i
 

@@ -1,5 +1,5 @@
--- Which of two rows comes first in preorder: the one that the other is below, or else the one that lies below the
--- earlier of two siblings.
+-- Which of two rows comes first in preorder: the one that the other is below, or else the one that is below the earlier
+-- of two siblings.
 use Rattle.std.proofs.Common.{◌≡◌, ℕ, zero, suc, ◌+◌, ◌-◌, ◌<◌, ◌⊎◌, List, Some, refl, sym, ap, ◌∙◌, inl, inr, ⊎_elim, add-one, arith}
 use Rattle.std.proofs.lemmas.Bool.{cases_lt}
 use Rattle.pc_wbs.specs.declared.tree.ItemRow.{ItemRow}
@@ -32,7 +32,7 @@ IsUnder-from rows u v y (suc k, h) (p, (e, g)) =
 pub cases_below : (rows : List ItemRow) (x y : ℕ) → IsBelow rows x y → (x ≡ y) ⊎ IsUnder rows x y
 cases_below rows x y h = IsBelow-cases rows x y h
 
--- two rows above the same row lie one above the other
+-- of two rows above the same row one is above the other
 pub cases_above : (rows : List ItemRow) (v b c : ℕ) → IsBelow rows v b → IsBelow rows v c → IsBelow rows b c ⊎ IsBelow rows c b
 cases_above rows v b c (k, h) (j, g) =
     ⊎_elim (λ lt. inl (j - k, sym (climb-add rows k (j - k) j v b (omega arith) h) ∙ g))

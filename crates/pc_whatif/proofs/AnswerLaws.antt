@@ -91,7 +91,7 @@ module _ (editing : Editing) (trial : Trial) where
 
 -- ---- lines
 
--- what a talk answered are the answers to its lines
+-- the answers of a session are the answers to its lines
 pub answers_of : (start end : Planning) (lines : List (List ℕ)) (text : List ℕ) → Answered AnswersLine start lines text end → AreAnswers start.project start.editing lines text
 answers_of start end [] text p = p.0
 answers_of start end (line ∷ lines) text p =

@@ -10,7 +10,7 @@ too_long : (line : List ℕ) → MAX_LINE < length line → ask_of line ≡ None
 unfolding ask_of
 too_long line long = rw (lt-ltb MAX_LINE (length line) long) refl
 
--- the front that is kept of a line asks what the line asks
+-- the stored front of a line has the same request as the line
 pub ask_of-kept : (line : List ℕ) → ask_of (kept line) ≡ ask_of line
 ask_of-kept line = elim (cases_lt 97 (length line)) [
   | inl long ↦ (let front : length (kept line) ≡ 97 = length-take-le 97 line (omega arith) in

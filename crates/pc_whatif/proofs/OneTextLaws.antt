@@ -85,6 +85,6 @@ module _ (project : Project) (parts : HasSoundParts project) where
       ∙ (ap (λ (first : List ℕ). first ++ x.1) (one_answer editing (ask_of line) (x.0) (y.0) (x.3) (y.3))
       ∙ (ap (λ (rest : List ℕ). y.0 ++ rest) (one_text_of (editing_after editing (ask_of line)) lines (x.1) (y.1) (x.4) (y.4)) ∙ sym (y.2)))
 
--- two texts that answer lines on a project are one
+-- two texts that answer lines on a project are equal
 pub one_text : (project : Project) → IsPlanned project → (lines : List (List ℕ)) (text other : List ℕ) → AnswersLines project lines text → AnswersLines project lines other → text ≡ other
 one_text project planned lines text other x y = one_text_of project (sound_parts project.deck project planned.own.makes planned.own.is) (begun project) lines text other x y

@@ -66,7 +66,7 @@ module _ (project : Project) (old new : Editing) (a : ℕ) (change : ChangesOnly
             ∙ ap (λ u. slice_set region.variances a (variance_by u e)) (sym change.unit_days);
       }
 
--- ---- what is asked
+-- ---- requests
 
 -- the project as it is edited is the one that the current times are of
 pub changed_to : (project : Project) (editing : Editing) (region : SessionRegion) → HasCurrentTimes project editing region → IsChangedTo project region (project_as project editing)

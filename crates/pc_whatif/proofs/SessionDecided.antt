@@ -1,4 +1,4 @@
--- What the status of a session says, and what decides it where no fault came, but for want of memory.
+-- What the status of a session says, and what decides it without a fault, except for out of memory.
 use Rattle.std.proofs.Common.{◌≡◌, ℕ, ◌+◌, ◌<◌, ◌≤◌, List, length, Option, Some, None, ◌⊎◌, inl, inr, arith, sym, ap, subst, length-append}
 use Rattle.std.specs.Prelude.{IfSome, String}
 use Rattle.std.specs.declared.alloc.Global.{Global}
@@ -148,7 +148,7 @@ module _ {D C O E : Type 0} (means : Meaning) (words : List (String Global)) (de
       subst (λ (left : Option (List ℕ)). IfSome (edits.bytes edits.old) (λ before. IfSome left (λ after. INPUT_LIMIT + length after < length before → Q)))
       (sym (ap edits.bytes same)) (none_taken INPUT_LIMIT (edits.bytes edits.old) Q)
 
-  -- where more is taken of the edits than they may have, that is the answer
+  -- if more is taken of the edits than they may have, the status is 8
   pub long_edits_end : HadNoFault out → (status : Status) → SessionOutcome means words deck edits out err status → answer ≡ code_of status
       → OfBytes edits (λ before. IfSome (edits.bytes edits.new) (λ after. INPUT_LIMIT + length after < length before → answer ≡ 8))
   long_edits_end takes _ (heard_out one is same) code = few_taken INPUT_LIMIT (edits.bytes edits.old) (edits.bytes edits.new) is.heard.answered.bytes (answer ≡ 8) is.heard.answered.taken is.short

@@ -21,7 +21,7 @@ use Rattle.pc_whatif.specs.inside.Hearing.{Hearing, all, passed, unread, cut, no
 use Rattle.pc_whatif.specs.SessionOutcome.{deck_unread, edits_unread, in_answers, in_refusal, in_usage}
 use Rattle.pc_whatif.specs.inside.SessionOutcome.{SessionOutcome, heard_out, too_long, deck_refused, usage, no_memory, read_fault, write_fault}
 
--- ---- what a talk comes to
+-- ---- the result of a session
 
 module _ {T C O : Type 0} (says : T → List ℕ → List ℕ → T → Type 0) (left : C → Option (List ℕ)) (source_faults : C → ℕ) (pulls : C → Option ℕ)
     (taken : O → Option (List ℕ)) (sink_faults : O → ℕ) (talker talker_after : T) (source source_after : C) (out out_after : O)

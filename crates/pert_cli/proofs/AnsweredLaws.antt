@@ -20,7 +20,7 @@ module _ {S O E : Type 0} (words : List (String Global)) (source : Side S) (out 
   is_done _ (read_fault form rose few same also) code at_0 = absurd (omega (arith, code, at_0))
   is_done _ (write_fault is) code at_0 = absurd (omega (arith, code, at_0))
 
-  -- the output took a text that answers the form for which the words ask
+  -- the output took a text that answers the form that the words ask for
   pub answered : (form : Form) → AskFor form words → (status : Status) → Outcome words source out err status → answer ≡ code_of status →
       answer ≡ 0 → (text : List ℕ) × IsAnswer form source text × Took out text
   answered form asked status outcome code at_0 =

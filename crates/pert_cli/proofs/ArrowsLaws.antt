@@ -1,4 +1,4 @@
--- What answers `arrows` is a deck of the plan that is drawn of the tasks.
+-- The answer to `arrows` is a deck of the plan that is generated from the tasks.
 use Rattle.std.proofs.Common.{◌≡◌, ℕ, List, Option, Some, None, refl}
 use Rattle.std.specs.Prelude.{IfSome, String}
 use Rattle.std.specs.declared.alloc.Global.{Global}
@@ -30,7 +30,7 @@ of_deck (Some bytes) out project text took is drawn = record {
 }
 
 module _ {S O E : Type 0} (words : List (String Global)) (source : Side S) (out : Side O) (err : Side E) (answer : ℕ) where
-  -- where a run for `arrows` ended with 0, the output took a deck of the plan that is drawn of the source's tasks
+  -- if a run for `arrows` ended with 0, the output took a deck of the plan that is generated from the source's tasks
   pub takes_arrows : (status : Status) → Outcome words source out err status → answer ≡ code_of status → answer ≡ 0 → AskFor Arrows words → OfBytes source (TookArrows out)
   takes_arrows status outcome code at_0 asked =
       let given = answered words source out err answer Arrows asked status outcome code at_0 in

@@ -1,4 +1,4 @@
--- The first of the faults F2 to F12 of a deck is one, and tells one thing.
+-- The first of the faults F2 to F12 of a deck is one, with one text.
 use Rattle.std.proofs.Common.{◌≡◌, ◌≢◌, ℕ, ◌+◌, ◌≤◌, ◌==◌, Bool, true, false, List, [], ◌∷◌, ◌++◌, length, Option, Some, unwrap_or, if◌then◌else◌, ◌⊎◌, inl, inr, refl, sym, ap, ◌∙◌, arith}
 use Rattle.std.specs.Str.{is_utf8}
 use Rattle.pc_records.specs.Deck.{deck_records}
@@ -25,7 +25,7 @@ use Rattle.pert_cli.proofs.FirstOnceLaws.{AreToldByPlace, by_number, first_once,
 abbrev slot_or : Option Slot → Slot
 slot_or found = unwrap_or found (0, Code)
 
--- what the faults of a card that names this kind tell, by their numbers
+-- the faults of a card that names this kind, by their numbers
 abbrev card_fault : Seen → Numbered → Option Kind → ℕ → Fault
 card_fault seen card named n =
     let kind : Kind = unwrap_or named Project in
@@ -96,7 +96,7 @@ rises_from n (fields ∷ records) = by_card (is_card (n, fields)) (rises_from (n
 pub deck_rises : (bytes : List ℕ) → Rises 1 (deck_cards bytes)
 deck_rises bytes = rises_from 1 (deck_records bytes)
 
--- a fault of cards stands behind those before them, but for F12
+-- a fault of cards comes after those before them, except F12
 later : (sort : Sort) (before : List Numbered) (end n : ℕ) (cards : List Numbered) → Rises n cards → (f : Fault) → HasFaultFrom sort before end cards f → (n ≤ f.row) ⊎ (f.number ≡ 12)
 later sort before end n [] rising f h = inr (ap (λ (g : Fault). g.number) h.1)
 later sort before end n (card ∷ cards) rising f (inl here) = inl (omega (arith, rising.0, row_of-card (seen_among sort before) card f here))

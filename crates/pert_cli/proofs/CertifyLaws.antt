@@ -1,4 +1,4 @@
--- What answers `certify` prints the whole time-cost curve.
+-- The answer to `certify` prints the complete time-cost curve.
 use Rattle.std.proofs.Common.{◌≡◌, ℕ, List, [], Option, Some, None, append-nil, refl, sym, subst, ◌∙◌}
 use Rattle.std.specs.Prelude.{IfSome, String}
 use Rattle.std.specs.declared.alloc.Global.{Global}
@@ -46,7 +46,7 @@ of_deck (Some bytes) out project text took is accepted =
     }
 
 module _ {S O E : Type 0} (words : List (String Global)) (source : Side S) (out : Side O) (err : Side E) (answer : ℕ) where
-  -- where a run for `certify` ended with 0, the output took the whole curve
+  -- if a run for `certify` ended with 0, the output took the complete curve
   pub takes_whole_curve : (status : Status) → Outcome words source out err status → answer ≡ code_of status → answer ≡ 0 → AskFor Certify words → OfBytes source (TookWholeCurve out)
   takes_whole_curve status outcome code at_0 asked =
       let given = answered words source out err answer Certify asked status outcome code at_0 in

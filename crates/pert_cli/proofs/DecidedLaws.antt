@@ -1,4 +1,4 @@
--- Where no fault came, the words and the deck decide how a run ends, but for want of memory.
+-- Without a fault, the words and the deck decide how a run ends, except for out of memory.
 use Rattle.std.proofs.Common.{◌≡◌, ◌≢◌, ◌≤◌, ℕ, List, length, ◌⊎◌, inl, inr, arith, subst}
 use Rattle.std.specs.Prelude.{String}
 use Rattle.std.specs.declared.alloc.Global.{Global}
@@ -68,7 +68,7 @@ module _ {S : Type 0} (source : Side S) (form : Form) (reads : ReadsSource form)
     | inr denied ↦ from_both (source.bytes source.old) (λ bytes. IsMadeAs (sort_of form) bytes denied.0) (IsAcceptedFor form) R (denial_not_accepted form denied.0 fault denied.2) denied.1
   ]
 
-  -- it is not refused, where there is an answer
+  -- it is not refused if there is an answer
   answered_not_refused : (text : List ℕ) (R : List ℕ → Type 0) → IsAnswer form source text → OfBytes source (λ bytes. IsRefusedFor form bytes → R bytes)
   answered_not_refused text R is =
       from_both (source.bytes source.old) (λ bytes. IsMadeAs (sort_of form) bytes is.project) (IsRefusedFor form) R
@@ -96,7 +96,7 @@ module _ {S : Type 0} (source : Side S) (form : Form) (deck : List ℕ) (own : I
   own_not_accepted fault (by_form project has denial) accepted =
       denial_not_accepted form project fault denial deck (owned_project source form deck project own has) accepted
 
-  -- nor refused, where there is an answer
+  -- nor refused if there is an answer
   own_not_refused : (text : List ℕ) → IsAnswer form source text → IsRefusedFor form deck → ⊥
   own_not_refused text is faulty = answer_not_refused form is.project text is.reply deck (owned_project source form deck is.project own is.deck) faulty
 
@@ -165,7 +165,7 @@ module _ {S O E : Type 0} (words : List (String Global)) (source : Side S) (out 
     reads_none : AskToRead words → ⊥
     reads_none other = reads_not_owned form deck (of_form words ReadsSource form other.0 asked other.1 other.2) own
 
-    -- a form with a deck of its own leaves the source as it was
+    -- a form with a deck of its own does not change the source
     pub own_unread : (status : Status) → Outcome words source out err status → IsUntouched source
     own_unread _ (done is same) = let mine = its_answer is.form is.text is.asked is.answer in left_with_project source form mine.project mine.deck deck own
     own_unread _ (refused is same) = left_turned_down source form is.fault (its_refusal is.form is.fault is.asked is.refusal) deck own

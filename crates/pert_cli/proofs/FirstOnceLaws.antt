@@ -1,11 +1,11 @@
--- Where record and number tell a fault, two first faults are one.
+-- If record and number determine a fault, two first faults are equal.
 use Rattle.std.proofs.Common.{◌≡◌, ◌≢◌, ℕ, ◌⊎◌, inl, inr, sym, ap, ◌∙◌, arith, ⊎_elim}
 use Rattle.std.proofs.lemmas.Bool.{cases_order}
 use Rattle.pc_faults.specs.First.{IsFirstFault, IsNoLater}
 use Rattle.pc_faults.specs.declared.fault.Fault.{Fault}
 use Rattle.pc_model.specs.Greatest as number
 
--- record and number tell the fault
+-- record and number determine the fault
 abbrev pub AreToldByPlace : (Fault → Type 0) → Type 0
 AreToldByPlace Has = (f g : Fault) → Has f → Has g → f.row ≡ g.row → f.number ≡ g.number → f ≡ g
 
@@ -31,7 +31,7 @@ pub first_number_once : (P : ℕ → Type 0) (x y : ℕ) → number.IsFirst P x 
 first_number_once P x y h g =
     ⊎_elim (λ same. same) (λ apart. ⊎_elim (λ lt. absurd (g.first x lt h.holds)) (λ gt. absurd (h.first y gt g.holds)) apart) (cases_order x y)
 
--- two faults are one but, where they tell of a cycle, for the list that it names
+-- two faults are equal, except for the list of a cycle that they name
 pub record AreAlike (f g : Fault) : Type 0 where
   pub row : f.row ≡ g.row
   pub number : f.number ≡ g.number
@@ -40,7 +40,7 @@ pub record AreAlike (f g : Fault) : Type 0 where
 pub alike : (f g : Fault) → f ≡ g → AreAlike f g
 alike f g is = record { row = ap (λ (h : Fault). h.row) is; number = ap (λ (h : Fault). h.number) is; all = λ no no_more. is }
 
--- a phase after which others come, each only where there is no fault of it
+-- a phase after which others come, each only if the phase has no fault
 pub settled : {N : Type 0} (P R : Fault → Type 0) → ((f g : Fault) → P f → P g → AreAlike f g) → ((f : Fault) → P f → N → ⊥) → ((f g : Fault) → R f → R g → AreAlike f g)
     → (f g : Fault) → P f ⊎ (N × R f) → P g ⊎ (N × R g) → AreAlike f g
 settled P R one none rest f g (inl x) (inl y) = one f g x y

@@ -25,7 +25,7 @@ reads_not_owned form deck reads own = none-some deck (sym reads ∙ own)
 one_deck_of : (form : Form) (deck other : List ℕ) → IsOwnDeck form deck → IsOwnDeck form other → deck ≡ other
 one_deck_of form deck other mine also = same_Some deck other (sym mine ∙ also)
 
--- ---- what is known of it
+-- ---- what holds of it
 
 module _ {S : Type 0} (source : Side S) (form : Form) where
   -- a form that reads the source has the project that was read
@@ -77,7 +77,7 @@ module _ {S : Type 0} (source : Side S) (form : Form) where
   read_lacks (Err ReadFault) reads why = (reads, why.0, why.1)
   read_lacks (Err OutOfMemory) reads why = λ deck own. absurd (reads_not_owned form deck reads own)
 
-  -- what is made of a deck of its own is the form's
+  -- the project made of its own deck is the form's
   pub own_gives : (result : Result Project NoProject) (deck : List ℕ) → IsOwnDeck form deck → IsUntouched source → IfOk result (IsMadeAs (sort_of form) deck) → IfOk result (HasProjectFor form source)
   own_gives (Ok project) deck own left is = project_owned deck own left is
   own_gives (Err none) deck own left is = tt

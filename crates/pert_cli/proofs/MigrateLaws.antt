@@ -1,4 +1,4 @@
--- What answers `migrate` is a deck of the same project.
+-- The answer to `migrate` is a deck of the same project.
 use Rattle.std.proofs.Common.{◌≡◌, ℕ, List, Option, Some, None, refl, ap, ◌∙◌}
 use Rattle.std.specs.Prelude.{IfSome, String}
 use Rattle.std.specs.declared.alloc.Global.{Global}

@@ -1,4 +1,4 @@
--- Faults of single cards, of plans and of tasks, are told by record and number.
+-- Faults of single cards, of plans and of tasks, are determined by record and number.
 use Rattle.std.proofs.Common.{◌≡◌, ℕ, ◌==◌, List, [], Option, Some, None, is_none, unwrap_or, if◌then◌else◌, IsSome, refl, sym, ap, ◌∙◌, arith}
 use Rattle.std.specs.List.{Any}
 use Rattle.pc_cards.specs.Cards.{Numbered}
@@ -19,11 +19,11 @@ use Rattle.pert_cli.proofs.CardOnceLaws.{Rises}
 use Rattle.pert_cli.proofs.FirstOnceLaws.{AreToldByPlace}
 use Rattle.pert_cli.proofs.RowsOnceLaws.{IsCardFault, card_fault_once, some_card}
 
--- a fault at a record, with a number and what it tells
+-- a fault at a record, with a number and its detail
 abbrev at_row : ℕ → (ℕ → Detail) → ℕ → Fault
 at_row row detail n = record { row = row; number = n; detail = detail n }
 
--- one that is told, by its number
+-- one that is known, by its number
 told_by : (row : ℕ) (detail : ℕ → Detail) (f known : Fault) → f ≡ known → known ≡ at_row row detail known.number → f ≡ at_row row detail f.number
 told_by row detail f known is at = is ∙ (at ∙ ap (λ (h : Fault). at_row row detail h.number) (sym is))
 
@@ -53,7 +53,7 @@ Faulty deck ToGo card f = HasMoneyFault deck card f
 Faulty deck Status card f = HasStatusFault deck card f
 Faulty deck other card f = ⊥
 
--- what each tells, by its number
+-- the detail of each, by its number
 abbrev detail_of : Deck → (kind : Kind) → CardOf kind → ℕ → Detail
 detail_of deck Project card n =
     if n == 13 then Name (unless_known (named_among (event_codes deck) card.start) card.start card.end) else Name card.start
@@ -215,7 +215,7 @@ module _ (cards : List Numbered) (deck : Deck) (rising : Rises 1 cards) (says : 
   as_leaf f (of_act any) = some_leaf Act f any
   as_leaf f (of_account any) = some_leaf Acct f any
 
-  -- those of its activities and accounts that stand on no leaf
+  -- those of its activities and accounts that are on no leaf
   pub leaf_once : AreToldByPlace (HasLeafFault deck)
   leaf_once f g x y = card_fault_once cards deck rising says (OnBranch deck) branch_of (branch_is deck) (branch_row deck) f g (as_leaf f x) (as_leaf g y)
 

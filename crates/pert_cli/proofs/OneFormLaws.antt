@@ -43,7 +43,7 @@ is_named : (form : Form) → form_named (get_or (form_words form) 0 []) (or_0 (n
 is_named Check = refl
 is_named _ = refl
 
--- the words behind the first
+-- the words after the first
 abbrev number_words : Option ℕ → List (List ℕ)
 number_words None = []
 number_words (Some n) = decimal n ∷ []

@@ -1,4 +1,4 @@
--- A project has one report of loads for periods of so many days.
+-- A project has one report of loads for each number of days in a period.
 use Rattle.std.proofs.Common.{◌≡◌, ℕ, zero, suc, ◌<◌, List, [], ◌∷◌, ◌++◌, length, slice_index, refl, sym, ap, ◌∙◌, subst, arith}
 use Rattle.std.specs.Prelude.{pos, slice_index_or, codes}
 use Rattle.pc_edges.specs.Texts.{texts_to}

@@ -50,7 +50,7 @@ of_parts Arrows project text other has parts x y = x.is ∙ sym y.is
 of_parts (Load days) project text other has parts x y = one_load_text project days text other parts x y
 of_parts _ project text other has parts x y = absurd has
 
--- two texts that answer such a form for the project of a deck are one
+-- two texts that answer such a form for the project of a deck are equal
 pub one_text : (bytes : List ℕ) (project other_project : Project) (form : Form) (text other : List ℕ) → IsMadeAs (sort_of form) bytes project → IsMadeAs (sort_of form) bytes other_project →
     HasOneText form → IsTextOf form project text → IsTextOf form other_project other → text ≡ other
 one_text bytes project other_project form text other is also has x y =

@@ -24,7 +24,7 @@ optimum-to_come net from c terms best same is there = record {
   below = λ given. there.holds.below;
 }
 
--- a cheapest schedule for its length costs what is said of it
+-- a cheapest schedule for its length has the stated cost
 optimum-cost : (net : PricedNetwork) (printed : Printed) (limit direct : ℕ) → IsCheapest net printed → printed.length ≡ limit → curve_in net limit direct
     → printed.cost ≡ direct
 optimum-cost net printed limit direct cheapest at least =

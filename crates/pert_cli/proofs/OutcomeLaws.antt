@@ -29,7 +29,7 @@ module _ {S O E : Type 0} (words : List (String Global)) (source : Side S) (out 
   pub after_refusal : (fault : Fault) (status : Status) → HasRefusalFor form source fault → IsUntouched out → Refusal fault err status → Outcome words source out err status
   after_refusal fault status refusal = after_fault fault status (by_deck refusal)
 
-  -- the deck is accepted, and the form's answer was handed to the output
+  -- the deck is accepted, and the form's answer was written to the output
   after_answer : (project : Project) (status : Status) → HasProjectFor form source project → IsUntouched err → Answers (IsReply form project) out status → Outcome words source out err status
   after_answer project Done has unused answered =
       done (record { form = form; asked = asked; text = answered.0; answer = record { project = project; deck = has; reply = answered.1 }; took = answered.2 }) unused

@@ -44,7 +44,7 @@ use Rattle.pc_wbs.proofs.ExactLaws.{IsRefusal-same}
 use Rattle.pert_cli.proofs.FirstOnceLaws.{AreAlike, AreToldByPlace, alike, by_number, first_number_once, first_once, settled}
 use Rattle.pert_cli.proofs.RowsOnceLaws.{HasOwnRows}
 
--- ---- what is told is one fault
+-- ---- the reported fault is one
 
 one_told : (f g : Fault) → ◌≡◌ {A = DeckError} (error.Fault f) (error.Fault g) → f ≡ g
 one_told f g is = cc
@@ -64,7 +64,7 @@ tree_once items rows f g x y =
 
 -- ---- the network
 
--- the network of the deck is refused, and that is told by the fault
+-- the network of the deck is refused, with this fault
 abbrev IsNetFault : Deck → Fault → Type 0
 IsNetFault deck f = (e : NetError) × IsNetRefusal (network_of deck) e × (net_fault deck e ≡ error.Fault f)
 
@@ -191,7 +191,7 @@ module _ (deck : Deck) (rows : HasOwnRows deck) where
 
   -- ---- pieces
 
-  -- what the faults of the i-th piece tell, by their numbers
+  -- the details of the faults of the i-th piece, by their numbers
   abbrev flaw_at : ℕ → ℕ → Fault
   flaw_at i n = record {
     row = slice_index (map (λ piece. piece.row) deck.pieces) i;
@@ -260,7 +260,7 @@ module _ (deck : Deck) (rows : HasOwnRows deck) where
   phases f (of_pieces plan figures first) = behind_figures f plan figures (inl first)
   phases f (of_terms plan figures pieces first) = behind_figures f plan figures (inr (pieces, first))
 
-  -- a fault of some cards is none where there is none
+  -- no fault of some cards is the first if they have none
   none_of : (Has : Fault → Type 0) (f : Fault) → IsFirstFault Has f → ((g : Fault) → Has g → ⊥) → ⊥
   none_of Has f first none = none f first.holds
 

@@ -1,4 +1,4 @@
--- The cards of a deck that was read: each spells its record, and no two of them stand at one record.
+-- The cards of a deck that was read: each is read from its record, and no two of them have the same record.
 use Rattle.std.proofs.Common.{◌≡◌, ◌≢◌, ℕ, zero, suc, ◌+◌, ◌<◌, ◌≤◌, Bool, true, false, List, [], ◌∷◌}
 use Rattle.std.proofs.Common.{length, map, get_or, Option, Some, All, if◌then◌else◌, bytes_eq, ◌⊎◌, inl, inr, refl, sym, ap, ◌∙◌, subst, arith}
 use Rattle.std.specs.Prelude.{slice_index, option_to_list}
@@ -36,7 +36,7 @@ stands_behind n [] c rising there = absurd there
 stands_behind n (card ∷ cards) c rising (inl here) = omega (arith, rising.0, ap (λ (d : Numbered). d.0) here)
 stands_behind n (card ∷ cards) c rising (inr behind) = let far = stands_behind (card.0 + 1) cards c rising.1 behind in omega (arith, rising.0, far)
 
--- at one record there stands one card
+-- a record has only one card
 pub stands_once : (n : ℕ) (cards : List Numbered) (c d : Numbered) → Rises n cards → Stands cards c → Stands cards d → c.0 ≡ d.0 → c ≡ d
 stands_once n [] c d rising there also same = absurd there
 stands_once n (card ∷ cards) c d rising (inl here) (inl also) same = sym here ∙ also
@@ -56,7 +56,7 @@ one_kind kind other card is also =
     ((bytes_decides (word_of kind) (word_of other)).1
     (sym ((bytes_decides (text_at card.1 0) (word_of kind)).0 is) ∙ (bytes_decides (text_at card.1 0) (word_of other)).0 also))
 
--- the card of a kind is what a record among those spells
+-- the card of a kind is read from a record among those
 abbrev pub IsSpelled : List Numbered → (kind : Kind) → CardOf kind → Type 0
 IsSpelled cards kind card = (c : Numbered) × Stands cards c × IsNamed kind c × (card ≡ card_of kind c.0 c.1)
 
@@ -119,7 +119,7 @@ mapped_twice f row own each (x ∷ xs) = λ i. each x i ∷ mapped_twice f row o
 
 -- ---- in a deck that was read
 
--- no two STATUS cards and no two PIECE cards stand at one record, and no STATUS card where the ASOF card does
+-- no two STATUS cards and no two PIECE cards have the same record, and no STATUS card has that of the ASOF card
 pub record HasOwnRows (deck : Deck) : Type 0 where
   pub statuses : (j k : ℕ) → j < length deck.statuses → k < length deck.statuses → slice_index (status_records deck) j ≡ slice_index (status_records deck) k → j ≡ k
   pub pieces : (j k : ℕ) → j < length deck.pieces → k < length deck.pieces →
@@ -127,7 +127,7 @@ pub record HasOwnRows (deck : Deck) : Type 0 where
   pub as_of : (card : AsOfCard) → deck.as_of ≡ Some card → (k : ℕ) → k < length deck.statuses → card.row ≢ slice_index (status_records deck) k
 
 module _ (cards : List Numbered) (deck : Deck) (rising : Rises 1 cards) (says : Says cards deck) where
-  -- each card of the deck is spelled by a record of it
+  -- each card of the deck is read from one of its records
   pub list_spelled : (kind : Kind) → All (IsSpelled cards kind) (list_of deck kind)
   list_spelled kind = subst (All (IsSpelled cards kind)) (says kind) (all_spelled kind cards)
 
@@ -158,7 +158,7 @@ module _ (cards : List Numbered) (deck : Deck) (rising : Rises 1 cards) (says : 
     as_of = as_of_apart;
   }
 
-  -- faults that a card of a kind has, and that are told by its kind, its record and the number, are told by record and number
+  -- faults of a card that its kind, its record and the number determine are determined by record and number
   module _ (Faulty : (kind : Kind) → CardOf kind → Fault → Type 0) (told : Kind → Numbered → ℕ → Fault)
       (is : (kind : Kind) (c : Numbered) (f : Fault) → Faulty kind (card_of kind c.0 c.1) f → f ≡ told kind c f.number)
       (row : (kind : Kind) (c : Numbered) (f : Fault) → Faulty kind (card_of kind c.0 c.1) f → f.row ≡ c.0) where

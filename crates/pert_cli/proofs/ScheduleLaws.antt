@@ -21,7 +21,7 @@ normals-lengths project planned = record {
   small = λ a below. omega (arith, normals-at project.terms a (omega (arith, below, planned.terms.one_each)), planned.limits.short a (omega (arith, below, planned.terms.one_each)));
 }
 
--- the normal durations lie between crash and normal
+-- the normal durations are between crash and normal
 pub normals-durations : (net : Network) (terms : List Term) → AreTerms net terms → AreDurations terms (normals terms)
 normals-durations net terms are = record {
   one_each = length-map terms (λ t. t.normal);

@@ -88,9 +88,9 @@ module _ (sort : Sort) (bytes : List ℕ) (deck : Deck) (read : IsReadAs sort by
   pub within_read : IsWithin sort deck
   within_read = by_result (cards_of sort bytes) refl
 
--- ---- the activities of the plan that is drawn
+-- ---- the activities of the generated plan
 
--- an activity that is drawn of a TASK card, and one that is a link
+-- an activity that is generated from a TASK card, and one that is a link
 abbrev IsTaskAct : List Numbered → ActCard → Type 0
 IsTaskAct cards act = (c : Numbered) × Stands cards c × IsNamed Task c × (act.row ≡ c.0) × (act.item ≡ (card_of Task c.0 c.1).item)
 
@@ -127,7 +127,7 @@ links-are deck =
     All-append IsLink (after_links 0 (afters_in deck)) (first ++ last) (after_links-are 0 (afters_in deck))
     (All-append IsLink first last (first_links-are deck (firsts (length deck.tasks) (afters_in deck))) (last_links-are deck (lasts (length deck.tasks) (afters_in deck))))
 
--- a fault of what stands on an item, at the record of its card
+-- a fault of a card that is on an item, at the record of the card
 abbrev OnItem : (kind : Kind) → CardOf kind → Fault → Type 0
 OnItem Task card f = f ≡ fault.not_a_leaf card.row card.item
 OnItem Acct card f = f ≡ fault.not_a_leaf card.row card.item
@@ -184,7 +184,7 @@ module _ (cards : List Numbered) (deck : Deck) (rising : Rises 1 cards) (says : 
   drawn_leaf_told : AreToldByPlace (HasLeafFault (arrows_deck deck))
   drawn_leaf_told f g x y row number = leaves_told f g (as_drawn_leaf f x) (as_drawn_leaf g y) row number
 
-  -- the cards of which the records are asked are kept
+  -- the cards with the records in question are the same
   drawn_rows : HasOwnRows (arrows_deck deck)
   drawn_rows = let own = own_rows cards deck rising says in record { statuses = own.statuses; pieces = own.pieces; as_of = own.as_of }
 

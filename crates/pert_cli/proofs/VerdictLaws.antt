@@ -1,4 +1,5 @@
--- Verdicts on a deck of either sort: accepted, of one project, or refused with a fault that can be told, and never both.
+-- Verdicts on a deck of either sort: accepted, of one project, or refused with a fault that can be reported, and never
+-- both.
 use Rattle.std.proofs.Common.{◌≡◌, ℕ, ◌<◌, List, length, refl, sym, subst, arith}
 use Rattle.pc_cards.specs.declared.sort.Sort.{Sort}
 use Rattle.pc_cards.specs.declared.sort.Sort.TheVariants.{Plan, Tasks}
@@ -22,7 +23,7 @@ use Rattle.pert_cli.specs.Verdicts.{AcceptedAs, IsFaultAs, IsMadeAs, RefusedAs}
 
 -- ---- decks of tasks
 
--- each fault of a deck of tasks can be told
+-- each fault of a deck of tasks can be reported
 pub told_of-tasks : (bytes : List ℕ) (fault : Fault) → IsTasksFault bytes fault → IsTold fault
 told_of-tasks bytes fault (too_long long is) = subst IsTold (sym is) refl
 told_of-tasks bytes fault (card_refusal short refusal) = told_of-refusal_as Tasks bytes fault refusal
@@ -39,7 +40,7 @@ one_drawn_of bytes project other is also =
     one_drawn_project is.tasks project other is.drawn
     (subst (λ d. IsDrawnProject d other) (one_deck_as Tasks bytes also.tasks is.tasks also.cards is.cards) also.drawn)
 
--- a deck of which a plan is drawn is accepted
+-- a deck from which a plan is generated is accepted
 pub drawn_accepts : (bytes : List ℕ) (project : Project) (is : IsDrawnOf bytes project) → IsAcceptedTasks bytes is.tasks
 drawn_accepts bytes project is = record { short = is.short; cards = is.cards; makes = is.drawn.makes }
 
@@ -50,7 +51,7 @@ pub long_as : (sort : Sort) (bytes : List ℕ) (fault : Fault) → longest_deck 
 long_as Plan bytes fault long is = plans.too_long long is
 long_as Tasks bytes fault long is = too_long long is
 
--- one of which there is a project is accepted
+-- a deck that has a project is accepted
 pub accepts_as : (sort : Sort) (bytes : List ℕ) (project : Project) → IsMadeAs sort bytes project → AcceptedAs sort bytes
 accepts_as Plan bytes project is = (is.deck, is.accepted)
 accepts_as Tasks bytes project is = (is.tasks, drawn_accepts bytes project is)

@@ -10,7 +10,7 @@ use Rattle.pc_times.specs.Forecast.{state_at}
 use Rattle.pc_accounts.specs.declared.status.StatusRow.{StatusRow}
 use Rattle.pc_accounts.specs.status.Statuses.{status_at, IsStateOf, IsSixths}
 
--- so many sixths of a day are one number
+-- sixths of a day are one number
 one_time : (start day : ℤ) (m n : ℕ) → IsSixths start day m → IsSixths start day n → m ≡ n
 one_time start day m n x y = let same : pos m ≡ pos n = x ∙ sym y in omega (arith, ints, same)
 
@@ -28,7 +28,7 @@ one_state start statuses a Waiting (Finished n) x y = absurd (x true y.0 y.1.0.h
 one_state start statuses a Waiting (Started n) x y = absurd (x false y.1.0 y.1.1.0.holds)
 one_state start statuses a Waiting Waiting x y = refl
 
--- and so many activities have one list of states
+-- and a number of activities has one list of states
 pub one_progress : (start : ℤ) (statuses : List StatusRow) (activities : ℕ) (xs ys : List ActState) → length xs ≡ activities →
     length ys ≡ activities → ((a : ℕ) → a < activities → IsStateOf start statuses a (state_at xs a)) →
     ((a : ℕ) → a < activities → IsStateOf start statuses a (state_at ys a)) → xs ≡ ys

@@ -1,4 +1,4 @@
--- The parts of the deck one behind the other.
+-- The parts of the deck one after the other.
 use Rattle.std.proofs.Common.{◌≡◌, ℕ, List, [], ◌++◌, ap, ◌∙◌}
 use Rattle.pc_curve.specs.bench.Deck.{activities_text, all_costs, bench_deck_text, end_text, events_text, item_line, project_line}
 use Rattle.pc_curve.specs.bench.Recipe.{bench_last_event}

@@ -42,7 +42,7 @@ rising n cost slope =
       ap (λ x. slope * x) half,
     )
 
--- the lengths of a segment below its upper end cost so much together
+-- the sum of the costs of a segment's lengths below its upper end
 pub below-rises : (seg : Segment) → seg.lower ≤ seg.upper
     → sum_to (span seg) (λ k. cost_for seg (seg.upper - (k + 1))) ≡ sum_to (span seg) (λ k. seg.cost + seg.slope * (k + 1))
 below-rises seg ordered =

@@ -1,4 +1,4 @@
--- What the segments that a solver gave so far come to, and that they come to the figures of the curve.
+-- The figures of the segments that a solver gave so far, and that at last they are the figures of the curve.
 use Rattle.std.proofs.Common.{◌≡◌, ℕ, ◌+◌, ◌-◌, ◌*◌, ◌<◌, ◌≤◌, ◌==◌, Bool, true, false, List, [], ◌∷◌, ◌++◌, length, inl, inr, refl, sym, ap, ◌∙◌, subst, arith}
 use Rattle.std.specs.Prelude.{if◌then◌else◌}
 use Rattle.std.proofs.lemmas.Bool.{cases_lt}
@@ -53,7 +53,7 @@ at_most_one : (b : Bool) → (if b then 0 else 1) ≤ 1
 at_most_one true = omega arith
 at_most_one false = omega arith
 
--- a segment's lengths below its upper end cost at most so much
+-- a bound on the costs of a segment's lengths below its upper end
 pub below-small : (seg : Segment) → IsSmall seg → costs_below seg ≤ span seg * most_cost
 below-small seg numbers =
     sum_to-most (span seg) most_cost (λ k. cost_for seg (seg.upper - (k + 1)))
@@ -62,7 +62,7 @@ below-small seg numbers =
     omega (arith, numbers.cost, numbers.slope, mul-le-mul_left seg.slope near))
 
 module _ (net : PricedNetwork) (priced : IsPriced net.network net.terms (knees_in net)) (longest shortest : ℕ) (limit : longest ≤ MAX_LENGTH) where
-  -- what is known of a segment that a solver goes on to
+  -- what holds of the next segment of a solver
   module _ (c d : Course) (along : IsAlong net longest shortest c) (same : IsSameCurve c d) (next : IsNext c d) where
     on_along : IsAlong net longest shortest d
     on_along = record {

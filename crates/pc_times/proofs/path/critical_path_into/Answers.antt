@@ -10,7 +10,7 @@ use Rattle.pc_times.proofs.PickedLaws.{IsPickedTo, picked_to_start, picked_to_ne
 use Rattle.pc_times.proofs.TimesLaws.{has_bounded_walks}
 use Rattle.pc_times.proofs.path.critical_path_into.Goals as goal
 
--- one activity more is put behind the walk
+-- one more activity is appended to the walk
 put_next : (net : Network) (lengths times tails path : List ℕ) (count event a put next : ℕ) → HasBoundedWalks net lengths → AreEarly net lengths times → AreTails net lengths tails
     → length path ≡ net.events → count < length path → IsPickedTo net lengths times tails (take count path) event →
     IsFirst (HasNoSlack net lengths times tails event) a → put ≡ a → next ≡ to_of net.arcs a

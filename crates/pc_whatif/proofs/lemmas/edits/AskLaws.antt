@@ -193,7 +193,7 @@ ask_with_takes word fields a =
     (either reads word (codes "CURVE") _ _ a (by (codes "CURVE") fields ask.Curve a refl tt)
     (no_name reads word a))))))))
 
--- what is read is asked
+-- a request that is read is in the line
 ask_takes : (line : List ℕ) (a : Ask) → ask_of line ≡ Some a → Asks line a
 unfolding ask_of
 ask_takes line a e =

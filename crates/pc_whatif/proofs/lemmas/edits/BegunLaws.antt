@@ -75,7 +75,7 @@ module _ (project : Project) (planned : IsPlanned project) where
     unit_days = planned.unit_days;
   }
 
-  -- fields that are the deck's are whole
+  -- fields that are the deck's are sound
   module _ (s : Inside) (net_is : s.net ≡ priced_in project) (estimates_are : s.estimates.items ≡ estimates_in project.deck) (unit_is : s.unit_days ≡ project.heading.unit_days)
       (kept_is : s.kept ≡ buffer [] MAX_KEPT) (aside_is : s.aside ≡ None) where
     pub editing_is : editing_in s ≡ begun project

@@ -195,7 +195,7 @@ net_in-is s = case s.aside
     case None = refl
     case (Some aside) = ap (λ ts. record s.net { terms = ts }) (sym (set-back s.net.terms aside.activity aside.term no_term))
 
--- what holds of kept edits and of the term that was put aside, where the network is the same but for its terms
+-- what holds of kept edits and of the term that was set aside, if the network is the same except for its terms
 module _ (s : Inside) (inv : IsSoundEdits s) (terms : List Term) (net : PricedNetwork) (net_is : net ≡ record s.net { terms = terms }) where
   known_kept : (kept : List KeptEdit) → All (λ (k : KeptEdit). k.activity < length s.net.network.arcs) kept → All (λ (k : KeptEdit). k.activity < length net.network.arcs) kept
   known_kept kept = subst (λ (n : PricedNetwork). All (λ (k : KeptEdit). k.activity < length s.net.network.arcs) kept →

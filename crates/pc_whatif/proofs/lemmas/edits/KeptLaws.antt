@@ -1,4 +1,4 @@
--- The plans to which kept edits go back.
+-- The plans to which kept edits return.
 use Rattle.std.proofs.Common.{◌≡◌, ℕ, zero, suc, ◌-◌, List, [], ◌∷◌, ◌++◌, length, drop, refl, sym, ◌∙◌, ap}
 use Rattle.circular_buffer.specs.Buffer.{keep_last}
 use Rattle.pc_whatif.specs.declared.edits.KeptEdit.{KeptEdit}

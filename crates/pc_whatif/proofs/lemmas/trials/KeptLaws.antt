@@ -94,7 +94,7 @@ module _ (spans : Spans) (r0 r1 r2 : Cells) (a x v : ℕ) (are : AreSet spans r0
   pub early-both : length (span_list r2 2) ≡ length (span_list r0 2)
   early-both = ap length early
 
-  -- it is whole, where neither number is too great
+  -- it is sound, if neither number is too great
   pub whole-both : (path_len : ℕ) → IsSoundRegion (kept_in r0 path_len) → a < length (span_list r0 0) → x ≤ MAX_ACTIVITY_LENGTH → v ≤ MAX_VARIANCE → IsSoundRegion (kept_in r2 path_len)
   whole-both path_len whole known small gentle =
       let same : IsSoundRegion (with_numbers (kept_in r0 path_len) a x v) = record {

@@ -101,7 +101,7 @@ module _ (events activities : ℕ) (spans : Spans) (r0 r1 r2 : Cells) (expected 
     path_cells-3 : span_list r3 4 ≡ n
     path_cells-3 = second.off 4 (λ e. omega (arith, e)) ∙ first.off 4 (λ e. omega (arith, e)) ∙ list 4
 
-    -- what is kept then
+    -- what is stored then
     kept-3 : kept_in r3 0 ≡ opened events expected variances (r0.capacity - (2 * activities + 3 * events))
     kept-3 =
         ap (λ e. made e (span_list r3 1) (span_list r3 2) (span_list r3 3) (span_list r3 4) (free_of r3)) expected-3

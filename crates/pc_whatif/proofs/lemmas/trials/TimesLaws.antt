@@ -15,11 +15,11 @@ use Rattle.pc_whatif.specs.inside.trials.SessionRegion.{SessionRegion, IsChanged
 use Rattle.pc_whatif.specs.inside.trials.Laid.{AreAtMost}
 use Rattle.pc_whatif.specs.inside.trials.Shown.{late_by}
 
--- those of the path that is kept there
+-- those of the path that is stored there
 pub path-known : (net : Network) (r : SessionRegion) (k : ℕ) → IsStanding net r → k < length (path_in r) → slice_index (path_in r) k < length net.arcs
 path-known net r k standing below = picked_from_known net r.expected net.start (path_in r) k standing.path below
 
--- what is shown where the end is to be met at that time
+-- what is shown if the end is to be met at that time
 abbrev pub shown_by : SessionRegion → ℤ → Shown
 shown_by r by = record {
   expected = r.expected;

@@ -8,7 +8,7 @@ use Rattle.pc_times.specs.Times.{AreEarly, AreLengths}
 use Rattle.pert_cli.proofs.ScheduleLaws.{normal_schedule, normals-durations, normals-lengths}
 use Rattle.pert_cli.proofs.normal.normal_schedule.Goals as goal
 
--- a fact about the network and the normal durations, from one about what stands for them
+-- a fact about the network and the normal durations, from one about equal ones
 at : (P : Network → List ℕ → Type 0) (net network : Network) (lengths others : List ℕ) → net ≡ network → lengths ≡ others → P net lengths → P network others
 at P net network lengths others same_net same_lengths fact =
     subst (λ n. P n others) same_net (subst (P net) same_lengths fact)

@@ -9,7 +9,7 @@ use Rattle.pc_load.specs.inside.Entries.{AreTimes}
 use Rattle.pc_load.proofs.LoadingLaws.{resources_add_up, resources_have_parts}
 use Rattle.pc_load.proofs.loading.Loading.build.Goals as goal
 
--- so many periods hold the project
+-- the number of periods covers the project
 periods_are : (project : Project) (days have end : ℕ) (times : List ℕ) → IsPlanned project →
     AreEarly project.network project.expected times → end ≡ get_or times project.network.end end → have ≡ periods_for days end →
     ArePeriods project days have
@@ -22,7 +22,7 @@ periods_are project days have end times planned early read is =
       are = is ∙ ap (periods_for days) at;
     }
 
--- and the last of them ends behind its end
+-- and the last of them ends after its end
 ends_before : (project : Project) (days have end : ℕ) (times : List ℕ) → 1 ≤ days → IsPlanned project →
     AreEarly project.network project.expected times → end ≡ get_or times project.network.end end → have ≡ periods_for days end →
     slice_index times project.network.end < 6 * days * have

@@ -12,7 +12,7 @@ use Rattle.pc_whatif.proofs.lemmas.edits.PlanLaws.{no_estimates}
 use Rattle.pc_whatif.proofs.lemmas.edits.StandingLaws.{IsEditedBy-edited}
 use Rattle.pc_whatif.proofs.edits.Edits.apply.Goals as goal
 
--- what is kept is what was there
+-- the kept number is the replaced one
 was : (c : goal.After-push_back) → c.replaced-was.result ≡ replaced c.args.edit.now.change (term_at c.self.inside.net.terms c.in_ok-a.a) (nth_estimates c.self.inside.estimates.items c.in_ok-a.a)
 was c =
     c.replaced-was.ensures
