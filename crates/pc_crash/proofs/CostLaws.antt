@@ -25,7 +25,7 @@ use Rattle.pc_crash.specs.Terms.{AreWithinLimits}
 pub price-most : (at rise duration : ℕ) → at ≤ MAX_DURATION → rise ≤ MAX_SLOPE → rise * (at - duration) ≤ 10000000000000
 price-most at rise duration low gentle = mul-le-mul {m₂ = 100000} gentle (omega arith)
 
--- what some knees add to a cost has room for one more
+-- the amount that some knees add to a cost leaves capacity for one more
 pub price_to-room : (list : List Knee) (duration k : ℕ) → AreSmallKnees list → k < length list →
     sum_to k (λ j. (knee_at list j).rise * ((knee_at list j).at - duration)) + (knee_at list k).rise * ((knee_at list k).at - duration) < 2 ^ 64
 price_to-room list duration k small inside =
@@ -103,13 +103,13 @@ module _ (net : Network) (terms : List Term) (pieces : List PieceRow) (fit : Are
       last : last_slope (knees_of terms pieces) a ≤ MAX_SLOPE
       last = omega (arith, last_slope-pieces terms pieces a right inside, slope_in-most (length own))
 
--- the first activities cost at most so many times as much
+-- the first k activities cost at most k times as much
 pub costs-most : (net : PricedNetwork) → IsWhole net → (durations : ℕ → ℕ) (k : ℕ) → k ≤ length net.terms → sum_to k (λ a. activity_cost net.terms (knees_in net) a (durations a)) ≤ k * 11000000000000
 costs-most net whole durations k within =
     sum_to-most k 11000000000000 (λ a. activity_cost net.terms (knees_in net) a (durations a))
     (λ a below. activity_cost-most net.network net.terms net.pieces whole.terms whole.limits whole.pieces whole.piece_limits a (omega arith) (durations a))
 
--- and all of them together at most so much
+-- and a bound for all of them together
 pub cost_of-most : (net : PricedNetwork) → AreTerms net.network net.terms → AreWithinLimits net.terms → ArePieces net.terms net.pieces
     → ArePiecesWithinLimits net.pieces → (durations : ℕ → ℕ) → cost_of net.terms (knees_in net) durations ≤ 220000000000000000
 cost_of-most net fit limits right small durations =

@@ -26,7 +26,7 @@ AreGroups-push n groups group all is = record {
       (cases_eq a n);
 }
 
--- there is room for the next piece in the group of its activity
+-- there is capacity for the next piece in the group of its activity
 pub group_room : (terms : List Term) (pieces : List PieceRow) (i n x : ℕ) (groups : List (ArrayVec PieceRow)) → ArePieces terms pieces →
     AreGroups (take i pieces) n groups → i < length pieces → (piece_at pieces i).activity ≡ x → x < n → x < length terms →
     length (group_at groups x) < MAX_PIECES_EACH

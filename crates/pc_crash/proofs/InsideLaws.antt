@@ -13,11 +13,11 @@ use Rattle.pc_crash.specs.inside.Laid.{AreLaid, IsRowOf, part_of}
 use Rattle.pc_crash.specs.Priced.{PricedNetwork, knees_in}
 use Rattle.pc_crash.proofs.KneeListLaws.{AreKneesOf-knee_list}
 
--- a row stands for each activity
+-- there is a row for each activity
 pub rows-each : (s : Inside) → IsWholeInside s → length s.layout.rows.items ≡ length s.net.now.arcs
 rows-each s is = sym (length-map s.layout.rows.items (λ row. row.term)) ∙ is.whole.terms.one_each
 
--- what is read of an activity's row
+-- the row of an activity as it is read
 pub row-read : (s : Inside) (a : ℕ) (row : PriceRow) → IsWholeInside s → a < length s.net.now.arcs → row ≡ get_or s.layout.rows.items a row →
     IsRowOf s.net.now.arcs (priced_network s).terms s.pieces.items s.layout.knees.items a row
 row-read s a row is inside read =
@@ -42,7 +42,7 @@ pub knees-read : (s : Inside) (a : ℕ) (row : PriceRow) →
     AreKneesOf (knees_in (priced_network s)) a (part_of s.layout.knees.items row)
 knees-read s a row is = subst (AreKneesOf (knees_in (priced_network s)) a) (sym is.part) (AreKneesOf-knee_list (priced_network s).terms s.pieces.items a)
 
--- what is known once an activity's row was read
+-- what holds once an activity's row was read
 pub record IsRead (s : Inside) (a : ℕ) (row : PriceRow) : Type 0 where
   pub known : a < length (priced_network s).terms
   pub is : IsRowOf s.net.now.arcs (priced_network s).terms s.pieces.items s.layout.knees.items a row

@@ -13,11 +13,11 @@ use Rattle.pc_crash.specs.inside.KneeLists.{knee_list, piece_knees, AreKneesOf}
 use Rattle.pc_crash.specs.inside.Laid.{IsRising}
 use Rattle.pc_crash.specs.Priced.{piece_at}
 
--- the units of the pieces from one on are its own and those further on
+-- the units of the pieces from one on are its own and those of the ones after it
 units_of-next : (pieces : List PieceRow) (i : ℕ) → i < length pieces → units_of (drop i pieces) ≡ (piece_at pieces i).units + units_of (drop (i + 1) pieces)
 units_of-next pieces i inside = sum_by-drop_more (λ (piece : PieceRow). piece.units) pieces i (record { activity = 0; units = 0; slope = 0 }) inside
 
--- the knees of the first i pieces stand behind those before, and the next one is at a known duration, above it a known slope
+-- the knees of the first i pieces come after those before, and the next one is at a known duration, above it a known slope
 pub record IsPushed (term : Term) (pieces : List PieceRow) (before : List Knee) (i next slope : ℕ) (knees : List Knee) : Type 0 where
   pub pushed : knees ++ piece_knees term.crash slope (drop i pieces) ≡ before ++ knee_list term pieces
   pub duration : next ≡ term.crash + units_of (drop i pieces)

@@ -14,17 +14,17 @@ use Rattle.pc_crash.specs.declared.price_table.PriceRow.{PriceRow}
 use Rattle.pc_crash.specs.inside.KneeLists.{knee_list}
 use Rattle.pc_crash.specs.inside.Laid.{AreLaid, IsRowOf, row_at}
 
--- a part of a list is the same after more is put behind it
+-- a part of a list is the same after more is appended
 range-append : (items more : List Knee) (first count : ℕ) → first + count ≤ length items → slice_range (items ++ more) first (first + count) ≡ slice_range items first (first + count)
 range-append items more first count within =
     ap (take (first + count - first)) (drop-append-le first items more (omega arith)) ∙ take-append-le (first + count - first) (drop first items) more (omega (arith, length-drop first items))
 
--- what is put behind a list is its last part
+-- what is appended to a list is its last part
 range_last : (items more : List Knee) (first count : ℕ) → first ≡ length items → count ≡ length more → slice_range (items ++ more) first (first + count) ≡ more
 range_last items more first count begins counts =
     ap (take (first + count - first)) (drop_at items more first (sym begins)) ∙ take_all (first + count - first) more (omega arith)
 
--- a row stays that of its activity when more knees are put behind
+-- a row stays that of its activity when more knees are appended
 IsRowOf-append : (arcs : List Arc) (terms : List Term) (pieces : List PieceRow) (knees more : List Knee) (a : ℕ) (row : PriceRow) →
     IsRowOf arcs terms pieces knees a row → IsRowOf arcs terms pieces (knees ++ more) a row
 IsRowOf-append arcs terms pieces knees more a row is = record {

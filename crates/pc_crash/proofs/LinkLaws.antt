@@ -45,17 +45,17 @@ use Rattle.pc_crash.specs.declared.link_table.Link.{Link}
 use Rattle.pc_crash.specs.declared.link_table.LinkRow.{LinkRow}
 use Rattle.pc_crash.specs.inside.Links.{AreLinked, IsLinkRowOf, activities_of, link_at, link_of, link_row_at, links_of}
 
--- a part of a list is the same after more is put behind it
+-- a part of a list is the same after more is appended
 range-append : (items more : List Link) (a b : ℕ) → a ≤ b → b ≤ length items → slice_range (items ++ more) a b ≡ slice_range items a b
 range-append items more a b order within =
     ap (take (b - a)) (drop-append-le a items more (omega arith)) ∙ take-append-le (b - a) (drop a items) more (omega (arith, length-drop a items))
 
--- what is put behind a list is its last part
+-- what is appended to a list is its last part
 range_last : (items more : List Link) (a b : ℕ) → a ≡ length items → b ≡ length (items ++ more) → slice_range (items ++ more) a b ≡ more
 range_last items more a b begins ends =
     ap (take (b - a)) (drop_at items more a (sym begins)) ∙ take_all (b - a) more (omega (arith, length-append items more))
 
--- a row stays that of its event when more links are put behind
+-- a row stays that of its event when more links are appended
 IsLinkRowOf-append : (arcs : List Arc) (links more : List Link) (e : ℕ) (row : LinkRow) →
     IsLinkRowOf arcs links e row → IsLinkRowOf arcs (links ++ more) e row
 IsLinkRowOf-append arcs links more e row is = record {
@@ -166,7 +166,7 @@ AreLinked-push arcs n rows links links' links'' row linked few outs ins begins m
 abbrev pub link_to : ℕ → ℕ → Link
 link_to a other = record { activity = a; other = other }
 
--- one more activity is linked behind some links
+-- one more activity is linked after some links
 pub links_of-push : (other : ℕ → ℕ) (before links : List Link) (activities : List ℕ) (k : ℕ) (link : Link) →
     links ≡ before ++ links_of other (take k activities) → k < length activities → link ≡ link_of other (slice_index activities k) →
     links ++ link ∷ [] ≡ before ++ links_of other (take (k + 1) activities)

@@ -27,7 +27,7 @@ use Rattle.pc_crash.proofs.CostLaws.{AreSmallKnees-of}
 use Rattle.pc_crash.proofs.InsideLaws.{row-read, rows-each}
 use Rattle.pc_crash.proofs.KneeListLaws.{AreKneesOf-knee_list, piece_knees-at, piece_knees-rise, length-knee_list}
 
--- what stands past the end of a list of knees
+-- the knee past the end of a list of knees
 abbrev no_knee : Knee
 no_knee = record { at = 0; rise = 0 }
 
@@ -122,7 +122,7 @@ module _ (net : PricedNetwork) (whole : IsWhole net) (a : ℕ) (inside : a < len
   moved : (knees : List Knee) → AreMoved old new (knee_list old own) knees → knees ≡ knee_list new own
   moved = moved-knee_list old new own (λ some. omega (arith, whole.pieces.rising a 0 inside some))
 
--- a part that lies apart from one that was written is as it was
+-- a part apart from one that was written is as it was
 module _ (knees part : List Knee) (first count : ℕ) (within : first + count ≤ length knees) (long : length part ≡ count) where
   size : length (put_mid first count knees part) ≡ length knees
   size = simp (length-append, length-take, length-drop) (omega (arith, within, long))
@@ -323,7 +323,7 @@ module _ (s : Inside) (net : PricedNetwork) (view : priced_network s ≡ net) (i
           ∙ with_items_is s.layout.knees (put_mid row.first (row.first + row.count - row.first) s.layout.knees.items new_part)
           (size s.layout.knees.items new_part row.first (row.first + row.count - row.first) (omega (arith, read_row.within)) long ∙ sym s.layout.knees.ok.0)
 
-      -- they are those of a whole priced network again
+      -- they are those of a complete priced network again
       pub whole_after : IsWholeInside after_set
       whole_after = record {
         whole = record {

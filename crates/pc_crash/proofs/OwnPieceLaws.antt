@@ -99,7 +99,7 @@ module _ (term : Term) (pieces : List PieceRow) (own : AreOwnPieces term pieces)
       above = ap (slope_in term pieces) (sym (add-one i));
     }
 
--- there is room for one more among the pieces of an activity that were found
+-- there is capacity for one more among the pieces of an activity that were found
 pub own-room : (pieces : List PieceRow) (i a : ℕ) → i < length pieces → (piece_at pieces i).activity ≡ a → length (pieces_of (take i pieces) a) < length (pieces_of pieces a)
 own-room pieces i a inside is =
     omega (
@@ -114,7 +114,7 @@ own-room pieces i a inside is =
     of_a : PieceRow → Bool
     of_a piece = piece.activity == a
 
--- pieces of which there are none have no units
+-- an empty list of pieces has no units
 no_units : (pieces : List PieceRow) → length pieces ≤ 0 → units_of pieces ≡ 0
 no_units [] none = refl
 no_units (piece ∷ pieces) none = absurd (omega arith)

@@ -1,4 +1,4 @@
--- What holds of every solver: its lengths are in order, its segment is whole, and its numbers are small.
+-- What holds of every solver: its lengths are in order, its segment is complete, and its numbers are small.
 use Rattle.std.proofs.Common.{◌≡◌, ℕ, ◌+◌, ◌-◌, ◌*◌, ◌^◌, ◌<◌, ◌≤◌, ◌==◌, Bool, true, length, refl, sym, ◌∙◌, ap, subst, inl, inr, arith}
 use Rattle.std.specs.Prelude.{◌&&◌}
 use Rattle.std.proofs.lemmas.Bool.{cases_Bool, cases_lt, lt-ltb}
@@ -74,7 +74,7 @@ module _ (c : Course) (on : IsOnCourse c) where
       (segment_of c.net.network c.net.terms (knees_in c.net)
       (filled_state c.net.terms (knees_in c.net) (upper_of c) (time_of c.board) (flow_of c.board) (slope_at c.net c.board)) moves fall)
 
-  -- the present segment is whole
+  -- the present segment is complete
   pub whole : c.given ≡ true → IsOnCurve c
   whole given =
       elim (cases_lt c.shortest (upper_of c)) [

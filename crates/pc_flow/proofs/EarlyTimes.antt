@@ -1,4 +1,4 @@
--- How the greatest sum at one event comes from those at the events before it, and the pass over all events.
+-- How the greatest sum at one event follows from those at the events before it, and the pass over all events.
 use Rattle.std.proofs.Common.{◌≡◌, ℕ, ◌+◌, ◌<◌, ◌≤◌, List, [], ◌∷◌, ◌++◌, length, slice_index, refl, sym, ap, subst, ◌⊎◌, inl, inr, max, below_more, arith}
 use Rattle.std.proofs.Math.Nat.{mul-le-mul_right}
 use Rattle.std.proofs.lemmas.Bool.{cases_lt}
@@ -23,7 +23,7 @@ module _ (net : Network) (lengths : List ℕ) (times : ℕ → ℕ) where
   abbrev brought : ℕ → ℕ
   brought a = times (from_of net.arcs a) + slice_index lengths a
 
-  -- n bounds what the first k of these activities bring, and one of them brings it, or there is none and n is 0
+  -- n bounds what the first k of these activities give, and one of them gives it, or there is none and n is 0
   pub record IsArrivalOf (items : List ℕ) (k n : ℕ) : Type 0 where
     pub above : (j : ℕ) → j < k → brought (slice_index items j) ≤ n
     pub attained : ((j : ℕ) × (j < k) × (brought (slice_index items j) ≡ n)) ⊎ ((n ≡ 0) × (k ≡ 0))
@@ -110,7 +110,7 @@ small_times net order lengths range sound ordered few short = record {
       );
 }
 
--- the kept times of the first k events of the order are the greatest sums to them, and nothing else changed
+-- the stored times of the first k events of the order are the greatest sums to them, and nothing else changed
 pub record AreEarlyTo (net : Network) (lengths order : List ℕ) (s t : Sheet) (k : ℕ) : Type 0 where
   pub rest : t ≡ record s { time = t.time }
   pub each : (j : ℕ) → j < k → IsEarly net lengths (slice_index order j) (kept_time t (slice_index order j))

@@ -45,7 +45,7 @@ pub looks-join : (c d e : Course) → IsSameCurve c d → IsFurther c d → IsFu
     → between ≤ before + most_looks c d → after ≤ between + most_looks d e → after ≤ before + most_looks c e
 looks-join c d e one first second before between after counted more = omega (arith, counted, more, looks-add c d e one first second)
 
--- from the top they are no more than the whole curve may take
+-- from the top they are no more than the complete curve may take
 pub looks-most : (c d : Course) → IsLevel c → IsSameCurve c d → d.slope ≤ slopes_in d.net → d.shortest ≤ lower_of d → most_looks c d ≤ all_looks c
 looks-most c d level same gentle within =
     let at : lower_of c ≡ c.longest = omega (arith, level.upper, level.fall) in

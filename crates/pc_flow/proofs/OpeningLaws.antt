@@ -46,7 +46,7 @@ some-activities net range sound = let (walk, walked) = sound.reached net.end ran
     some [] walked = absurd (range.apart walked)
     some (a ∷ walk) walked = omega (arith, walked.0)
 
--- what is kept of a time stays when lengths are kept and the start gets its label
+-- the stored time does not change when lengths are stored and the start gets its label
 pub kept-before : (t v u : Sheet) (start e : ℕ) {end : ℕ} → v ≡ record t { up = v.up; down = v.down } → StartsAt v u start → end ≡ e
     → kept_time t end ≡ kept_time u e
 kept-before t v u start e third starts same =
@@ -59,7 +59,7 @@ flow-clear home events activities b s t board first second a =
     ap (λ (w : Sheet). flow_of w a) second
     ∙ (ap (λ (w : Sheet). flow_of w a) first ∙ (ap (λ (w : Sheet). flow_of w a) board ∙ zero-at activities a))
 
--- the knees of an activity reach no further than a number
+-- the knees of an activity reach at most a number
 pub reach-small : (net : PricedNetwork) → IsPriced net.network net.terms (knees_in net) → AreWithinLimits net.terms → ArePieces net.terms net.pieces
     → ArePiecesWithinLimits net.pieces → (a : ℕ) → a < length net.network.arcs → full_reach (stair_at net a) < 2 ^ 64
 reach-small net priced limits pieces piece_limits a known =

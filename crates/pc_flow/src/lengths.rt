@@ -26,7 +26,7 @@ pub(crate) fn keep_lengths(board: &mut Board, net: &CrashNet<'_>)
 }
 
 /// Keeps the lengths of an activity's arcs after its flow has changed along the step of an event. Most steps have room
-/// left. There the flow stays on arcs of one length, which is kept already.
+/// left. There the flow stays on arcs of one length, which is stored already.
 pub(crate) fn renew_step(board: &mut Board, net: &CrashNet<'_>, e: u32)
     requires event { e < board.old.events }
     requires known { step_of board.old e < length net.now.network.arcs }

@@ -19,7 +19,7 @@ pub record AreDatesTo (start : ℤ) (times : List ℕ) (count : ℕ) (dates : Li
 last_or_below : (n i : ℕ) → i < n + 1 → (i ≡ n) ⊎ (i < n)
 last_or_below n i below = eq-or-lt_of_le (omega (arith, below))
 
--- what stands last
+-- the last element
 last_date : (dates : List (List ℕ)) (text : List ℕ) (i : ℕ) → length dates ≡ i → slice_index_or (dates ++ text ∷ []) i [] ≡ text
 last_date dates text i count =
     let none : i - i ≡ 0 = omega arith in
@@ -46,7 +46,7 @@ dates_all start times i dates so_far whole = record {
   each = λ e below. so_far.each e (omega arith);
 }
 
--- so many sixths of a day, rounded up to whole days
+-- sixths of a day, rounded up to complete days
 rounded : (n : ℕ) → IsRoundedUp (pos n) (pos ((n + 5) / 6))
 rounded n = (omega (arith, ints), omega (arith, ints))
 
@@ -69,7 +69,7 @@ is_past day none =
       | inr isnt ↦ isnt
     ]
 
--- a printed day is told by its date
+-- a printed day is written as its date
 pub date_of-printed : (start : ℤ) (n : ℕ) (day : ℤ) → IsAfterSixths start (pos n) day → IsPrintedDay day → text_of_day day ≡ date_of start n
 unfolding date_of
 date_of-printed start n day after there =

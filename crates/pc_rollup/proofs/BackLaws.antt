@@ -16,7 +16,7 @@ abbrev pub order_of : Rev (Iter ℕ) → List ℕ
 order_of s = iter_rest (rev_source s)
 
 module _ (s t u : Rev (Iter ℕ)) (yielded : List (Bor ℕ)) (so_far : Yields (rev_steps iter_steps_back) s yielded t) (r : Option (Bor ℕ)) (step : rev_steps iter_steps_back t r u) where
-  -- what comes next stands before what has come
+  -- the next one is before those that have come
   pub place_of_turn : (x : Bor ℕ) → r ≡ Some x → (i : ℕ) × (i < length (order_of s)) × (i + length yielded + 1 ≡ length (order_of s)) × (slice_index (order_of s) i ≡ x.now)
   place_of_turn x is =
       let turn = YieldsList-turn (YieldsList-from_rev_slice (order_of s) refl) yielded t so_far r u x is step in

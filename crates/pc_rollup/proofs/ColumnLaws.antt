@@ -1,4 +1,4 @@
--- Amounts that are added column by column, and how they come together on items.
+-- Amounts that are added column by column, and their sums on items.
 use Rattle.std.proofs.Common.{◌≡◌, ℕ, zero, suc, ◌+◌, ◌<◌, ◌≤◌, ◌^◌, List, [], ◌∷◌, ◌++◌, drop, length, get_or, set, take, map, replicate, Some, None, refl, sym, ap, ◌∙◌, subst, arith}
 use Rattle.std.specs.Prelude.{ℤ, pos, ◌+ℤ◌, unsigned_abs, slice_index, sum_by}
 use Rattle.std.specs.List.{range_with_len}
@@ -100,7 +100,7 @@ module _ {A : Type 0} (columns : A → List ℤ) where
       AreRollingIn rows order j amounts totals → AreRolled columns rows amounts totals
   rolled_all rows order j amounts totals can all so_far = λ c. gathered_all rows order j _ _ (can.at_leaves c) all (so_far c)
 
--- so many columns without amounts
+-- n columns without amounts
 pub zeros_at : (n c : ℕ) → amount_at (replicate n (pos 0)) c ≡ pos 0
 zeros_at zero c = refl
 zeros_at (suc n) zero = refl
@@ -126,7 +126,7 @@ module _ (place : ℕ → ℕ) (amount : ℕ → ℤ) where
       let next : n + 1 ≡ suc n = omega arith in
       ap (λ (m : ℕ). magnitude_of (listed place amount m)) (sym next) ∙ more ∙ ap (λ (m : ℕ). m + unsigned_abs (amount n)) (magnitude-listed n)
 
--- each of so many numbers has amounts, which are placed on an item
+-- each of `count` numbers has amounts, which are placed on an item
 module _ {A : Type 0} (columns : A → List ℤ) (place : ℕ → ℕ) (has : ℕ → A) (count : ℕ) where
   abbrev placed : ℕ → List Placed
   placed c = listed place (λ k. amount_at (columns (has k)) c) count
@@ -135,7 +135,7 @@ module _ {A : Type 0} (columns : A → List ℤ) (place : ℕ → ℕ) (has : �
   abbrev pub Fit : Type 0
   Fit = (c : ℕ) → sum_to count (λ k. unsigned_abs (amount_at (columns (has k)) c)) < 2 ^ 63
 
-  -- in each column so many items have the amounts of the first n numbers
+  -- in each column the items have the amounts of the first n numbers
   abbrev pub AreSummedTo : ℕ → ℕ → List A → Type 0
   AreSummedTo items n sums = (c : ℕ) → AreSummed items (placed c) n (column columns c sums)
 
@@ -178,7 +178,7 @@ module _ {A : Type 0} (columns : A → List ℤ) (place : ℕ → ℕ) (has : �
   whole items n sums c all so_far =
       subst (λ (m : ℕ). AreAmountsOf items (placed c) m (column columns c sums)) (all ∙ sym (length-listed place (λ k. amount_at (columns (has k)) c) count)) (so_far c).sums
 
-  -- the same where the code lends a list as a slice, and what is added is as it was computed
+  -- the same if the code borrows a list as a slice, and what is added is as it was computed
   pub taken_from : (items n size : ℕ) (old read new : List A) (more : A) → n < count → place n < items → AreSummedTo items n old → read ≡ old → more ≡ has n →
       length old ≡ size → HaveTaken columns read (place n) more new → AreSummedTo items (n + 1) (take size (new ++ drop (length new) old))
   taken_from items n size old read new more lt known so_far lent is as_long took =

@@ -1,4 +1,4 @@
--- The least of what is placed on items, and how it is gathered from the end of the preorder on.
+-- The least of the amounts that are placed on items, and how it is computed from the end of the preorder on.
 use Rattle.std.proofs.Common.{◌≡◌, ◌≢◌, ℕ, ◌+◌, ◌<◌, ◌≤◌, ◌⊎◌, inl, inr, ⊎_elim, Bool, true, false, cond, List, length, get_or, set}
 use Rattle.std.proofs.Common.{Option, Some, None, refl, sym, ap, ◌∙◌, subst, get_or-set_same, get_or-set_other, length-set, arith}
 use Rattle.std.specs.Prelude.{ℤ, int_lt, slice_index}

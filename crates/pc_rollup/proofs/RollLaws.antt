@@ -1,4 +1,4 @@
--- How totals are gathered from the end of the preorder on.
+-- How totals are added up from the end of the preorder on.
 use Rattle.std.proofs.Common.{◌≡◌, ◌≢◌, ℕ, zero, suc, ◌+◌, ◌<◌, ◌≤◌, ◌⊎◌, inl, inr, ⊎_elim, List, length, get_or, set, take, Option, Some, None}
 use Rattle.std.proofs.Common.{refl, sym, ap, ◌∙◌, subst, get_or-set_same, get_or-set_other, length-set, ◌^◌, to_z, of_z, w64, arith}
 use Rattle.std.specs.Prelude.{ℤ, pos, ◌+ℤ◌, unsigned_abs, slice_index, sum_by}
@@ -33,7 +33,7 @@ pub record AreGathered (rows : List ItemRow) (order : List ℕ) (j : ℕ) (amoun
   pub one_each : length totals ≡ length rows
   pub each : (y : ℕ) → y < length rows → IsSumOver (IsGathered rows order j y) (length rows) (amount_at amounts) (amount_at totals y)
 
--- an item stands at one place
+-- an item is at one place
 pub same_place : (rows : List ItemRow) (order : List ℕ) (i k : ℕ) → IsPreorder rows order → i < length order → k < length order → slice_index order i ≡ slice_index order k → i ≡ k
 same_place rows order i k preorder lt less same =
     ⊎_elim (λ e. e)
@@ -102,7 +102,7 @@ whole_sum rows order i j amounts totals preorder so_far within place =
     v : ℕ
     v = slice_index order i
 
--- what is below the item is not yet with its parent
+-- what is below the item has not been added to its parent
 apart : (rows : List ItemRow) (order : List ℕ) (i j p x : ℕ) → IsTree rows → IsPreorder rows order → i < length order →
     i + j + 1 ≡ length order → parent_of rows (slice_index order i) ≡ Some p → IsGathered rows order j p x →
     IsBelow rows x (slice_index order i) → ⊥
@@ -253,7 +253,7 @@ pub record AreRolling (rows : List ItemRow) (order : List ℕ) (j : ℕ) (amount
   pub small : sum_by unsigned_abs amounts < 2 ^ 63
   pub gathered : AreGathered rows order j amounts totals
 
--- the same with totals of which more are gathered
+-- the same with totals to which more has been added
 rolling_on : (rows : List ItemRow) (order : List ℕ) (j k : ℕ) (amounts totals others : List ℤ) → AreRolling rows order j amounts totals →
     AreGathered rows order k amounts others → AreRolling rows order k amounts others
 rolling_on rows order j k amounts totals others r gathered = record {
@@ -315,7 +315,7 @@ pub leaf_or_not : (rows : List ItemRow) (x : ℕ) → IsLeaf rows x ⊎ (IsLeaf 
 leaf_or_not rows x =
     ⊎_elim (λ (y, (lt, e)). inr (λ leaf. leaf y lt e)) (λ none. inl none) (child_below rows x (length rows))
 
--- what is below an item is all gathered once all passed their totals on
+-- what is below an item has all been added once all passed their totals on
 pub all_gathered : (rows : List ItemRow) (order : List ℕ) (j y x : ℕ) → IsPreorder rows order → length order ≤ j → IsBelow rows x y → IsGathered rows order j y x
 all_gathered rows order j y x preorder all below = of_child (below_child rows x y below)
   where

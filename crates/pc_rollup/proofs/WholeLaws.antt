@@ -1,4 +1,4 @@
--- The lines of a level together have all that stands on leaves, and so what the top has.
+-- The lines of a level together have all that is on leaves, and so the amounts of the top.
 use Rattle.std.proofs.Common.{◌≡◌, ◌≢◌, Option, Some, None, ℕ, zero, suc, ◌+◌, ◌<◌, ◌≤◌, ◌⊎◌, inl, inr, ⊎_elim, List, [], ◌∷◌, ◌++◌, length, take, refl, sym, ◌∙◌, subst, arith}
 use Rattle.std.specs.Prelude.{ℤ, pos, ◌+ℤ◌, slice_index}
 use Rattle.std.proofs.lemmas.Bool.{cases_eq, cases_lt}
@@ -30,7 +30,7 @@ pub record AreAll (rows : List ItemRow) (order : List ℕ) (level : ℕ) (P : �
   pub summed : (y : ℕ) → y < length rows → IsSumOver (λ x. P x × IsBelow rows (place x) y) n amount (amount_at totals y)
   pub lines : AreLines rows order level totals listed
 
--- x stands below one of the first k lines
+-- x is below one of the first k lines
 abbrev IsCovered : List ItemRow → (ℕ → Type 0) → (ℕ → ℕ) → List LevelLine → ℕ → ℕ → Type 0
 IsCovered rows P place lines k x =
     P x × ((j : ℕ) × ((j < k) × IsBelow rows (place x) (line_at lines j).item))
@@ -88,7 +88,7 @@ covered rows order level P place n amount totals lines (suc k) all le =
     subst (λ (i : ℕ). IsSumOver (IsCovered rows P place lines i) n amount (sum_of (take i lines))) e
     (subst (λ (z : ℤ). IsSumOver (IsCovered rows P place lines (k + 1)) n amount z) (sym more) next)
 
--- the lines have all that stands on leaves, each amount once
+-- the lines have all that is on leaves, each amount once
 pub lines_sum : (rows : List ItemRow) (order : List ℕ) (level : ℕ) (P : ℕ → Type 0) (place : ℕ → ℕ) (n : ℕ) (amount : ℕ → ℤ)
     (totals : List ℤ) (lines : List LevelLine) → AreAll rows order level P place n amount totals lines → IsSumOver P n amount (sum_of lines)
 lines_sum rows order level P place n amount totals lines all =

@@ -71,7 +71,7 @@ impl Board {
         }
     }
 
-    // Renews the lengths that are kept of the activities of all steps that led to an event.
+    // Renews the lengths of the activities of all steps that led to an event.
     fn renew_back(&mut self, net: &CrashNet<'_>, end: u32)
         requires known { end < self.old.events }
         requires fits { IsFor net.now.network self.old }

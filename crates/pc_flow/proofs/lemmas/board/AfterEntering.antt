@@ -121,7 +121,7 @@ module _ (net : Network) (s t : Sheet) (e a : ℕ) (against : Bool) (near room :
               ∙ ranked.queued f kf (omega (arith, labelled, was))
         ]
 
-  -- who has a step now and is another event had it before
+  -- an event other than this one that has a step now had it before
   had-step : (f : ℕ) → f ≢ e → HasStep t f → HasStep s f
   had-step f apart has = omega (arith, has, entered.rank_off f apart)
 

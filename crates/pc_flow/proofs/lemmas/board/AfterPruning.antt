@@ -40,7 +40,7 @@ module _ (s t : Sheet) (gone : ℕ) (ranked : IsRanked s) (pruned : IsPruned s t
   fallen-same : t.fallen ≡ s.fallen
   fallen-same = ap (λ (v : Sheet). v.fallen) pruned.rest
 
-  -- who has a label now had one before
+  -- an event that has a label now had one before
   pub pruned-had : (e : ℕ) → e < s.events → 0 < rank_of t e → 0 < rank_of s e
   pruned-had e ke labelled =
       elim (cases_lt 0 (rank_of s e)) [
@@ -55,7 +55,7 @@ module _ (s t : Sheet) (gone : ℕ) (ranked : IsRanked s) (pruned : IsPruned s t
         | inr is ↦ absurd (omega (arith, is.none, labelled))
       ]
 
-  -- and who has a step now had it
+  -- and an event that has a step now had it
   pub pruned-step : (e : ℕ) → e < s.events → HasStep t e → HasStep s e
   pruned-step e ke has =
       elim (cases_lt 1 (rank_of s e)) [

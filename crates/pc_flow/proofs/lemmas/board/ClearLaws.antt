@@ -1,4 +1,4 @@
--- A board on which nothing stands yet.
+-- A board that is still empty.
 use Rattle.std.proofs.Common.{◌≡◌, ℕ, ◌+◌, ◌^◌, ◌<◌, [], ◌++◌, length, take, get_or, refl, sym, ◌∙◌, ap, subst, arith}
 use Rattle.std.specs.Prelude.{slice_index, sum_by}
 use Rattle.std.proofs.lemmas.List.{length-append, get_or-append-add, take-append-le, take_at, length-replicate}

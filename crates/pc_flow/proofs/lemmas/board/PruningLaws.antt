@@ -10,12 +10,12 @@ use Rattle.pc_flow.specs.inside.board.Labelling.{HasStep, IsRanked, IsRankedBack
 use Rattle.pc_flow.specs.inside.board.Raising.{StandFirst}
 use Rattle.pc_flow.specs.inside.board.Pruning.{IsKept, IsLost, IsSorted, IsPruned}
 
--- what is true of a board while its queue is looked at
+-- what holds of a board while its queue is looked at
 pub record IsPruning (s t : Sheet) (i kept gone seen : ℕ) : Type 0 where
   pub rest : t ≡ record s { time = t.time; rank = t.rank; queue = t.queue; lost = t.lost }
   pub sorted : IsSorted s t i kept gone seen
 
--- at first only the events whose labels stand are known to keep them
+-- at first only the events whose labels remain are known to keep them
 pub pruning-begins : (s : Sheet) (standing : ℕ) → IsRanked s → IsRankedBack s → StandFirst s standing → IsPruning s s standing standing 0 s.head
 pruning-begins s standing ranked back stand = record {
   rest = refl;
@@ -48,7 +48,7 @@ pruning-begins s standing ranked back stand = record {
   };
 }
 
--- the event at the next place, and what is known of it
+-- the event at the next place, and what holds of it
 module _ (s t : Sheet) (i kept gone seen : ℕ) (ranked : IsRanked s) (back : IsRankedBack s) (below : i < s.count) (some_place : 0 < i) (pruning : IsPruning s t i kept gone seen) where
   sorted : IsSorted s t i kept gone seen
   sorted = pruning.sorted
@@ -97,7 +97,7 @@ module _ (s t : Sheet) (i kept gone seen : ℕ) (ranked : IsRanked s) (back : Is
         | inr none ↦ omega (arith, sorted.unlabelled e ke (let zero_rank : rank_of s e ≡ 0 = omega arith in zero_rank))
       ]
 
-  -- so do those that stand among the kept ones
+  -- so do those that are among the kept ones
   kept-early : (k : ℕ) → k < kept → rank_of s (queue_of t k) ≤ i
   kept-early k before =
       elim (cases_lt i (rank_of s (queue_of t k))) [
@@ -108,11 +108,11 @@ module _ (s t : Sheet) (i kept gone seen : ℕ) (ranked : IsRanked s) (back : Is
   kept-apart : (k : ℕ) → k < kept → queue_of t k ≢ next
   kept-apart k before = earlier-apart (queue_of t k) (kept-early k before)
 
-  -- the next event stands in the queue as it did
+  -- the next event is in the queue as it was
   pub next-same : queue_of t i ≡ next
   next-same = sorted.queue_off i (omega arith)
 
-  -- the board t with the next event's fate, in a word for each thing that is kept
+  -- the board t with the next event's fate, one fact for each column
   other-labelled : (e : ℕ) → (rank_of s e ≡ 0) ⊎ (i + 1 < rank_of s e) → e ≢ next
   other-labelled e (inl none) same = omega (arith, none, rank-next, ap (rank_of s) same)
   other-labelled e (inr after) same = omega (arith, after, rank-next, ap (rank_of s) same)
@@ -372,7 +372,7 @@ module _ (s t : Sheet) (i kept gone seen : ℕ) (ranked : IsRanked s) (back : Is
           sorted.weights w,
         )
 
-    -- those that are kept come in front of the scanned ones that are left
+    -- the kept ones come before the scanned ones that are left
     losing-seen-some : i < s.head → kept ≤ seen'
     losing-seen-some scanned = omega (arith, sorted.early (omega arith), sorted.split, seen_below scanned)
 
@@ -449,7 +449,7 @@ module _ (s t : Sheet) (i kept gone seen : ℕ) (ranked : IsRanked s) (back : Is
       };
     }
 
--- the same in words of the board as it stands at that place
+-- the same in terms of the board as it is at that place
 module _ (s t u : Sheet) (i kept gone seen x : ℕ) (ranked : IsRanked s) (back : IsRankedBack s) (below : i < s.count) (some_place : 0 < i)
     (pruning : IsPruning s t i kept gone seen) (at : x ≡ queue_of t i) where
   abbrev place : ℕ

@@ -57,12 +57,12 @@ way-falls s e k x i j back way before within =
     let at : i + suc (j - suc i) ≡ j = omega arith in
     subst (λ n. rank_of s (event_back s e n) < rank_of s (event_back s e i)) at (way-falls_by s e k x i (j - suc i) back way (omega arith))
 
--- the event that is reached is none of those before on the way
+-- the event that is reached is not one of those before it on the way
 pub way-new : (s : Sheet) (e k x : ℕ) → IsRankedBack s → IsWayBack s e k x → IsOffWay s e k x
 way-new s e k x back way j before same =
     omega (arith, way-falls s e k x j k back way before (omega arith), ap (rank_of s) way.leads, ap (rank_of s) same)
 
--- a way that comes to the first event is as long as any
+-- a way that reaches the first event is as long as any
 pub way-whole : (s : Sheet) (e k x m : ℕ) → IsWayBack s e k x → IsWayBack s e m (queue_of s 0) → rank_of s (queue_of s 0) ≡ 1 → HasStep s x → k < m
 way-whole s e k x m way whole first has =
     elim (cases_lt k m) [
@@ -156,12 +156,12 @@ leasting-ends s e least k x ranked back has last leasting = record {
             absurd (omega (arith, last, has, ap (rank_of s) (sym leasting.way.leads ∙ ap (event_back s e) zero_steps)))
       ]
 
--- The labels that stand
+-- The labels that remain
 
 pub clear-begins : (s : Sheet) (e least : ℕ) → AreClear s e least 0 0
 clear-begins s e least = record { some = λ none. absurd (omega arith); within = omega arith; above = λ j none. absurd (omega arith) }
 
--- a step with no more room than those before it on the way: the labels before its event in the queue stand
+-- a step with no more room than those before it on the way: the labels before its event in the queue remain
 pub clear-below : (s : Sheet) (e k x room : ℕ) → IsRanked s → IsRankedBack s → HasStep s x → IsWayBack s e k x
     → AreClear s e room (rank_of s x - 1) (suc k)
 clear-below s e k x room ranked back has way = record {
@@ -202,7 +202,7 @@ raising-begins s e by known = record {
   part = λ net fits at joined. subst (λ x. IsPart net (flow_of s) (flow_of s) x by) at (part_begins net (flow_of s) by);
 }
 
--- the board after some steps, and how the next one stands there
+-- the board after some steps, and the next step on it
 module _ (s t : Sheet) (e by k x : ℕ) (back : IsRankedBack s) (steps : HaveSteps s) (has : HasStep s x) (raising : IsRaising s t e by k x) where
   known : x < s.events
   known = way-known s e k x raising.way
@@ -227,7 +227,7 @@ module _ (s t : Sheet) (e by k x : ℕ) (back : IsRankedBack s) (steps : HaveSte
   flow-same : flow_of t (step_of s x) ≡ flow_of s (step_of s x)
   flow-same = raising.flow_off (step_of s x) step-off
 
-  -- there is room for the raising
+  -- there is room for the augmentation
   module _ (m : ℕ) (least : IsLeastRoom s e by m) where
     within : by ≤ room_of s x
     within = omega (arith, least.below k (way-whole s e k x m raising.way least.way least.first has), ap (room_of s) raising.way.leads)

@@ -17,7 +17,7 @@ with_more region more = record { capacity = region.capacity; spans = region.span
 abbrev made : ℕ → List (List ℕ) → Cells
 made capacity spans = record { capacity = capacity; spans = spans }
 
--- one more span behind some that were taken
+-- one more span after some that were taken
 taken-after : (home was now : Cells) (before : List (List ℕ)) (len : ℕ) (s : Span) → was ≡ with_more home before → IsTaken was now len s
     → now ≡ with_more home (before ++ replicate len 0 ∷ [])
 taken-after home was now before len s at taken =

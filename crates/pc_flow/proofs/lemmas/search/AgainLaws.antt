@@ -1,4 +1,4 @@
--- A search that looks again after a raising.
+-- A search that looks again after an augmentation.
 use Rattle.std.proofs.Common.{◌≡◌, ◌≢◌, ℕ, ◌+◌, ◌-◌, ◌*◌, ◌<◌, ◌≤◌, ◌⊎◌, List, length, sym, ◌∙◌, ap, subst, inl, inr, arith}
 use Rattle.std.proofs.lemmas.Bool.{cases_lt}
 use Rattle.pc_model.specs.Walk.{from_of, to_of}
@@ -73,7 +73,7 @@ module _ (net : PricedNetwork) (s u : Sheet) (gone : ℕ) (search : IsSearch net
   was-event : (e : ℕ) → e < u.events → e < s.events
   was-event e known = omega (arith, known, events-same)
 
-  -- what stands on a staircase at the gap of before
+  -- what is on a staircase at the earlier gap
   moved : (a x : ℕ) → a < length net.network.arcs → IsOnStair (stair_at net a) (gap_at net s a) x → IsOnStair (stair_at net a) (gap_at net u a) x
   moved a x known on = subst (λ n. IsOnStair (stair_at net a) n x) (sym (gap a known)) on
 
@@ -158,7 +158,7 @@ module _ (net : PricedNetwork) (s u : Sheet) (gone : ℕ) (search : IsSearch net
   met-before a known (inl from) = inl (scanned-before (from_of net.network.arcs a) (from-event a known) from)
   met-before a known (inr to) = inr (scanned-before (to_of net.network.arcs a) (to-event a known) to)
 
-  -- an activity of which no end lost its label is settled as before
+  -- an activity is settled as before if no end of it lost its label
   settled-still : (a : ℕ) → a < length net.network.arcs → (rank_of u (from_of net.network.arcs a) ≡ 0 → rank_of s (from_of net.network.arcs a) ≡ 0)
       → (rank_of u (to_of net.network.arcs a) ≡ 0 → rank_of s (to_of net.network.arcs a) ≡ 0) → IsSettled net s a → IsSettled net u a
   settled-still a known from to = settled-kept net s u a (flow a) (gap a known) was (λ had. omega (arith, had, slot-same a)) where
@@ -183,7 +183,7 @@ module _ (net : PricedNetwork) (s u : Sheet) (gone : ℕ) (search : IsSearch net
     once j k before below same =
         omega (arith, search.ranked.placed j (omega arith), search.ranked.placed k below, ap (rank_of s) same)
 
-  -- all are scanned anew
+  -- all are scanned again
   pub again-anew : HasLookedAgain net s (headed u 0)
   again-anew = record {
     rest = ap (λ (v : Sheet). headed v 0) pruned.rest ∙ ap (λ (v : Sheet). relabelled s (headed v 0)) (sym pruned.rest);

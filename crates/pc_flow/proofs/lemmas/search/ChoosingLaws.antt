@@ -15,7 +15,7 @@ use Rattle.pc_flow.proofs.lemmas.search.WayLaws.{one-way}
 abbrev pub StopsNotBefore : PricedNetwork → Sheet → ℕ → ℕ → Type 0
 StopsNotBefore net s a least = (way : Way) → MayCross net s way a → lesser_at net s way a + least ≤ greater_at net s way a
 
--- activity a, which labels may cross, stops no sooner than when the falls have come to the sum `due`
+-- activity a, which labels may cross, stops no sooner than when the falls have reached the sum `due`
 abbrev pub StopsNotUntil : PricedNetwork → Sheet → ℕ → ℕ → Type 0
 StopsNotUntil net s a due = (way : Way) → MayCross net s way a → due + lesser_at net s way a ≤ s.fallen + greater_at net s way a
 
@@ -32,7 +32,7 @@ pub record HasGone (net : PricedNetwork) (s t : Sheet) (a : ℕ) : Type 0 where
   pub none : slot_of t a ≡ 0
   pub quiet : IsQuiet net s a
 
--- some activity that labels may cross stops after so much
+-- some activity that labels may cross stops after this many units
 abbrev pub SomeStopsAt : PricedNetwork → Sheet → ℕ → Type 0
 SomeStopsAt net s n = (a : ℕ) × (a < length net.network.arcs) × StopsAt net s a n
 
@@ -95,7 +95,7 @@ module _ (net : PricedNetwork) (s t u : Sheet) (i kept least a : ℕ) (waiting :
   place-now : slot_of t a ≡ i + 1
   place-now = on.later_slot a known (omega (arith, place)) ∙ place
 
-  -- the others up to here stood before
+  -- the others up to here were there before
   before : (b : ℕ) → b < s.activities → b ≢ a → 0 < slot_of s b → slot_of s b ≤ i + 1 → slot_of s b ≤ i
   before b kb apart some early =
       elim (cases_lt i (slot_of s b)) [

@@ -1,4 +1,4 @@
--- What a search that goes on keeps, and what it has settled.
+-- What a search that continues preserves, and what it has settled.
 use Rattle.std.proofs.Common.{◌≡◌, ℕ, ◌+◌, ◌-◌, ◌<◌, ◌≤◌, ◌⊎◌, List, length, sym, ◌∙◌, ap, subst, inl, inr, arith}
 use Rattle.std.specs.Prelude.{slice_index}
 use Rattle.std.proofs.lemmas.Bool.{cases_lt}
@@ -127,7 +127,7 @@ goes_on-visited net t u a visited = record {
   settled = λ b known same reached. subst (λ x. IsSettled net u x) (sym same) visited.settled;
 }
 
--- one of the first of a list and the next one stands among the first or is the next
+-- one of the first of a list and the next one is among the first or is the next
 stands-next : (xs : List ℕ) (i a b : ℕ) → slice_index xs i ≡ a → StandsBelow xs (i + 1) b → StandsBelow xs i b ⊎ (b ≡ a)
 stands-next xs i a b at stands =
     elim (cases_lt stands.0 i) [
@@ -142,7 +142,7 @@ goes_on-visits net xs i a s t u before at visited =
     goes_on-joins net (StandsBelow xs i) (λ b. b ≡ a) (StandsBelow xs (i + 1)) s t u (λ b known stands. stands-next xs i a b at stands)
     before (goes_on-visited net t u a visited)
 
--- one of the first i that wait, and the falls have come to the sum that is kept of it
+-- one of the first i that wait, and the falls have reached the sum that is stored for it
 abbrev pub IsDueBelow : Sheet → ℕ → ℕ → Type 0
 IsDueBelow s i a = StandsBelow s.waiting i a × (due_of s a ≤ s.fallen)
 
@@ -192,7 +192,7 @@ met-reached net s a (inr to) = inr to.labelled
 
 module _ (net : PricedNetwork) (s t : Sheet) (search : IsSearch net s) (on : GoesOn net (IsDueBelow s s.len) s t)
     (listed : AreListed net s) where
-  -- an activity stops only after a fall, if the falls have not come to its sum
+  -- an activity stops only after a fall, if the falls have not reached its sum
   waits-on : (a : ℕ) → a < length net.network.arcs → IsMet net s a → s.fallen < due_of s a → IsSettled net s a
   waits-on a known met late way may = let waits = listed a known met way may in (waits.listed, omega (arith, waits.due, late))
 

@@ -1,4 +1,4 @@
--- A labelling: what each of its parts changes, and that they make a whole one.
+-- A labelling: what each of its parts changes, and that they make a complete one.
 use Rattle.std.proofs.Common.{◌≡◌, ℕ, ◌+◌, ◌-◌, ◌*◌, ◌^◌, ◌<◌, ◌≤◌, sym, ◌∙◌, ap, subst, arith}
 use Rattle.std.proofs.Math.Nat.{mul-add, mul-le-mul_left}
 use Rattle.pc_model.specs.Cost.{IsPriced}
@@ -92,7 +92,7 @@ module _ (net : PricedNetwork) (s t : Sheet) (rise : ℕ) (search : IsSearch net
   pub above-risen : IsAboveAllCrash net s → IsAboveAllCrash net t
   above-risen above = (above.0, above.1, omega (arith, above.2, length-risen))
 
--- the search goes on where labels were given to the events at steps with room
+-- the search continues from labels that were given to the events at steps with room
 module _ (net : PricedNetwork) (s t u : Sheet) (between : IsBetween net s) (above : IsAboveAllCrash net s) where
   pub under_way-begins : HasSettled net s t → HasGrown net t u → IsUnderWay net u × Rises net s u 0
   under_way-begins settled grown =
@@ -138,7 +138,7 @@ module _ (net : PricedNetwork) (s r t u : Sheet) (by : ℕ) (between : IsBetween
     ended = grown.ended;
   }
 
--- the labels have come to a stand, and the least stop is the fall
+-- the labels cannot grow, and the least stop is the fall
 pub labelled-ends : (net : PricedNetwork) (s t u : Sheet) (rise least : ℕ) → IsPriced net.network net.terms (knees_in net) → IsBetween net s
     → Rises net s t rise → IsUnderWay net t → HasChosen net t u least → HasLabelled net s u rise least
 labelled-ends net s t u rise least priced between rises under_way chosen = record {
@@ -170,7 +170,7 @@ labelled-ends net s t u rise least priced between rises under_way chosen = recor
 
 -- The count of looks
 
--- a raising more by at least one unit pays for its looks
+-- an augmentation by at least one unit more pays for its looks
 pub looks-more : (m x y : ℕ) → 0 < y → m * x + m ≤ m * (x + y)
 looks-more m x y some =
     let one : 1 ≤ y = omega (arith, some) in omega (arith, mul-add m x y, mul-le-mul_left m one)

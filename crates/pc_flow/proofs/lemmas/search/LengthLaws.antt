@@ -18,12 +18,12 @@ use Rattle.pc_flow.proofs.lemmas.board.AfterRaising.{find_below}
 use Rattle.pc_flow.specs.inside.search.Searches.{stair_at, IsOnStairs, HasLengths, AreLengths}
 use Rattle.pc_flow.specs.inside.search.Lengths.{IsLevelAt, AreLevelBack, RenewsAt, IsRenewedBack}
 
--- the staircase of what is known of an activity
+-- the staircase of the known data of an activity
 pub kept-stair : (net : PricedNetwork) (a crash : ℕ) (knees : List Knee) → AreKneesOf (knees_in net) a knees → crash ≡ crash_of net.terms a
     → IsSameStair (stair knees crash) (stair_at net a)
 kept-stair net a crash knees bends lasts = record { count = bends.count; knee = bends.at; rise = bends.rise; crash = lasts }
 
--- its lengths are kept
+-- its lengths are stored
 pub renewed-at : (net : PricedNetwork) (s t : Sheet) (a up down flow : ℕ) (here : Stair) → IsSameStair here (stair_at net a) → flow ≡ flow_of s a
     → SetsLengths s t a up down → up ≡ unit_length here flow → (0 < flow → down ≡ unit_length here (flow - 1)) → RenewsAt net s t a
 renewed-at net s t a up down flow here same is moved next last = record {
@@ -41,7 +41,7 @@ renewed-at net s t a up down flow here same is moved next last = record {
   now : flow ≡ flow_of t a
   now = is ∙ sym (ap (λ (v : Sheet). flow_of v a) moved.rest)
 
--- the lengths of the first activities are kept
+-- the lengths of the first activities are stored
 pub record AreKeptTo (net : PricedNetwork) (s t : Sheet) (n : ℕ) : Type 0 where
   pub rest : t ≡ record s { up = t.up; down = t.down }
   pub lengths : (a : ℕ) → a < n → HasLengths net t a
@@ -66,7 +66,7 @@ renewing-begins net s e known level = record {
   renewed = λ j none. absurd (omega arith);
 }
 
--- the event where the way stands, and the activity of its step
+-- the event that the way has reached, and the activity of its step
 pub renewing-event : (net : PricedNetwork) (s t : Sheet) (e k x : ℕ) → IsRenewing net s t e k x → x < t.events
 renewing-event net s t e k x on =
     omega (arith, ap (λ (v : Sheet). v.events) on.rest, subst (λ f. f < s.events) on.way.leads (on.way.known k (omega arith)))
@@ -91,7 +91,7 @@ module _ (net : PricedNetwork) (s t : Sheet) (e k x : ℕ) (on : IsRenewing net 
     renewing-small stairs =
         omega (arith, ap (λ (v : Sheet). flow_of v (step_of t x)) on.rest, stairs.small (step_of t x) renewing-step)
 
-  -- where the step there has room left, the flow stays on arcs of one length
+  -- if the step there has room left, the flow stays on arcs of one length
   pub renewing-level : 0 < room_of t x → IsLevelAt net t x
   renewing-level left =
       subst (λ f. IsLevelAt net t f) on.way.leads
@@ -106,7 +106,7 @@ module _ (net : PricedNetwork) (s t : Sheet) (e k x : ℕ) (on : IsRenewing net 
                 subst (λ m. HasStep s (event_back s e m)) at (subst (λ f. HasStep s f) (sym on.way.leads) renewing-has)
           ]
 
--- lengths stay right where another activity has its own renewed
+-- lengths remain right if another activity has its own renewed
 pub renewed-others : (net : PricedNetwork) (t u : Sheet) (a b : ℕ) → RenewsAt net t u b → HasLengths net t a → HasLengths net u a
 renewed-others net t u a b moved was =
     elim (cases_eq a b) [

@@ -1,4 +1,4 @@
--- Where a step has room left after the flow was raised, the flow stays on arcs of one length.
+-- If a step has room left after an augmentation, the flow stays on arcs of one length.
 use Rattle.std.proofs.Common.{◌≡◌, ℕ, ◌+◌, ◌-◌, ◌<◌, ◌≤◌, length, sym, ◌∙◌, ap, subst, inl, inr, arith}
 use Rattle.std.proofs.lemmas.Bool.{cases_lt}
 use Rattle.pc_laws.specs.Stair.{Stair, IsFalling, unit_length, IsOnStair}

@@ -56,7 +56,7 @@ module _ (net : PricedNetwork) (s : Sheet) (a : ℕ) (known : a < length net.net
     };
   }
 
--- an activity by which an event has its label stops now
+-- an activity from which an event has its label stops now
 module _ (net : PricedNetwork) (s : Sheet) (search : IsSearch net s) (room : HaveRoom s) (e : ℕ) (known : e < s.events) (has : HasStep s e) where
   pub step-inside : step_of s e < length net.network.arcs
   step-inside = omega (arith, search.steps.known e known has, search.fits.activities)
@@ -86,7 +86,7 @@ module _ (net : PricedNetwork) (s : Sheet) (search : IsSearch net s) (room : Hav
             (flow_of s (step_of s e) - 1) (omega (arith, room.some e known has, step-flows some)),
       )
 
-  -- the room that is kept is a room
+  -- the stored room is a room
   pub step-room : IsRoom net s e (room_of s e)
   step-room = record {
     along = λ none. record {
@@ -101,7 +101,7 @@ module _ (net : PricedNetwork) (s : Sheet) (search : IsSearch net s) (room : Hav
     };
   }
 
-  -- what is found of its knees
+  -- what its knees give
   module _ (a : ℕ) (list knees : List Knee) (term : Term) (at : a ≡ step_of s e)
       (bends : AreKneesOf (knees_in net) a list) (same : knees ≡ list) (is_term : term ≡ term_at net.terms a) where
     abbrev crash : ℕ
@@ -150,7 +150,7 @@ module _ (net : PricedNetwork) (s : Sheet) (search : IsSearch net s) (room : Hav
 pub measuring-begins : (net : PricedNetwork) (s : Sheet) → IsSearch net s → HaveRoom s → IsMeasured net s s
 measuring-begins net s search room = record { rest = refl; rooms = λ e known has. step-room net s search room e known has }
 
--- what a room is does not depend on the rooms that are kept
+-- whether a number is a room does not depend on the stored rooms
 pub room-back : (net : PricedNetwork) (s t : Sheet) (e room : ℕ) → t ≡ record s { room = t.room } → IsRoom net t e room → IsRoom net s e room
 room-back net s t e room rest is =
     let there : IsRoom net (record s { room = t.room }) e room = subst (λ v. IsRoom net v e room) rest is in

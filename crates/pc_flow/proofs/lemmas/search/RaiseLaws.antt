@@ -63,7 +63,7 @@ module _ (net : PricedNetwork) (s t : Sheet) (end by k : ℕ) (search : IsSearch
       }) in
       (omega (arith, was.0, slot-same a), omega (arith, was.1, lesser-kept net s t a same (gap-same a) way, greater-kept net s t a same (gap-same a) way))
 
-  -- each flow stands on its staircase, between where it stood and where its room leads
+  -- each flow is on its staircase, between its old value and the one to which its room leads
   pub on-raised : (a : ℕ) → a < length net.network.arcs → IsOnStair (stair_at net a) (gap_at net s a) (flow_of t a)
   on-raised a known =
       elim (raised-flow s t end by k search.steps raised a) [

@@ -1,4 +1,4 @@
--- A search after a raising: its times and flows are a state again, and its labels stand but for their rooms.
+-- A search after an augmentation: its times and flows are a state again, and its labels remain, except for their rooms.
 use Rattle.std.proofs.Common.{◌≡◌, ℕ, ◌+◌, ◌-◌, ◌^◌, ◌<◌, ◌≤◌, List, length, refl, sym, ◌∙◌, ap, subst, arith}
 use Rattle.pc_model.specs.Walk.{from_of, to_of}
 use Rattle.pc_model.specs.Network.{IsOrder}
@@ -106,7 +106,7 @@ module _ (net : PricedNetwork) (known : IsKnown net) (order : List ℕ) (ordered
   against-same : (e : ℕ) → against_of t e ≡ against_of s e
   against-same e = ap (λ (v : Sheet). against_of v e) rest
 
-  -- where the room of a step leads is as it was
+  -- the flow to which the room of a step leads is as it was
   led : AreLed net t
   led = record {
     along = λ e inside has none.

@@ -28,7 +28,7 @@ goes_on-labelled net these all s t e split none labelled on = record {
   both a (inr to) (inl reached) = (grows-labelled s t on.grows (from_of net.network.arcs a) reached, omega (arith, ap (rank_of t) to, labelled))
   both a (inr to) (inr reached) = absurd (omega (arith, ap (rank_of s) to, none, reached))
 
--- an event without a label of which a visit says that it has none yet
+-- an event without a label that a visit reports as still without one
 pub unlabelled-still : (found : Bool) (t : Sheet) (e : ℕ) → (IsTrue found ↔ (0 < rank_of t e)) → found ≡ false → rank_of t e ≡ 0
 unlabelled-still found t e is not_found =
     elim (cases_lt 0 (rank_of t e)) [

@@ -48,7 +48,7 @@ pub state-own : (net : PricedNetwork) (s : Sheet) (limit value : ℕ) → IsStat
 state-own net s limit value state =
     subst (λ n. IsStateWith net s n (slope_at net s)) (sym state.ends) (subst (λ n. IsStateWith net s limit n) (sym state.leaves) state)
 
--- what is known of a priced network
+-- what holds of a priced network
 pub record IsKnown (net : PricedNetwork) : Type 0 where
   pub priced : IsPriced net.network net.terms (knees_in net)
   pub limits : AreWithinLimits net.terms

@@ -1,4 +1,4 @@
--- How far the flow of an activity may change where it stops now, in words of what was seen of it.
+-- How far the flow of an activity may change if it stops now, in terms of the data that were read.
 use Rattle.std.proofs.Common.{◌≡◌, ℕ, List, ◌+◌, ◌-◌, ◌^◌, ◌<◌, ◌≤◌, length, sym, ap, subst, arith}
 use Rattle.pc_model.specs.declared.Knee.{Knee}
 use Rattle.pc_laws.specs.Stair.{Stair, IsFalling, IsSameStair, full_reach, unit_length, IsOnStair}
@@ -24,7 +24,7 @@ module _ (net : PricedNetwork) (s : Sheet) (a crash : ℕ) (knees : List Knee) (
   pub seen-falling : IsFalling here
   seen-falling = same-falling here (stair_at net a) same (stairs.falling a known)
 
-  -- the gap may be as long as the next unit's arc: so much room leads to a flow on the staircase
+  -- the gap may be as long as the next unit's arc: this room leads to a flow on the staircase
   pub room-along : (room flow : ℕ) → flow ≡ flow_of s a → 0 < room → flow + room < 2 ^ 64
       → ((gap : ℕ) → IsOnStair here gap flow → unit_length here flow ≡ gap → IsOnStair here gap (flow + room))
       → StopsAfter net s a Along 0 → HasRoomAlong net s a room

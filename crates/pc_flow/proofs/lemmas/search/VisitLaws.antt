@@ -29,7 +29,7 @@ visited-still net s a search room settled = record { grows = grows-none s; searc
 pub settled-quiet : (net : PricedNetwork) (s : Sheet) (a : ℕ) → IsQuiet net s a → IsSettled net s a
 settled-quiet net s a quiet = λ way may. absurd (quiet way may)
 
--- the list has room for an activity that does not wait
+-- the list has capacity for an activity that does not wait
 pub waiting-room : (s : Sheet) (a : ℕ) → IsWaiting s → a < s.activities → slot_of s a ≡ 0 → s.len < s.activities
 waiting-room s a waiting known none =
     room-left (waiting_of s) s.len s.activities a waiting.range once known

@@ -18,7 +18,7 @@ use Rattle.pc_flow.specs.inside.search.Searches.{stair_at, gap_at, next_at, last
 use Rattle.pc_flow.specs.inside.search.Growing.{IsAt}
 use Rattle.pc_flow.proofs.lemmas.search.LinkLaws.{link_listed, link_stands}
 
--- the ends of a step over an activity of which these are the events
+-- the ends of a step over an activity with these events
 pub near-looked : (net : PricedNetwork) (way : Way) (a from to near : ℕ) → from ≡ from_of net.network.arcs a → to ≡ to_of net.network.arcs a
     → near ≡ by_way way from to → near_in net way a ≡ near
 near-looked net way a from to near begins ends is = sym (is ∙ ap (λ e. by_way way e to) begins ∙ ap (by_way way (from_of net.network.arcs a)) ends)
@@ -84,7 +84,7 @@ pub settled-both : (net : PricedNetwork) (s : Sheet) (a : ℕ) → 0 < rank_of s
 settled-both net s a from to Along may = absurd (omega (arith, may.far, to))
 settled-both net s a from to Against may = absurd (omega (arith, may.far, from))
 
--- where its flow and its gap stay, an activity is settled as before
+-- if its flow and its gap do not change, an activity is settled as before
 module _ (net : PricedNetwork) (s t : Sheet) (a : ℕ) (flow : flow_of t a ≡ flow_of s a) (gap : gap_at net t a ≡ gap_at net s a) where
   pub lesser-kept : (way : Way) → lesser_at net t way a ≡ lesser_at net s way a
   lesser-kept way = ap (λ x. by_way way (unit_length (stair_at net a) x) (gap_at net t a)) flow ∙ ap (by_way way (next_at net s a)) gap
@@ -98,7 +98,7 @@ module _ (net : PricedNetwork) (s t : Sheet) (a : ℕ) (flow : flow_of t a ≡ f
       let before = settled way (was way may) in
       (slot before.0, omega (arith, before.1, lesser-kept way, greater-kept way))
 
--- an activity of which a step leads to an event is at that event
+-- an activity with a step that leads to an event is at that event
 pub far-at : (net : PricedNetwork) (way : Way) (a e : ℕ) → far_in net way a ≡ e → IsAt net e a
 far-at net Along a e at = inr at
 far-at net Against a e at = inl at

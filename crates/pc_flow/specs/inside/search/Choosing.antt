@@ -21,7 +21,7 @@ IsStopOf net s a None = IsQuiet net s a
 abbrev pub moving : Sheet → ℕ → Bool
 moving s e = rank_of s e == 0
 
--- the list was gone through, and those left it that labels may not cross. The labels have come to a stand, and `least`
+-- the list was gone through, and those left it that labels may not cross. The labels cannot grow, and `least`
 -- is the least number of units after which an activity stops, or the greatest number that there is
 pub record HasChosen (net : PricedNetwork) (s t : Sheet) (least : ℕ) : Type 0 where
   pub rest : t ≡ record s { waiting = t.waiting; slot = t.slot; due = t.due; len = t.len }

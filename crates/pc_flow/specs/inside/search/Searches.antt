@@ -38,7 +38,7 @@ pub record IsWaiting (s : Sheet) : Type 0 where
   pub within : (a : ℕ) → a < s.activities → slot_of s a ≤ s.len
   pub listed : (a : ℕ) → a < s.activities → 0 < slot_of s a → waiting_of s (slot_of s a - 1) ≡ a
 
--- each activity has a falling staircase with numbers that fit, no activity ends before it begins, and its flow stands on
+-- each activity has a falling staircase with numbers that fit, no activity ends before it begins, and its flow is on
 -- the staircase at its gap
 pub record IsOnStairs (net : PricedNetwork) (s : Sheet) : Type 0 where
   pub falling : (a : ℕ) → a < length net.network.arcs → IsFalling (stair_at net a)

@@ -1,4 +1,4 @@
--- What a column of all accounts comes to: that column of what all entries come to.
+-- The sum of a column over all accounts: that column of the sum of all entries.
 use Rattle.std.proofs.Common.{◌≡◌, ℕ, zero, suc, ◌+◌, ◌<◌, ◌≤◌, List, length, take, replicate, slice_index, get_or, refl, sym, ap, ◌∙◌, subst, arith}
 use Rattle.std.specs.Prelude.{ℤ, pos, ◌+ℤ◌, sum_by}
 use Rattle.std.proofs.lemmas.Int.{ints}
@@ -31,11 +31,11 @@ use Rattle.pc_rollup.proofs.ColumnLaws.{column_at}
 use Rattle.pc_rollup.proofs.WholeLaws.{some_item}
 use Rattle.pc_rollup.proofs.lemmas.figures.SumLaws.{column_is, levels_are_whole, lines_are_whole}
 
--- a column of what an entry has
+-- a column of an entry
 abbrev column_of_entry : ℕ → Entry → ℤ
 column_of_entry c entry = amount_at (summary_columns (amounts_of entry)) c
 
--- no entries come to nothing
+-- no entries add up to zero
 none_of : (c : ℕ) (entries : List Entry) → column_of_entry c (entry_of_all (take 0 entries)) ≡ pos 0
 none_of zero entries = refl
 none_of (suc zero) entries = refl
@@ -107,7 +107,7 @@ top_known tree order accounts entries amounts sound preorder sums =
     let long = length-map amounts (λ (a : SummaryAmounts). amount_at (summary_columns a) 0) in
     omega (arith, preorder.range 0 (some_item tree order sound preorder), (sums 0).one_each)
 
--- sums by item, and what the top has at each of so many levels
+-- sums by item, and the amounts of the top, which each level has
 module _ (tree : List ItemRow) (order : List ℕ) (accounts : List AcctRow) (entries : List Entry) (amounts : List SummaryAmounts) (whole : SummaryAmounts) (depth : ℕ)
     (ranged : AreInRange tree) (sound : IsTree tree) (preorder : IsPreorder tree order) (deep : IsDepth tree depth) (on_tree : AreOnTree tree accounts)
     (one_each : length entries ≡ length accounts) (sums : AreSumsByItem summary_columns tree accounts (account_at entries) amounts)

@@ -1,4 +1,4 @@
--- How an outlook is made of what activities cost and of the budgets of packages without activities.
+-- How an outlook is made from the costs of activities and the budgets of packages without activities.
 use Rattle.std.proofs.Common.{◌≡◌, ◌≢◌, ℕ, zero, suc, ◌+◌, ◌-◌, ◌<◌, ◌≤◌, ◌^◌, ◌⊎◌, inl, inr, ⊎_elim, Bool, true, false, IsTrue, ◌↔◌, List, cond, ltb}
 use Rattle.std.proofs.Common.{length, slice_index, set, refl, sym, ap, ◌∙◌, subst, get_or-set_same, get_or-set_other, length-set, arith}
 use Rattle.std.specs.Prelude.{ℤ, pos, ◌+ℤ◌, unsigned_abs}
@@ -114,7 +114,7 @@ marks_more items places n x marks so_far place known = record {
 
 -- What accounts and activities add
 
--- where each account and each activity stands, and what it adds
+-- the item of each account and each activity, and what it adds
 module _ (marks : List Bool) (places : List ℕ) (cost : ℕ → ℕ) (accounts : List AcctRow) (entries : List Entry) where
   abbrev pub account_adds : ℕ → OutlookAmounts
   account_adds b = account_outlook (mark_at marks (item_of accounts b)) (entry_at entries b)
@@ -298,7 +298,7 @@ module _ (marks : List Bool) (places : List ℕ) (cost : ℕ → ℕ) (accounts 
 
 -- The outlook
 
--- everything stands below the top, so that the top has the whole outlook
+-- everything is below the top, so that the top has the complete outlook
 pub whole_at_top : (tree : List ItemRow) (places : List ℕ) (cost : ℕ → ℕ) (accounts : List AcctRow) (entries : List Entry)
     (outlook : Outlook) → AreInRange tree → IsTree tree → StandOnLeaves tree places → AreOnTree tree accounts →
     IsOutlookOf tree places cost accounts entries outlook → HasWholeAtTop tree places cost accounts entries outlook

@@ -1,4 +1,4 @@
--- Lists that are made one element after the other, and answers that may be missing.
+-- Lists that are made one element after the other, and results that may be missing.
 use Rattle.std.proofs.Common.{Result, Ok, Err, IfOk, ◌≡◌, ℕ, ◌+◌, ◌<◌, List, [], ◌∷◌, ◌++◌, length, slice_index_or, sym, subst, ⊎_elim, arith}
 use Rattle.std.proofs.lemmas.Bool.{cases_eq}
 use Rattle.std.proofs.lemmas.List.{get_or_push, get_or_append_left}
@@ -12,7 +12,7 @@ each_more P xs x d n count so_far here k lt =
     (λ ne. let low : k < length xs = omega arith in subst (P k) (sym (get_or_append_left xs (x ∷ []) d k low)) (so_far k (omega arith)))
     (cases_eq k n)
 
--- what follows from an answer follows where there is one
+-- what follows from a result follows if there is one
 pub if_answered : {T E : Type 0} (r : Result T E) (P Q : T → Type 0) → ((v : T) → P v → Q v) → IfOk r P → IfOk r Q
 if_answered (Ok v) P Q follows is = follows v is
 if_answered (Err e) P Q follows is = is

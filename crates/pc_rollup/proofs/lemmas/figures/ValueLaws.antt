@@ -72,7 +72,7 @@ progress_more items places states n x progress o done so_far place known read te
         let other : y ≢ x = λ e. ne (sym e) in
         rw (get_or-set_other progress x y (Some (unwrap_or o true && done)) None other) (progress_there places states n y (progress_at progress y) (λ e. ne (place ∙ e)) (so_far.each y lt))
 
--- what is known of all activities tells whether the package is finished
+-- the progress over all activities shows whether the package is finished
 finished_is : (places : List ℕ) (states : List ActState) (x : ℕ) (o : Option Bool) → IsProgress places states (length places) x o →
     (IsTrue (unwrap_or o false) → IsFinishedPackage places states x)
     × (IsTrue (unwrap_or o false) ⊎ (IsFinishedPackage places states x → ⊥))
@@ -146,7 +146,7 @@ values_are items places states progress accounts entries are known = record {
       (value_of (unwrap_or (progress_at progress (item_of accounts a)) false) (entry_at entries a)) refl (are.each (item_of accounts a) (known a lt)) refl);
 }
 
--- the sums by item of what accounts are worth
+-- the sums by item of the values of accounts
 pub worth_is : (tree : List ItemRow) (places : List ℕ) (states : List ActState) (progress : List (Option Bool)) (accounts : List AcctRow) (entries : List Entry)
     (sums : List WorthAmounts) → AreProgress (length tree) places states (length places) progress → AreOnTree tree accounts →
     AreSumsByItem worth_columns tree accounts (worth_at progress accounts entries) sums →

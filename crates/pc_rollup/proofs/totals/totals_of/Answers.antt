@@ -4,7 +4,7 @@ use Rattle.pc_rollup.proofs.PlacedLaws.{amounts_at_leaves, totals_are}
 use Rattle.pc_rollup.proofs.lemmas.figures.PushLaws.{if_answered}
 use Rattle.pc_rollup.proofs.totals.totals_of.Goals as goal
 
--- the amounts as they are lent
+-- the amounts as they are borrowed
 lent : (items rows : ℕ) (amounts read : List ℤ) (P : ℕ → List ℤ → Type 0) → items ≡ rows → read ≡ amounts → P items amounts → P rows read
 lent items rows amounts read P count same sums = subst (λ (xs : List ℤ). P rows xs) (sym same) (subst (λ (n : ℕ). P n amounts) count sums)
 

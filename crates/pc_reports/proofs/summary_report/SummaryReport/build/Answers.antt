@@ -21,7 +21,7 @@ pub returns-clause-summary : goal.returns-clause-summary
 returns-clause-summary c =
     rw (← c.tree.ensures.tree, ← c.accounts.ensures.accounts, ← c.book.ensures.entries, ← c.entries-entries.ensures.entries) c.in_ok-build.ensures.summary
 
--- what the entries of a project come to is what its accounts and charges do
+-- the sums over the entries of a project are those of its accounts and charges
 of_project : (project : Project) (summary : Summary) → AreMoney (length project.accounts) project.charges →
     AreEntriesOf project.accounts project.charges project.togos project.heading.as_of project.entries →
     CountsOnce project.tree project.accounts (entry_of_all project.entries) summary → ChargesCountOnce project summary
