@@ -17,14 +17,14 @@ use Rattle.pc_cert.proofs.LineLaws.{line_again}
 use Rattle.pc_cert.proofs.LineLengths.{spelling_lacks_end}
 use Rattle.pc_cert.proofs.NumberLemmas.{rest_is}
 
--- what stands behind the code, with the end of the line
+-- the bytes after the code, with the end of the line
 abbrev behind_code : ℕ → Bool → List ℕ → List ℕ
 behind_code time moves more = spaced (decimal time) (spaced (bit_text moves) (10 ∷ more))
 
 spelled_behind : (code more : List ℕ) (time : ℕ) (moves : Bool) → spelling (Event code time moves) ++ 10 ∷ more ≡ (codes "EVENT" ++ 32 ∷ code) ++ behind_code time moves more
 spelled_behind code more time moves = simp append_assoc
 
--- the bytes up to behind the code
+-- the bytes up to the end of the code
 pub front_of : (code tail : List ℕ) → take (length code + 6) ((codes "EVENT" ++ 32 ∷ code) ++ tail) ≡ codes "EVENT" ++ 32 ∷ code
 front_of code tail =
     let front = codes "EVENT" ++ 32 ∷ code in
@@ -47,7 +47,7 @@ spelled_again line piece more used fits whole long =
       read = ap line_of before ∙ line_again line fits;
     }
 
--- behind the front of an event's line stands a time, and what stands behind the line is a part of the piece
+-- after the front of an event's line comes a time, and what follows the line is a part of the piece
 pub record IsReadBehind (n : ℕ) (piece rest more : List ℕ) (time : ℕ) : Type 0 where
   pub behind : drop n piece ≡ spaced (decimal time) rest
   pub within : length more ≤ length piece
@@ -61,7 +61,8 @@ read_behind n piece rest more time moves text last =
       within = omega (arith, ap length behind, ap length last, length-append (decimal time) rest, length-append (bit_text moves) (10 ∷ more), length-drop n piece);
     }
 
--- behind the front of an event's line stand a time, a bit and the end of the line; the name that is read of the event is its code
+-- after the front of an event's line come a time, a bit and the end of the line; the name that is read of the event is
+-- its code
 pub event_comes : (code name known piece rest more : List ℕ) (time : ℕ) (moves : Bool) → name ≡ code → IsCode name → IsEventFront code known
     → take (length name + 6) piece ≡ take (length name + 6) known → IsReadBehind (length name + 6) piece rest more time → IsSmall time
     → rest ≡ spaced (bit_text moves) (10 ∷ more) → IsAgain (Some (Event code time moves)) piece (length piece - length more)

@@ -1,4 +1,4 @@
--- Bits of a line, and what stands behind them.
+-- Bits of a line, and the bytes after them.
 use Rattle.std.proofs.Common.{◌≡◌, ℕ, Bool, true, false, cond, List, ◌⊎◌, inl, inr, Some, None, refl, ap, ◌∙◌, arith}
 use Rattle.std.proofs.lemmas.Slice.Eq.{bytes_eq-Decides}
 use Rattle.std.specs.Prelude.{codes, bytes_eq}
@@ -11,7 +11,7 @@ bit_cases true one_read bit e = inl (refl, cc)
 bit_cases false true bit e = inr (refl, cc)
 bit_cases false false bit e = absurd cc
 
--- a bit that is read is spelled behind a space
+-- a bit that is read is written after a space
 bit_takes : (word : List ℕ) (bit : Bool) → bit_of word ≡ Some bit → word ≡ bit_text bit
 bit_takes word bit e =
     elim (bit_cases (bytes_eq word (codes "0")) (bytes_eq word (codes "1")) bit e) [

@@ -58,7 +58,7 @@ full {flows = flows} {rest = rest} h all some =
     let room : 6 - length flows ≡ 0 = omega arith in
     sym (full_at flows rest some) ∙ ap (λ n. with_front flows (numbers_in n rest)) (sym room) ∙ h.whole
 
--- what is no number ends the reading
+-- a word that is no number ends the reading
 pub stopped : {fields flows rest : List ℕ} → IsReadingFlows fields flows rest → length rest ≢ 0 → number_field MAX_DIGITS rest ≡ None → None ≡ flows_of fields
 stopped {flows = flows} {rest = rest} h some found = sym (stop (6 - length flows) flows rest some found) ∙ h.whole
 

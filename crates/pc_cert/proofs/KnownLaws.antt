@@ -10,7 +10,7 @@ use Rattle.pc_cert.proofs.LineLaws.{line_takes}
 use Rattle.pc_cert.proofs.LineLengths.{spelling_lacks_end}
 use Rattle.pc_cert.specs.inside.Known.{AreCells, IsAgain}
 
--- the piece begins with the bytes that are kept of the line
+-- the piece begins with the stored bytes of the line
 pub comes_again : (line : Option CertLine) (cells piece : List ℕ) (len : ℕ) → AreCells cells len line → len ≤ length piece → take len piece ≡ take len cells → 0 < len → IsAgain line piece len
 comes_again line cells piece len are within same some =
     let kept = are.kept some in
@@ -32,7 +32,7 @@ no_end_in (Some line) text some is =
     subst (λ t. Lacks 10 t) (sym (spelled.0)) (spelling_lacks_end line (spelled.1))
 no_end_in None text some is = absurd cc
 
--- the cells keep the bytes of a line, and its end behind them
+-- the cells have the bytes of a line, and its end after them
 pub kept_cells : (line : Option CertLine) (text part cells : List ℕ) → part ≡ text → length cells ≡ 64 → length text < 64 → IsSome line →
     line ≡ line_of text → AreCells (set (part ++ drop (length text) cells) (length text) 10) (length text + 1) line
 kept_cells line text part cells same room short some is =

@@ -20,7 +20,7 @@ use Rattle.pc_cert.proofs.FieldLemmas.{bit_field_takes, bit_field_again}
 use Rattle.pc_cert.proofs.NumberLemmas.{limit}
 use Rattle.pc_cert.specs.declared.number.TheConstants.{MAX_DIGITS}
 
--- the word and the fields are those of the line, which can be spelled
+-- the word and the fields are those of the line, which can be written
 abbrev IsLine : List ℕ → List ℕ → CertLine → Type 0
 IsLine word fields line = IsSpelled spelling IsWritable word fields line
 
@@ -234,7 +234,7 @@ act_again code duration flows h =
       flows_again flows (h.2) (h.4),
     ) (unless_again (ltb (length flows) 2) (Some (Act code duration flows)) (le-ltb _ _ (h.3)))
 
--- ---- the whole line
+-- ---- the complete line
 
 line_with_takes : (word fields : List ℕ) (line : CertLine) → line_with word fields ≡ Some line → IsLine word fields line
 line_with_takes word fields line =
@@ -251,14 +251,14 @@ line_with_takes word fields line =
     (either reads word (codes "END") _ _ line (by (codes "END") fields End line refl tt)
     (no_name reads word line)))))))))
 
--- what is read is spelled so
+-- a line that is read has this text
 pub line_takes : (bytes : List ℕ) (line : CertLine) → line_of bytes ≡ Some line → (bytes ≡ spelling line) × IsWritable line
 unfolding line_of
 line_takes bytes line e =
     let spelled = line_with_takes (take (run_len 32 bytes) bytes) (drop (run_len 32 bytes) bytes) line e in
     (sym (take-append-drop (run_len 32 bytes) bytes) ∙ spelled.text, spelled.fits)
 
--- what is spelled so is read
+-- the text of a line is read as this line
 pub line_again : (line : CertLine) → IsWritable line → line_of (spelling line) ≡ Some line
 unfolding line_of
 line_again (Head version project events activities) h = head_again version project events activities h

@@ -1,4 +1,4 @@
--- A line's spelling has no end of a line in it, and fewer than 192 bytes.
+-- A line's text has no end of a line in it, and fewer than 192 bytes.
 use Rattle.std.proofs.Common.{◌≡◌, ℕ, ◌+◌, ◌*◌, ◌<◌, ◌≤◌, Bool, true, false, not, List, [], ◌∷◌, ◌++◌, length, refl, arith, length-append}
 use Rattle.std.proofs.lemmas.Bool.Decides.{nat_tests}
 use Rattle.std.proofs.lemmas.Fmt.{length-decimal-le}
@@ -17,7 +17,7 @@ Lacks-append : (byte : ℕ) (xs ys : List ℕ) → Lacks byte xs → Lacks byte 
 Lacks-append byte [] ys p q = q
 Lacks-append byte (x ∷ xs) ys p q = (p.0, Lacks-append byte xs ys (p.1) q)
 
--- a text without an end of a line in it, of at most so many bytes
+-- a text without an end of a line in it, of at most `room` bytes
 record IsShort (room : ℕ) (text : List ℕ) : Type 0 where
   open_text : Lacks 10 text
   within : length text ≤ room
@@ -60,7 +60,7 @@ all (n ∷ ns) h =
 wider : {room : ℕ} {text : List ℕ} → IsShort room text → room ≤ 191 → IsShort 191 text
 wider p h = record { open_text = p.open_text; within = omega (arith, p.within, h) }
 
--- the spelling of a line
+-- the text of a line
 spelling_is_short : (line : CertLine) → IsWritable line → IsShort 191 (spelling line)
 spelling_is_short (Head version project events activities) h =
     wider (then (word (codes "CERT") 4 refl (omega arith))

@@ -1,4 +1,4 @@
--- Lists of what the numbers below a count give.
+-- Lists of the values of a function at the numbers below a count.
 use Rattle.std.proofs.Common.{◌≡◌, ℕ, ◌+◌, ◌<◌, zero, suc, [], ◌∷◌, ◌++◌, length, refl, sym, ap, ◌∙◌, inl, inr, arith, add-one, length-append}
 use Rattle.std.proofs.lemmas.Bool.{cases_eq}
 use Rattle.std.proofs.Math.ListN.{get_or-append}
@@ -21,12 +21,12 @@ listed-at (suc n) each i d lt = elim (cases_eq i n) [
       get_or-append (listed n each) (each n ∷ []) d i (omega (arith, length-listed n each)) ∙ listed-at n each i d (omega arith)
 ]
 
--- the one behind them
+-- the element after them
 pub listed-last : {A : Type 0} (n : ℕ) (each : ℕ → A) (last d : A) → slice_index_or (listed n each ++ last ∷ []) n d ≡ last
 listed-last n each last d =
     ap (λ k. slice_index_or (listed n each ++ last ∷ []) k d) (sym (length-listed n each)) ∙ get_or-append_seam (listed n each) last [] d
 
--- the i-th of them, where one stands behind them
+-- the i-th of them, with one element after them
 pub listed-before : {A : Type 0} (n : ℕ) (each : ℕ → A) (i : ℕ) (last d : A) → i < n → slice_index_or (listed n each ++ last ∷ []) i d ≡ each i
 listed-before n each i last d lt =
     get_or-append (listed n each) (last ∷ []) d i (omega (arith, length-listed n each)) ∙ listed-at n each i d lt

@@ -13,7 +13,7 @@ use Rattle.pc_cert.specs.inside.Number.{AreDigitsAt}
 use Rattle.pc_cert.specs.inside.Lines.{IsNumberAt}
 use Rattle.pc_cert.specs.declared.number.TheConstants.{MAX_DIGITS}
 
--- numbers of so many digits can be read
+-- numbers of this many digits can be read
 pub limit : IsLimit MAX_DIGITS
 limit = record { some = omega arith; fits = omega arith }
 
@@ -61,12 +61,12 @@ digits_spell bytes number count are plain =
 pub rest_is : (n : ℕ) (piece : List ℕ) → take (length piece - n) (drop n piece) ≡ drop n piece
 rest_is n piece = take_all (length piece - n) (drop n piece) (omega (arith, length-drop n piece))
 
--- the bytes behind a space
+-- the bytes after a space
 pub behind_space : (bytes : List ℕ) → 0 < length bytes → get_or bytes 0 0 ≡ 32 → bytes ≡ 32 ∷ take (length bytes - 1) (drop 1 bytes)
 behind_space [] some is = absurd (omega arith)
 behind_space (b ∷ bs) some is = ap (λ x. x ∷ bs) is ∙ ap (λ t. 32 ∷ t) (sym (rest_is 1 (b ∷ bs)))
 
--- behind a space stand digits that are not padded, and the rest
+-- after a space come digits that are not padded, and the rest
 pub number_is : (bytes rest behind : List ℕ) (number count : ℕ) → bytes ≡ 32 ∷ rest → AreDigitsAt rest number count → is_unpadded 18 (take count rest) ≡ true →
     behind ≡ take (length rest - count) (drop count rest) → IsNumberAt bytes number behind
 number_is bytes rest behind number count spaced_is are plain is =

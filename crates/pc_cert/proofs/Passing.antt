@@ -1,10 +1,10 @@
--- A line that is read without being kept.
+-- A line that is read without being stored.
 use Rattle.std.specs.Prelude.{◌≡◌, ℕ, ◌+◌, ◌<◌, ◌≤◌, List, [], ◌∷◌, ◌++◌, length, take, Some, None}
 use Rattle.pc_cert.specs.declared.line.CertLine.{CertLine}
 use Rattle.pc_cert.specs.Grammar.{next}
 use Rattle.pc_cert.specs.inside.Reader.{Reading, StandsFor}
 
--- a reader has gone on behind the line at the front of a piece, of which it used so many bytes: it stands for one line more
+-- a reader has moved past the line at the front of a piece, with `count` bytes used: it has one line more
 pub record PassesLine (line : CertLine) (piece : List ℕ) (count : ℕ) (old new : Reading) : Type 0 where
   pub some : 0 < count
   pub within : count ≤ length piece

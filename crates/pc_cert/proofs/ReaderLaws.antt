@@ -1,4 +1,4 @@
--- What a reader stands for after a piece.
+-- The state of a reader after a piece.
 use Rattle.std.proofs.Common.{◌≡◌, ℕ, ◌+◌, ◌-◌, ◌<◌, ◌≤◌, zero, suc, List, [], ◌∷◌, ◌++◌, length, take, drop, inl, inr, Option, Some, None}
 use Rattle.std.proofs.Common.{Result, Ok, Err, refl, sym, ap, subst, ◌∙◌, append_assoc, append-nil, arith, add-one, length-append}
 use Rattle.std.proofs.lemmas.Bool.Decides.{eqb_tells}
@@ -22,13 +22,13 @@ use Rattle.pc_cert.specs.inside.Known.{IsAgain}
 use Rattle.pc_cert.proofs.Passing.{PassesLine}
 use Rattle.pc_cert.specs.declared.reader.Malformed.{Malformed}
 
--- the line that bytes spell, where it may stand in this place, and the place behind it
+-- the line in these bytes, if it is allowed in this place, and the place after it
 abbrev pub arrived : Place → List ℕ → Option (CertLine × Place)
 arrived place bytes = line_of bytes >>= (λ line. next place line >>= (λ behind. Some (line, behind)))
 
 -- ---- a piece and the first end of a line in it
 
--- what stands before the first `stop` lacks it
+-- the bytes before the first `stop` do not have it
 Lacks-run : (stop k : ℕ) (bytes : List ℕ) → k ≤ run_len stop bytes → Lacks stop (take k bytes)
 Lacks-run stop zero bytes h = tt
 Lacks-run stop (suc k) [] h = tt
@@ -37,7 +37,7 @@ Lacks-run stop (suc k) (b ∷ bs) h = elim (eqb_tells b stop) [
   | inr other ↦ (other.1, Lacks-run stop k bs (omega (arith, rw (other.0) at h)))
 ]
 
--- the bytes up to the first `stop`, that, and the bytes behind it
+-- the bytes up to the first `stop`, that, and the bytes after it
 run_parts : (stop : ℕ) (bytes : List ℕ) → run_len stop bytes < length bytes → take (run_len stop bytes) bytes ++ stop ∷ drop (suc (run_len stop bytes)) bytes ≡ bytes
 run_parts stop [] h = absurd (omega arith)
 run_parts stop (b ∷ bs) h = elim (eqb_tells b stop) [
@@ -58,7 +58,7 @@ Lacks-append byte (x ∷ xs) ys p q = (p.0, Lacks-append byte xs ys (p.1) q)
 
 -- ---- the four ways of a piece
 
--- a reader without a malformed line goes on
+-- a reader without a malformed line continues
 pub going : {malformed : Option Malformed} {place : Place} {number : ℕ} {held : List ℕ} {lines : List CertLine} {text : List ℕ} →
     malformed ≡ None → Stands malformed place number held lines text → IsGoing place number held lines text
 going {malformed} {place} {number} {held} {lines} {text} none h = subst (λ m. Stands m place number held lines text) none h
@@ -104,7 +104,7 @@ not_allowed place bytes none line behind fits is goes =
     let found : arrived place bytes ≡ Some (line, behind) = ap (λ found. found >>= (λ l. next place l >>= (λ b. Some (l, b)))) read ∙ ap (λ found. found >>= (λ b. Some (line, b))) goes in
     none-some (line, behind) (sym none ∙ found)
 
--- the line that ends in the piece may not stand where it does
+-- the line that ends in the piece is not allowed where it is
 refused : {place : Place} {number : ℕ} {held : List ℕ} {lines : List CertLine} {text : List ℕ} (malformed : Malformed) (piece : List ℕ) →
     IsGoing place number held lines text → run_len 10 piece < length piece → arrived place (held ++ take (run_len 10 piece) piece) ≡ None →
     malformed.line ≡ number + 1 → IsStopped malformed lines (text ++ piece)
@@ -126,7 +126,7 @@ refused {place} {number} {held} {lines} {text} malformed piece h ends none line 
       why = inl (held ++ front, Lacks-append 10 held front h.no_end (Lacks-run 10 (run_len 10 piece) piece (omega arith)), refl, not_allowed place (held ++ front) none);
     }
 
--- the line that ends in the piece may stand where it does
+-- the line that ends in the piece is allowed where it is
 accepted : {place : Place} {number : ℕ} {held : List ℕ} {lines : List CertLine} {text : List ℕ} (piece : List ℕ) (line : CertLine)
     (after : Place) → IsGoing place number held lines text → run_len 10 piece < length piece →
     arrived place (held ++ take (run_len 10 piece) piece) ≡ Some (line, after) →
@@ -156,7 +156,7 @@ accepted {place} {number} {held} {lines} {text} piece line after h ends found =
       short = omega arith;
     }
 
--- a line with the place behind it
+-- a line with the place after it
 abbrev arrival : Place → Option CertLine → Option (CertLine × Place)
 arrival place line = line >>= (λ l. next place l >>= (λ b. Some (l, b)))
 
@@ -164,7 +164,7 @@ no_arrival : (place : Place) (line : Option CertLine) → place_behind place lin
 no_arrival place None none = refl
 no_arrival place (Some line) none = ap (λ found. found >>= (λ b. Some (line, b))) none
 
--- what comes of a line that ends in the piece
+-- the result of a line that ends in the piece
 pub passed : (old new : Reading) (held : List ℕ) (line : Option CertLine) (piece : List ℕ) (used : ℕ) (result : Result ℕ Malformed) →
     old.malformed ≡ None → used ≡ run_len 10 piece + 1 → run_len 10 piece < length piece →
     line_of (old.held ++ take (run_len 10 piece) piece) ≡ line → HasPassed line used (record old { held = held }) new result →

@@ -11,11 +11,11 @@ use Rattle.pc_cert.specs.Text.{text_of, AreWritable, ran, LeadTo}
 use Rattle.pc_cert.proofs.LineLaws.{line_again}
 use Rattle.pc_cert.proofs.LineLengths.{spelling_lacks_end}
 
--- two lines with one spelling are one line
+-- two lines with one text are one line
 pub spelling_once : (a b : CertLine) → IsWritable a → IsWritable b → spelling a ≡ spelling b → a ≡ b
 spelling_once a b p q same = let read : Some a ≡ Some b = sym (line_again a p) ∙ ap line_of same ∙ line_again b q in cc
 
--- two texts that go on behind their first `stop` have the same front and the same rest
+-- two texts that continue after their first `stop` have the same front and the same rest
 pub split_once : (stop : ℕ) (a b x y : List ℕ) → Lacks stop a → Lacks stop b → a ++ stop ∷ x ≡ b ++ stop ∷ y → (a ≡ b) × (x ≡ y)
 split_once stop [] [] x y p q same = (refl, cc)
 split_once stop [] (d ∷ b) x y p q same = absurd (q.0 (let e : stop ≡ d = cc in sym e))
@@ -62,7 +62,7 @@ LeadTo-more {place} {behind} {lines} line led fits goes = record {
   order = ran-append Start lines (line ∷ []) ∙ ap (λ found. found >>= (λ at. ran at (line ∷ []))) led.order ∙ ap (λ found. found >>= (λ at. ran at [])) goes;
 }
 
--- no text is that of two lists of lines with rests that have no whole line
+-- no text is that of two lists of lines with rests that have no complete line
 pub text_once : (xs ys : List CertLine) (a b : List ℕ) → AreWritable xs → AreWritable ys → Lacks 10 a → Lacks 10 b → text_of xs ++ a ≡ text_of ys ++ b → (xs ≡ ys) × (a ≡ b)
 text_once [] [] a b p q open_a open_b same = (refl, same)
 text_once [] (y ∷ ys) a b p q open_a open_b same = absurd (lacks_no_stop 10 (spelling y) a (text_of ys ++ b) open_a (sym (append_assoc (spelling y) (10 ∷ text_of ys) b) ∙ sym same))

@@ -50,7 +50,7 @@ text_of-more n line = sym (ap text_of (listed-more n line) ∙ text_of-append (l
 pub text_of-map : (line : ℕ → CertLine) (walk more : List ℕ) (a : ℕ) → more ≡ walk ++ a ∷ [] → text_of (map line walk) ++ text_of (line a ∷ []) ≡ text_of (map line more)
 text_of-map line walk more a is = sym (ap (λ w. text_of (map line w)) is ∙ ap text_of (map-append line walk (a ∷ [])) ∙ text_of-append (map line walk) (line a ∷ []))
 
--- two lists of lines, with a line before and one behind
+-- two lists of lines, with a line before and one after
 pub text_of-between : (first : CertLine) (lines others : List CertLine) (last : CertLine) →
     text_of (first ∷ []) ++ (text_of lines ++ text_of others) ++ text_of (last ∷ []) ≡ text_of (first ∷ (lines ++ (others ++ last ∷ [])))
 text_of-between first lines others last = simp (text_of-append, append_assoc)

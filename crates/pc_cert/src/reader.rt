@@ -99,7 +99,7 @@ impl CertReader {
     /// same.
     pub fn feed(&mut self, piece: &[u8]) -> Result<Fed, Malformed>
         requires { IfNone self.old.malformed (self.old.lines < 2 ^ 63) }
-        // a reader that stood for these lines of this text stands for them with what was given and used
+        // a reader in the state after these lines of this text is then in the state with what was given and used added
         ensures stands { (lines : List CertLine) (text : List ℕ) → StandsFor self.old lines text
             → StandsFor self.new (lines ++ given result) (text ++ used result piece.now) }
         ensures within { IfOk result (λ fed. fed.used ≤ length piece.now) }

@@ -1,4 +1,4 @@
--- At the end of a whole segment the conditions hold: what was written of it adds up to what it says.
+-- At the end of a complete segment the conditions hold: the sums over its lines are what it states.
 use Rattle.std.proofs.Common.{◌≡◌, ℕ, ◌+◌, ◌<◌, true, length, inl, inr, refl, sym, ap, ◌∙◌, subst, arith, pos}
 use Rattle.std.proofs.lemmas.Bool.{eq-eqb, lt-ltb, and_from, or_left, or_right}
 use Rattle.std.proofs.lemmas.Int.{ints}
@@ -22,7 +22,7 @@ use Rattle.pc_certify.proofs.RowLaws.{act_row, part_of, event_is, act_is, flow_i
 use Rattle.pc_certify.specs.Rows.{SaySame}
 use Rattle.pc_certify.proofs.SameLaws.{MoveSame, forward_by-same, backward_by-same, stops_in-same}
 
--- what is read back of a segment says the same
+-- a segment that is read back states the same
 pub says_same : (net : PricedNetwork) (seg : Segment) → SaySame net seg (segment_in net (part_of net seg))
 says_same net seg = record {
   upper = refl;
@@ -105,7 +105,7 @@ module _ (net : PricedNetwork) (priced : IsPriced net.network net.terms (knees_i
       some_below-finds (length (part_of net seg).acts) (stops_in net (segment_in net (part_of net seg))) (found.0) (omega (arith, found.1, all_acts))
       (stops_in-same net priced.range seg (segment_in net (part_of net seg)) (moves_same net seg) (found.0) (found.1) ∙ found.2)
 
-  -- behind all rows of a whole segment
+  -- after all rows of a complete segment
   pub ends : (draft : Draft) → draft.part ≡ part_of net seg → IsSegment net.network net.terms (knees_in net) seg → Closes net (said net draft)
   ends draft is whole = subst (λ (part : Part). Closes net (said net (record draft { part = part }))) (sym is) (record {
     conserved = λ e lt not_start not_end. same_flow_at (to_of net.network.arcs) e lt ∙ whole.right.conserved e lt not_start not_end ∙ sym (same_flow_at (from_of net.network.arcs) e lt);

@@ -1,4 +1,4 @@
--- A solver on its way down: the segments that it gave so far are a front of the curve, and at its end the whole of it.
+-- A solver on its way down: the segments that it gave so far are a front of the curve, and at its end all of it.
 use Rattle.std.proofs.Common.{◌≡◌, ℕ, ◌<◌, Bool, true, false, List, [], ◌∷◌, ◌++◌, length, refl, sym, ap, ◌∙◌, subst, inl, inr, arith}
 use Rattle.std.specs.Prelude.{if◌then◌else◌, ◌+◌, ◌-◌, ◌≤◌}
 use Rattle.std.proofs.lemmas.Bool.{cases_Bool, cases_lt}
@@ -146,7 +146,7 @@ module _ (net : PricedNetwork) (c d : Course) (segments : List Segment) (has : H
             omega (arith, last, one, next.first none, has.top none, same.shortest)
       ]
 
--- where the solver has ended, the front comes down to the all-crash length
+-- if the solver has ended, the front reaches down to the all-crash length
 pub given-all : (net : PricedNetwork) (c : Course) (segments : List Segment) → HasGiven net c segments → HasEnded c
     → IsFront net.network net.terms (knees_in net) segments c.longest c.shortest
 given-all net c segments has ended =

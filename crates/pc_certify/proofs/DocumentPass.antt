@@ -1,4 +1,4 @@
--- None of the lines of a certificate fails that is written of whole segments which join.
+-- No line of a certificate fails that is written of complete segments which join.
 use Rattle.std.proofs.Common.{◌≡◌, ℕ, ◌<◌, ◌≤◌, true, false, not, ◌&&◌, ◌||◌, List, [], ◌∷◌, ◌++◌, length, None, refl, sym, ap, ◌∙◌, subst, arith, inl, inr, append_assoc, append-nil, length-append}
 use Rattle.std.proofs.lemmas.Bool.{eq-eqb, eqb-true, lt-ltb, ne_eqb, cond-true, cond-false, cases_eq, and_from, or_left, or_right}
 use Rattle.std.proofs.lemmas.List.Elements.{recursion_from_All}
@@ -90,7 +90,7 @@ module _ (net : PricedNetwork) (priced : IsPriced net.network net.terms (knees_i
       holds refl) (Pass-nil net draft) in
       record { none = passes.none; says = refl }
 
-  -- behind a whole segment come the others and the end
+  -- after a complete segment come the others and the end
   rest_pass : (done : List Part) (last : Segment) (rest : List Segment) (high low : ℕ) → 0 < length done → Joins high (last ∷ rest) low
       → (0 < length rest → ByRecursion IsLong (last ∷ rest)) → ByRecursion (IsSegment net.network net.terms (knees_in net)) rest → IsThrough net.network (crashes net.terms) crash low
       → PassTo net (in_body (codes_of net normal) (codes_of net crash) done (part_of net last)) (flat_map (segment_lines net) rest ++ end_lines) (done ++ map (part_of net) rest)

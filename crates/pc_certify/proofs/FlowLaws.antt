@@ -1,4 +1,4 @@
--- The flows of an activity are those that its whole flow makes.
+-- The flows of an activity are those into which its total flow is distributed.
 use Rattle.std.proofs.Common.{◌≡◌, ℕ, ◌<◌, [], ◌∷◌, ◌++◌, sym}
 use Rattle.pc_laws.specs.Segment.{Segment}
 use Rattle.pc_laws.specs.Stair.{stair_of, knee_flow, crash_flow}
@@ -7,7 +7,7 @@ use Rattle.pc_cert.specs.Document.{flows_along}
 use Rattle.pc_certify.specs.inside.Spelled.{filled_along}
 use Rattle.pc_cert.proofs.ListedLaws.{listed-same}
 
--- what flows at each knee and beside them is what the whole flow makes, so the list is the same
+-- the flows at the knees and on the crash duration follow from the total flow, so the list is the same
 pub filled-is : (net : PricedNetwork) (seg : Segment) (a whole : ℕ)
     → ((k : ℕ) → k < (knees_in net).count a → seg.flow a k ≡ knee_flow (stair_of net.terms (knees_in net) a) whole k)
     → seg.beside a ≡ crash_flow (stair_of net.terms (knees_in net) a) whole

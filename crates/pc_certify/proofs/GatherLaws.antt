@@ -1,4 +1,4 @@
--- Lines that go on to a page many at a time.
+-- Lines that are put on a page many at a time.
 use Rattle.std.proofs.Common.{◌≡◌, ℕ, ◌+◌, ◌≤◌, List, [], ◌++◌, length, take, drop, sym, ap, ◌∙◌, subst, arith}
 use Rattle.std.proofs.Common.{append_assoc, append-nil, length-drop, length-take-le, take-add, take-take, take_at, drop_at}
 use Rattle.std.proofs.lemmas.Slice.{take-put_mid}
@@ -28,11 +28,11 @@ Gathers-then {d} {e} {f} {before} {middle} {after} {x} {y} g h = record {
       ∙ append_assoc before x y;
 }
 
--- where nothing was gathered before, and what is gathered now is put, the text was put
+-- if the buffer was empty before, and what it has now is put, the text was put
 pub Gathers-all : {d e f : Desk} {before after text : List ℕ} → before ≡ [] → Gathers d before e after text → Adds e f after → Adds d f text
 Gathers-all {d} {e} {f} {before} {after} {text} none g put = Adds-as text (g.rest ∙ ap (λ l. l ++ text) none) (Adds-then g.put put)
 
--- a line is written over cells, of which a front counts
+-- a line is written over cells, only a front of which counts
 pub placed : (cells word line : List ℕ) (at k n : ℕ) → at + k ≤ length cells → length word ≡ k → n ≤ k → take n word ≡ line → length line ≡ n → IsPlaced cells at line (put_mid at k cells word)
 placed cells word line at k n fits long few is size = record {
   size = same_len_mid at k cells word (omega (arith, long, length-take-le k (drop at cells) (omega (arith, length-drop at cells))));

@@ -98,7 +98,7 @@ segment_order net seg place goes =
     (omega arith))
     (ran-then (InSegment (shape_of net) 0 (length net.network.arcs)) acts (Close ∷ []) (acts_order net seg (length net.network.arcs) (length net.network.arcs) 0 (omega arith)) refl))
 
--- ---- the whole certificate
+-- ---- the complete certificate
 
 rest_order : (net : PricedNetwork) (segments : List Stretch) → ran (Between (shape_of net)) (flat_map (segment_lines net) segments ++ end_lines) ≡ Some Ended
 rest_order net [] = refl

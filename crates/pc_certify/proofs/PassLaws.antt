@@ -1,4 +1,4 @@
--- Lines of which none fails, put together.
+-- Lines none of which fails, put together.
 use Rattle.std.proofs.Common.{◌≡◌, ℕ, ◌+◌, Bool, true, false, cond, List, [], ◌∷◌, ◌++◌, Option, Some, None, refl, sym, ap, ◌∙◌, subst}
 use Rattle.std.specs.Prelude.{fold}
 use Rattle.pc_cert.specs.declared.line.CertLine.{CertLine}
@@ -8,7 +8,7 @@ use Rattle.pc_check.specs.Draft.{Part, Draft, with_line}
 use Rattle.pc_check.specs.Failures.{reason_at, or_later, failure_after}
 use Rattle.pc_check.proofs.GoodLines.{none_parts}
 
--- none of the lines fails, where those before them say so much, and behind them so much is said
+-- none of the lines fails, given the lines before them, and `behind` is the draft after them
 pub record Pass (net : PricedNetwork) (draft : Draft) (lines : List CertLine) (behind : Draft) : Type 0 where
   pub none : (number : ℕ) → failure_after net draft number lines ≡ None
   pub says : fold with_line draft lines ≡ behind
@@ -20,7 +20,7 @@ or_none : (number : ℕ) (reason : Option ℕ) (later : Option Fail) → reason 
 or_none number None later h none = none
 or_none number (Some reason) later h none = absurd cc
 
--- a line and those behind it
+-- a line and those after it
 pub Pass-cons : {net : PricedNetwork} {draft behind : Draft} (line : CertLine) (lines : List CertLine) → reason_at net draft line ≡ None →
     Pass net (with_line draft line) lines behind → Pass net draft (line ∷ lines) behind
 Pass-cons {net} {draft} {behind} line lines passes h = record {
@@ -31,7 +31,7 @@ Pass-cons {net} {draft} {behind} line lines passes h = record {
 pub Pass-one : (net : PricedNetwork) (draft : Draft) (line : CertLine) → reason_at net draft line ≡ None → Pass net draft (line ∷ []) (with_line draft line)
 Pass-one net draft line passes = Pass-cons line [] passes (Pass-nil net (with_line draft line))
 
--- what is said, under another name
+-- the same draft under another name
 pub Pass-as : {net : PricedNetwork} {draft behind : Draft} {lines : List CertLine} (other : Draft) → behind ≡ other → Pass net draft lines behind → Pass net draft lines other
 Pass-as {net} {draft} {behind} {lines} other same h = record { none = h.none; says = h.says ∙ same }
 
@@ -48,7 +48,7 @@ says_then : (draft : Draft) (lines others : List CertLine) → fold with_line dr
 says_then draft [] others = refl
 says_then draft (line ∷ lines) others = says_then (with_line draft line) lines others
 
--- lines and those behind them
+-- lines and those after them
 pub Pass-then : {net : PricedNetwork} {draft middle behind : Draft} (lines others : List CertLine) → Pass net draft lines middle →
     Pass net middle others behind → Pass net draft (lines ++ others) behind
 Pass-then {net} {draft} {middle} {behind} lines others h later = record {
@@ -56,7 +56,7 @@ Pass-then {net} {draft} {middle} {behind} lines others h later = record {
   says = says_then draft lines others ∙ ap (λ d. fold with_line d others) h.says ∙ later.says;
 }
 
--- none of the lines fails, and behind them these segments are whole
+-- none of the lines fails, and after them these segments are complete
 pub record PassTo (net : PricedNetwork) (draft : Draft) (lines : List CertLine) (segments : List Part) : Type 0 where
   pub none : (number : ℕ) → failure_after net draft number lines ≡ None
   pub says : (fold with_line draft lines).segments ≡ segments

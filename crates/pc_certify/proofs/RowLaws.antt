@@ -1,4 +1,4 @@
--- The rows that are written of a whole segment are right.
+-- The rows that are written of a complete segment are right.
 use Rattle.std.proofs.Common.{◌≡◌, ℕ, ◌+◌, ◌<◌, ◌≤◌, Bool, true, false, [], ◌∷◌, length, sym, ap, ◌∙◌, subst, arith, inl, inr, length-append}
 use Rattle.std.proofs.lemmas.Bool.{cases_eq}
 use Rattle.std.specs.Prelude.{slice_index}
@@ -34,7 +34,7 @@ part_of net seg = record {
   acts = listed (length net.network.arcs) (act_row net seg);
 }
 
--- ---- what is read back of the rows
+-- ---- the rows as they are read back
 
 module _ (net : PricedNetwork) (seg : Segment) where
   pub event_is : (e : ℕ) → e < net.network.events → event_at (listed net.network.events (event_row net seg)) e ≡ event_row net seg e

@@ -1,4 +1,4 @@
--- Segments of which each event has the same time and moves alike have the same gaps.
+-- Two segments have the same gaps if each event has the same time in both and moves alike.
 use Rattle.std.proofs.Common.{◌≡◌, ℕ, ◌+◌, ◌-◌, ◌<◌, Bool, not, ◌&&◌, ◌||◌, length, ap, ◌∙◌}
 use Rattle.std.specs.Prelude.{◌==◌, nat_lt, min, if◌then◌else◌}
 use Rattle.pc_model.specs.Sums.{sum_to}

@@ -1,4 +1,4 @@
--- None of the lines that are written of a whole segment fails.
+-- None of the lines that are written of a complete segment fails.
 use Rattle.std.proofs.Common.{◌≡◌, ℕ, ◌<◌, ◌≤◌, zero, suc, true, List, [], ◌∷◌, ◌++◌, length, None, refl, sym, ap, subst, arith}
 use Rattle.std.specs.Prelude.{◌==◌}
 use Rattle.pc_model.specs.Codes.{text_at}
@@ -22,15 +22,15 @@ use Rattle.pc_certify.proofs.HoldLaws.{event_holds, act_holds, close_holds}
 use Rattle.pc_certify.proofs.SameLaws.{MoveSame}
 use Rattle.pc_certify.proofs.CloseLaws.{ends}
 
--- what is said among the segments: the two walks, the segments that are whole, and the last one that has begun
+-- the draft among the segments: the two walks, the segments that are complete, and the last one that has begun
 abbrev pub in_body : List (List ℕ) → List (List ℕ) → List Part → Part → Draft
 in_body normal crash segments part = record { normal = normal; crash = crash; crash_walk_started = true; segments = segments; part = part }
 
--- the part of a segment of which so many events have come, and no activity
+-- the part of a segment after this many events, and no activity
 abbrev pub events_part : PricedNetwork → Segment → ℕ → Part
 events_part net seg j = record (begun_part seg.upper seg.lower seg.cost seg.slope) { events = listed j (event_row net seg) }
 
--- the part of a segment of which all events have come, and so many activities
+-- the part of a segment after all events, and this many activities
 abbrev pub acts_part : PricedNetwork → Segment → ℕ → Part
 acts_part net seg j = record (part_of net seg) { acts = listed j (act_row net seg) }
 

@@ -1,4 +1,4 @@
--- The numbers of the whole segments of a project have at most 18 digits.
+-- The numbers of the complete segments of a project have at most 18 digits.
 use Rattle.std.proofs.Common.{◌≡◌, ℕ, ◌+◌, ◌-◌, ◌*◌, ◌^◌, ◌<◌, ◌≤◌, Bool, true, false, List, [], ◌∷◌, length, arith, mul_comm}
 use Rattle.std.proofs.Math.Nat.{mul-le-mul_left, mul-le-mul_right}
 use Rattle.std.proofs.lemmas.List.Elements.{recursion_from_All, All-from_recursion}
@@ -24,7 +24,7 @@ use Rattle.pc_crash.specs.Terms.{AreWithinLimits}
 use Rattle.pc_cert.specs.Document.{HasSmallNumbers}
 use Rattle.pc_certify.specs.Complete.{IsThrough, IsComplete}
 
--- what is known of a priced network and its size
+-- what holds of a priced network and its size
 pub record IsSized (net : PricedNetwork) : Type 0 where
   pub priced : IsPriced net.network net.terms (knees_in net)
   pub limits : AreWithinLimits net.terms

@@ -1,4 +1,4 @@
--- The lines as they were spelled last.
+-- The lines as they were written last.
 use Rattle.std.proofs.Common.{◌≡◌, ℕ, ◌+◌, ◌≤◌, Bool, List, [], ◌∷◌, ◌++◌, length, take, decimal, sym, ap, ◌∙◌, arith, append_assoc}
 use Rattle.std.specs.Prelude.{codes}
 use Rattle.std.proofs.lemmas.List.{length-append}
@@ -8,7 +8,7 @@ use Rattle.pc_cert.specs.inside.Fields.{bit_text}
 use Rattle.pc_cert.specs.Text.{text_of}
 use Rattle.pc_cert.proofs.EventLaws.{front_of}
 
--- ---- the line of an event, cut behind its code
+-- ---- the line of an event, cut after its code
 
 event_split : (code : List ℕ) (time : ℕ) (moves : Bool) → text_of (Event code time moves ∷ []) ≡ (codes "EVENT" ++ 32 ∷ code) ++ spaced (decimal time) (spaced (bit_text moves) (10 ∷ []))
 event_split code time moves = simp append_assoc
@@ -20,7 +20,7 @@ pub event_long : (code : List ℕ) (time : ℕ) (moves : Bool) → length code +
 event_long code time moves =
     omega (arith, ap length (event_split code time moves), length-append (codes "EVENT" ++ 32 ∷ code) (spaced (decimal time) (spaced (bit_text moves) (10 ∷ []))))
 
--- and spelled anew from there on
+-- and written again from there on
 pub event_rest : (code : List ℕ) (time : ℕ) (moves : Bool) → ((codes "EVENT" ++ 32 ∷ code) ++ spaced (decimal time) []) ++ spaced (bit_text moves) (10 ∷ []) ≡ text_of (Event code time moves ∷ [])
 event_rest code time moves =
     append_assoc (codes "EVENT" ++ 32 ∷ code) (spaced (decimal time) []) (spaced (bit_text moves) (10 ∷ []))

@@ -1,4 +1,4 @@
--- The steps of a through walk come through.
+-- The steps of a through walk pass.
 use Rattle.std.proofs.Common.{◌≡◌, ℕ, ◌+◌, ◌<◌, true, false, List, [], ◌∷◌, ◌++◌, length, Some, None, refl, sym, ap, subst, ◌∙◌, arith, append_assoc, append-nil}
 use Rattle.std.proofs.lemmas.Bool.{eq-eqb, cond-true, and_from}
 use Rattle.std.specs.Prelude.{map, slice_index, ◌==◌}
@@ -54,7 +54,7 @@ module _ (net : PricedNetwork) (names : AreNames (length net.network.arcs) net.a
       subst (λ found. is_through net.network sum found ≡ true) (sym reached)
       (and_from (net.network.end == net.network.end) (0 + walk_sum list walk == sum) (eq-eqb net.network.end net.network.end refl) (eq-eqb (0 + walk_sum list walk) sum whole))
 
--- what is said while the normal walk comes, and while the crash walk does
+-- the draft during the normal walk, and during the crash walk
 abbrev pub in_normal : List (List ℕ) → Draft
 in_normal normal = record { normal = normal; crash = []; crash_walk_started = false; segments = []; part = begun_part 0 0 0 0 }
 

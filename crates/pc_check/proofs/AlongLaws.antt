@@ -1,4 +1,4 @@
--- Rows of one piece that are taken in a loop, beside which the place and the number of lines are counted.
+-- Rows of one piece that are taken in a loop, which counts the place and the number of lines in variables of its own.
 use Rattle.std.proofs.Common.{◌≡◌, ◌≢◌, ℕ, ◌+◌, ◌-◌, ◌<◌, ◌≤◌, List, [], ◌∷◌, length, drop, refl, sym, ap, subst, ◌∙◌, arith}
 use Rattle.pc_model.specs.declared.limits.TheConstants.{MAX_EVENTS, MAX_ACTIVITIES}
 use Rattle.pc_cert.specs.declared.event.EventFront.{EventFront}
@@ -21,11 +21,11 @@ use Rattle.pc_check.proofs.BoundLaws.{Passes, bounded_behind, fewer_behind, line
 use Rattle.pc_check.proofs.RunLaws.{IsRest, all_left, begun, less_left, used_is}
 use Rattle.pc_check.proofs.TakeLaws.{goes_on}
 
--- what is kept behind so many lines more, where the next one stands there
+-- the state after this many lines more, with the next line at this place
 abbrev pub moved_by : Kept → Place → ℕ → Kept
 moved_by kept place count = record kept { place = place; lines = kept.lines + count }
 
--- a reader behind so many lines more
+-- a reader after this many lines more
 abbrev pub read_by : Reading → Place → ℕ → Reading
 read_by reader place count = record reader { place = place; lines = reader.lines + count }
 
@@ -132,7 +132,7 @@ none_taken piece may = record {
   safe = may.safe;
 }
 
--- what was taken behind the loop
+-- what was taken after the loop
 pub along_ends : {net : PricedNetwork} {piece rest : List ℕ} {reader : Reading} {old kept : Kept} {place : Place} {count : ℕ}
     (after : Reading) (there : Place) (final : Kept) → IsAlong net piece rest reader old kept place count
     → there ≡ place → final ≡ kept → after ≡ read_by reader there count → HasAdvanced net piece (length piece - length rest) reader after old (moved_by final there count)

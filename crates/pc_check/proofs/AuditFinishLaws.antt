@@ -11,7 +11,7 @@ use Rattle.pc_check.specs.Failures.{failure_of}
 use Rattle.pc_check.specs.inside.Certified.{Finds as ChecksTo}
 use Rattle.pc_check.specs.Texts.{IsFailing, malformed, missing, Finds}
 
--- a whole text is certified
+-- a complete text is certified
 pub found_whole : (net : PricedNetwork) (lines : List CertLine) (text : List ℕ) (verdict : Verdict) → IsWhole lines text →
     failure_of net lines ≡ None → ChecksTo net lines verdict → Finds net text verdict
 found_whole net lines text (Yes segments) whole none finds = record { lines = lines; whole = whole; none = none; count = finds.1 }

@@ -1,4 +1,4 @@
--- What an audit stands for after a piece.
+-- The state of an audit after a piece.
 use Rattle.std.proofs.Common.{◌≡◌, ℕ, ◌+◌, ◌*◌, ◌^◌, ◌<◌, ◌≤◌, List, [], ◌∷◌, ◌++◌, length, Some, None, refl, sym, ap, subst, ◌∙◌, arith, append_assoc, append-nil, length-append}
 use Rattle.std.proofs.Math.Nat.{mul-le-mul_right}
 use Rattle.std.specs.Prelude.{IfNone}
@@ -21,7 +21,7 @@ use Rattle.pc_check.specs.inside.Checking.{Checking, Stands as CheckStands, Stan
 use Rattle.pc_check.specs.Texts.{IsFailing, fails, malformed}
 use Rattle.pc_check.specs.inside.Auditing.{Auditing, HasRead, IsGoing, bytes_left}
 
--- a reader that goes on, and a checker
+-- a reader that continues, and a checker
 pub reading : (reader : Reading) (lines : List CertLine) (text : List ℕ) → reader.malformed ≡ None → ReadsAs reader lines text → IsReading reader.place reader.lines reader.held lines text
 reading reader lines text none h = subst (λ m. ReadStands m reader.place reader.lines reader.held lines text) none h
 
@@ -44,7 +44,7 @@ may_feed text audit h going =
 next_of_last : (line : CertLine) (place behind : Place) → ran place (line ∷ []) ≡ Some behind → next place line ≡ Some behind
 next_of_last line place behind h = let step = bind_some (next place line) (λ p. ran p []) behind h in step.1 ∙ step.2
 
--- the checker may take the line that was read, and the next one stands where the reader has it
+-- the checker may take the line that was read, and the next one is where the reader has it
 pub may_take : (audit : Auditing) (reader : Reading) (lines : List CertLine) (line : CertLine) (text : List ℕ) → IsGoing audit →
     ChecksAs audit.checker lines → reader.malformed ≡ None → ReadsAs reader (lines ++ line ∷ []) text →
     IfNone audit.checker.fail (next audit.checker.kept.place line ≡ Some reader.place)
@@ -103,7 +103,7 @@ less_behind_line old new going less =
     let more : lines_left new.checker.net new.checker.kept + 1 ≤ lines_left old.checker.net old.checker.kept = omega arith in
     omega (arith, mul-le-mul_right 192 more, going.short)
 
--- the reader and the checker stand at the same place, behind as many lines
+-- the reader and the checker are at the same place, after as many lines
 pub same_place : {text : List ℕ} {audit : Auditing} → IsGoing audit → HasRead text audit → audit.reader.place ≡ audit.checker.kept.place
 same_place {text} {audit} going h =
     same_Some audit.reader.place audit.checker.kept.place

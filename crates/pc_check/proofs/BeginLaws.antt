@@ -1,4 +1,4 @@
--- How many bytes may come of a text of which nothing has come.
+-- How many bytes may come of a text at its beginning.
 use Rattle.std.proofs.Common.{◌≡◌, ℕ, ◌*◌, ◌≤◌, List, [], ◌∷◌, ◌++◌, length, Some, refl, sym, ap, ◌∙◌, arith, append_assoc}
 use Rattle.std.proofs.lemmas.Option.{same_Some}
 use Rattle.pc_cert.specs.declared.line.CertLine.{CertLine}
@@ -12,12 +12,12 @@ use Rattle.pc_check.specs.Auditing.{most_bytes}
 use Rattle.pc_check.specs.inside.Auditing.{Auditing, HasRead, IsGoing, bytes_left}
 use Rattle.pc_check.proofs.AuditLaws.{reading, checking}
 
--- no line stands in an empty text
+-- there is no line in an empty text
 no_lines : (lines : List CertLine) (held : List ℕ) → [] ≡ text_of lines ++ held → lines ≡ []
 no_lines [] held e = refl
 no_lines (line ∷ lines) held e = absurd (lacks_no_stop 10 (spelling line) [] (text_of lines ++ held) tt (sym (append_assoc (spelling line) (10 ∷ text_of lines) held) ∙ sym e))
 
--- the most bytes may still come where nothing has
+-- the most bytes may still come at the beginning
 pub left_at_start : (audit : Auditing) → IsGoing audit → HasRead [] audit → bytes_left audit ≤ most_bytes audit.checker.net
 left_at_start audit going h =
     let n = audit.checker.net.network.events in

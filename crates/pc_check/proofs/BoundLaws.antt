@@ -151,7 +151,7 @@ has_stepped is_crash net code old new added is none = record {
   short_crash = subst (λ b. sum_of new.crash ≤ sum_of old.crash + cond b MAX_DURATION 0) is added.short_crash;
 }
 
--- what is kept at each place fits the place behind the line
+-- the state at each place fits the place after the line
 at_place : (net : PricedNetwork) (place : Place) (line : CertLine) (behind : Place) (old new : Kept)
     → IsAtPlace net.network.events (length net.network.arcs) place old → next place line ≡ Some behind
     → first_failing (conditions net (known_by old) line) ≡ None → Adds net line old new
@@ -298,9 +298,9 @@ fewer_lines net (InSegment shape events activities) Close behind old new h goes 
     less net.network.events (length net.network.arcs) new (ap Some (step.1)) (rw same (omega arith))
 fewer_lines net place line behind old new h goes passes added = absurd (none-some behind goes)
 
--- ---- all that is kept to
+-- ---- all that is preserved
 
--- so many lines are few
+-- the bound on lines is small
 all_few : (n m : ℕ) → n ≤ MAX_EVENTS → m ≤ MAX_ACTIVITIES → lines_of_all n m < 2 ^ 63
 all_few n m few_events few_acts =
     let long : longest_walk n + 1 ≤ 1000000001 = omega arith in
@@ -339,7 +339,7 @@ pub record Passes (net : PricedNetwork) (line : CertLine) (old : Kept) (behind :
   pub goes : next old.place line ≡ Some behind
   pub passes : first_failing (conditions net (known_by old) line) ≡ None
 
--- what is kept to is kept to behind the line, and fewer lines may come
+-- the bounds hold after the line too, and fewer lines may come
 pub bounded_behind : {net : PricedNetwork} {line : CertLine} {old : Kept} {behind : Place} (between : Kept) → IsBounded net old →
     Passes net line old behind → Adds net line old between → IsBounded net (moved_on between behind)
 bounded_behind {net} {line} {old} {behind} between h p added =
@@ -356,7 +356,7 @@ pub fewer_behind : {net : PricedNetwork} {line : CertLine} {old : Kept} {behind 
     Passes net line old behind → Adds net line old between → lines_left net (moved_on between behind) < lines_left net old
 fewer_behind {net} {line} {old} {behind} between h p added = fewer_lines net old.place line behind old between h.place p.goes p.passes added
 
--- the count of lines has room
+-- the count of lines has capacity
 pub lines_few : {net : PricedNetwork} {kept : Kept} → IsBounded net kept → net.network.events ≤ MAX_EVENTS → length net.network.arcs ≤ MAX_ACTIVITIES → kept.lines < 2 ^ 63
 lines_few {net} {kept} h few_events few_acts = omega (arith, h.lines, all_few net.network.events (length net.network.arcs) few_events few_acts)
 
@@ -398,7 +398,7 @@ event_first net (CrashWalk shape steps) code time moves behind old h goes = absu
 event_first net (Between shape) code time moves behind old h goes = absurd (none-some behind goes)
 event_first net Ended code time moves behind old h goes = absurd (none-some behind goes)
 
--- a segment ends behind all its activities
+-- a segment ends after all its activities
 pub all_come : (net : PricedNetwork) (place behind : Place) (old : Kept) →
     IsAtPlace net.network.events (length net.network.arcs) place old → next place Close ≡ Some behind →
     old.tally.acts ≡ length net.network.arcs

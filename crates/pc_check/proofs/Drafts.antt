@@ -1,9 +1,9 @@
--- What is said with one step or row more, and what of a segment is said before its activities come.
+-- The draft with one step or row more, and the draft of a segment before its activities.
 use Rattle.std.specs.Prelude.{ℕ, Bool, List, [], ◌∷◌, ◌++◌, if◌then◌else◌}
 use Rattle.pc_laws.specs.Segment.{Segment}
 use Rattle.pc_check.specs.Draft.{EventRow, ActRow, Part, Draft, event_at}
 
--- a segment of which nothing has come
+-- a segment that has just begun
 abbrev pub begun_part : ℕ → ℕ → ℕ → ℕ → Part
 begun_part upper lower cost slope = record { upper = upper; lower = lower; cost = cost; slope = slope; events = []; acts = [] }
 

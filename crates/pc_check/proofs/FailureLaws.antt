@@ -11,7 +11,7 @@ pub draft-append : (draft : Draft) (lines others : List CertLine) → fold with_
 draft-append draft [] others = refl
 draft-append draft (line ∷ lines) others = draft-append (with_line draft line) lines others
 
--- lines that fail go on failing so
+-- lines that fail keep their first failure when more follow
 or_found : (number : ℕ) (reason : Option ℕ) (later more : Option Fail) (fail : Fail) → or_later number reason later ≡ Some fail →
     (later ≡ Some fail → more ≡ Some fail) → or_later number reason more ≡ Some fail
 or_found number None later more fail h goes_on = goes_on h

@@ -7,7 +7,7 @@ use Rattle.pc_cert.specs.inside.Known.{IsFrontOf, IsEventFront}
 use Rattle.pc_check.specs.inside.Fronts.{front_at}
 use Rattle.pc_check.proofs.BelowLaws.{each_more}
 
--- those of the first so many events
+-- those of the first `count` events
 pub record AreFirst (net : PricedNetwork) (fronts : List EventFront) (count : ℕ) : Type 0 where
   pub long : length fronts ≡ count
   pub each : (e : ℕ) → e < count → IsFrontOf (text_at net.events e) (front_at fronts e)

@@ -1,4 +1,4 @@
--- Lines of which none fails say segments that join, line by line.
+-- If no line fails, the lines give segments that join, line by line.
 use Rattle.std.proofs.Common.{◌≡◌, ℕ, ◌+◌, ◌<◌, ◌≤◌, Bool, true, false, List, [], ◌∷◌, ◌++◌, length, map, ◌⊎◌, inl, inr, Option, Some, None, refl, sym, ap, subst, ◌∙◌, arith, length-append}
 use Rattle.std.proofs.lemmas.Bool.{eqb-true, eq-eqb, ltb-true, cases_eq, and_parts}
 use Rattle.std.proofs.lemmas.List.{map-append}
@@ -57,7 +57,7 @@ record IsInGood (net : PricedNetwork) (events activities : ℕ) (draft : Draft) 
   rows : HasRightRows net (length draft.segments == 0) draft.part
   before : IsFirstPart net draft ⊎ IsLaterPart net draft
 
--- behind a segment
+-- after a segment
 record IsBehindGood (net : PricedNetwork) (draft : Draft) : Type 0 where
   some : 0 < length draft.segments
   high : ℕ
@@ -78,7 +78,7 @@ IsGood net (InSegment shape events activities) draft = IsShaped net.network.even
 IsGood net (Between shape) draft = IsShaped net.network.events (length net.network.arcs) shape × IsBehindGood net draft
 IsGood net Ended draft = IsAllGood net draft
 
--- what is taken as known of the network
+-- what is assumed of the network
 record IsKnown (net : PricedNetwork) : Type 0 where
   priced : IsPriced net.network net.terms (knees_in net)
   named : length net.activities ≡ length net.network.arcs
@@ -272,11 +272,11 @@ good_lines net place (line ∷ lines) behind draft number known h goes passes =
     let parts = none_parts number (reason_at net draft line) (failure_after net (with_line draft line) (number + 1) lines) passes in
     good_lines net (step.0) lines behind (with_line draft line) (number + 1) known (good_line net place line (step.0) draft known h (step.1) (parts.0)) (step.2) (parts.1)
 
--- lines of a whole certificate of which none fails say segments that cover the range
+-- lines of a complete certificate none of which fails give segments that cover the range
 covering_of : (net : PricedNetwork) (lines : List CertLine) → IsKnown net → AreCertified net lines → IsAllGood net (draft_of lines)
 covering_of net lines known certified = good_lines net Start lines Ended empty_draft 1 known refl certified.whole certified.none
 
--- and these are the whole curve
+-- and these are the complete curve
 pub curve_of : (net : PricedNetwork) (lines : List CertLine) → IsPriced net.network net.terms (knees_in net) →
     length net.activities ≡ length net.network.arcs → AreCertified net lines → AreCurve net (segments_of net lines)
 curve_of net lines priced named certified =

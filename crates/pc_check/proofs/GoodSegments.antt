@@ -1,4 +1,4 @@
--- Right rows, and the conditions at the end of a segment, make a whole segment.
+-- Right rows, and the conditions at the end of a segment, make a complete segment.
 use Rattle.std.proofs.Common.{◌≡◌, ◌≢◌, ℕ, ◌+◌, ◌<◌, ◌≤◌, Bool, true, false, ◌||◌, cond, length, inl, inr, None, refl, sym, ap, ◌∙◌, arith, pos}
 use Rattle.std.proofs.lemmas.Bool.{eqb-true, ltb-true, lt-ltb, ne_eqb, and_parts, or_cases}
 use Rattle.std.proofs.lemmas.Int.{ints}
@@ -83,7 +83,7 @@ stops_so net seg a lt h = elim (or_cases _ _ h) [
       ]
 ]
 
--- what flows at an event where all activities have come
+-- the flow at an event after all activities
 pub flow_at-whole : (net : PricedNetwork) (part : Part) (event_of : ℕ → ℕ) (e : ℕ) → length part.acts ≡ length net.network.arcs →
     e < net.network.events → flow_at net part event_of e ≡ at_event (length net.network.arcs) event_of (flow_along net part) e
 flow_at-whole net part event_of e all lt =
@@ -93,7 +93,7 @@ flow_at-whole net part event_of e all lt =
 gained : (f b s : ℕ) → f ≡ b + s → pos f -ℤ pos b ≡ pos s
 gained f b s h = omega (arith, ints)
 
--- a part whose rows are right and whose end does not fail is a whole segment
+-- a part whose rows are right and whose end does not fail is a complete segment
 pub whole_segment : (net : PricedNetwork) (first : Bool) (draft : Draft) → IsPriced net.network net.terms (knees_in net) →
     HasRightRows net first draft.part → IsWhole net draft.part → first_failing (conditions net (said net draft) Close) ≡ None
     → IsSegment net.network net.terms (knees_in net) (segment_in net draft.part)

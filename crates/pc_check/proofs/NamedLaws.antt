@@ -13,19 +13,19 @@ same_code c code h = (bytes_eq-Decides c code).1 h
 other_code : (c code : List ℕ) → c ≢ code → bytes_eq c code ≡ false
 other_code c code h = false_from_ne_true (bytes_eq c code) (λ e. h ((bytes_eq-Decides c code).0 e))
 
--- a code that stands at no index has none
+-- a code that is at no index has none
 none_named : (code : List ℕ) (i : ℕ) (codes : List (List ℕ)) → ((a : ℕ) → a < length codes → text_at codes a ≢ code) → index_of code i codes ≡ None
 none_named code i [] h = refl
 none_named code i (c ∷ cs) h = rw (other_code c code (h 0 (omega arith))) (none_named code (i + 1) cs (λ a lt. h (suc a) (omega arith)))
 
--- a code that stands at one index, and at none before it, has this one
+-- a code that is at one index, and at none before it, has this one
 first_named : (code : List ℕ) (i a : ℕ) (codes : List (List ℕ)) → a < length codes → text_at codes a ≡ code → ((j : ℕ) → j < a → text_at codes j ≢ code) → index_of code i codes ≡ Some (i + a)
 first_named code i a [] lt is before = absurd (omega arith)
 first_named code i zero (c ∷ cs) lt is before = rw (same_code c code is) (ap Some (omega arith))
 first_named code i (suc a) (c ∷ cs) lt is before =
     rw (other_code c code (before 0 (omega arith))) (first_named code (i + 1) a cs (omega arith) is (λ j l. before (suc j) (omega arith)) ∙ ap Some (omega arith))
 
--- what a search for a code gave, where no code stands twice
+-- what a search for a code gave, if no code occurs twice
 pub named_is_index : (found : Option ℕ) (code : List ℕ) {n : ℕ} {codes : List (List ℕ)} → AreNames n codes →
     IfSome found (λ a. a < n) → IfSome found (λ a. text_at codes a ≡ code) → IfNone found ((a : ℕ) → a < n → text_at codes a ≢ code) →
     found ≡ index_of code 0 codes

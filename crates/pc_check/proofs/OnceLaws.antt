@@ -18,7 +18,7 @@ use Rattle.pc_check.proofs.TextLaws.{next_line, not_bad}
 
 -- ---- lines at the beginning of one text
 
--- the lines go on behind those at the front, and what follows them with it
+-- the lines continue those at the front, and what follows them with it
 record Goes (lines front : List CertLine) (rest behind : List ℕ) : Type 0 where
   pub more : List CertLine
   pub lines_are : lines ≡ front ++ more
@@ -33,7 +33,7 @@ put_before {x} {y} {xs} {ys} line on = record {
   fit = on.fit;
 }
 
--- of two lists of lines at the beginning of one text one goes on behind the other
+-- of two lists of lines at the beginning of one text one continues the other
 either : (xs ys : List CertLine) (a b : List ℕ) → AreWritable xs → AreWritable ys → text_of xs ++ a ≡ text_of ys ++ b → Goes xs ys a b ⊎ Goes ys xs b a
 either xs [] a b p q same = inl (record { more = xs; lines_are = refl; behind_is = sym same; fit = p })
 either [] (y ∷ ys) a b p q same = inr (record { more = y ∷ ys; lines_are = refl; behind_is = same; fit = q })
@@ -109,7 +109,7 @@ module _ (net : PricedNetwork) (text : List ℕ) where
       same_point f g (a.line ∙ ap (λ ls. length ls + 1) (lines_are ∙ append-nil b.lines) ∙ sym b.line) (a.zero_reason ∙ sym b.zero_reason)
   same_lines f g a b (line ∷ more) lines_are behind_is fit = absurd (b.stops a.lines line more a.rest a.place lines_are a.led fit behind_is)
 
-  -- two points behind lines of which none fails are one
+  -- two points after lines none of which fails are one
   broken_once : (f g : Fail) → IsBroken net text f → IsBroken net text g → f ≡ g
   broken_once f g a b =
       elim (either a.lines b.lines a.rest b.rest a.fit b.fit (sym a.whole ∙ b.whole)) [

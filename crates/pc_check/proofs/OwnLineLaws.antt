@@ -20,9 +20,9 @@ use Rattle.pc_check.specs.OwnLines.{lines_before, first_upper_in_lines, most_seg
 use Rattle.pc_check.proofs.BoundLaws.{head_passes, first_ends, later_ends}
 use Rattle.pc_check.proofs.GoodLines.{none_parts, segments_step}
 
--- ---- behind the first SEGMENT line
+-- ---- after the first SEGMENT line
 
--- how many segments may come behind one with these ends
+-- how many segments may come after one with these ends
 abbrev segments_behind : ℕ → ℕ → ℕ
 segments_behind upper lower = if nat_lt lower upper then lower else 0
 
@@ -39,20 +39,20 @@ segments_most upper lower ordered = elim (cases_Bool (nat_lt lower upper)) [
   | inr other ↦ rw other (omega (arith, le-max_right upper 1))
 ]
 
--- how many lines may come from a place on that stands behind the first SEGMENT line, where a segment has so many lines
+-- how many lines may come from a place after the first SEGMENT line, with this many lines per segment
 abbrev lines_behind : ℕ → Place → Part → ℕ
 lines_behind unit (InSegment shape events activities) part = events + (activities + (1 + (segments_behind part.upper part.lower * unit + 1)))
 lines_behind unit (Between shape) part = segments_behind part.upper part.lower * unit + 1
 lines_behind unit other part = 0
 
--- the place stands behind the first SEGMENT line
+-- the place is after the first SEGMENT line
 abbrev IsBehind : ℕ → ℕ → Place → Draft → Type 0
 IsBehind n m (InSegment shape events activities) draft = IsShaped n m shape
 IsBehind n m (Between shape) draft = IsShaped n m shape × (0 < length draft.segments)
 IsBehind n m Ended draft = Unit {0}
 IsBehind n m other draft = ⊥
 
--- what is so behind a line
+-- what holds after a line
 record Goes (n m : ℕ) (place behind : Place) (old new : Draft) : Type 0 where
   at : IsBehind n m behind new
   fewer : lines_behind (n + m + 2) behind new.part < lines_behind (n + m + 2) place old.part
@@ -116,7 +116,7 @@ before_left n (NormalWalk shape steps) = 1 + (steps + n)
 before_left n (CrashWalk shape steps) = steps
 before_left n other = 0
 
--- the place stands before the first SEGMENT line
+-- the place is before the first SEGMENT line
 abbrev IsBefore : ℕ → ℕ → Place → Draft → Type 0
 IsBefore n m Start draft = draft.segments ≡ []
 IsBefore n m (AfterHead shape) draft = IsShaped n m shape × (draft.segments ≡ [])
@@ -159,7 +159,7 @@ record Begins (n m : ℕ) (behind : Place) (line : CertLine) (new : Draft) : Typ
 begins : (n m : ℕ) {reached behind : Place} {line : CertLine} {new : Draft} → Begins n m reached line new → Some reached ≡ Some behind → Begins n m behind line new
 begins n m {reached} {behind} {line} {new} h same = let is : reached ≡ behind = cc in subst (λ p. Begins n m p line new) is h
 
--- a segment takes no more lines than it has, and those behind it no more than are left
+-- a segment takes no more lines than it has, and those after it no more than are left
 first_few : (n m : ℕ) (place : Place) {behind : Place} {line : CertLine} {new : Draft} (lines : List CertLine) →
     Begins n m behind line new → length lines ≤ lines_behind (n + m + 2) behind new.part → AreFewFrom n m place (line ∷ lines)
 first_few n m place {behind} {line} {new} lines h few = record {
@@ -167,7 +167,7 @@ first_few n m place {behind} {line} {new} lines h few = record {
   all = omega (arith, h.none lines, few, h.left, ap (most_segment_lines n m) (h.first lines), mul-le-mul_right (n + m + 2) (segments_most h.upper h.lower h.ordered));
 }
 
--- one line from a place on that stands before the first SEGMENT line
+-- one line from a place before the first SEGMENT line
 comes : (net : PricedNetwork) (place : Place) (line : CertLine) (behind : Place) (draft : Draft)
     → IsBefore net.network.events (length net.network.arcs) place draft → next place line ≡ Some behind → reason_at net draft line ≡ None
     → Comes net.network.events (length net.network.arcs) place behind line (with_line draft line) ⊎ Begins net.network.events (length net.network.arcs) behind line (with_line draft line)
@@ -231,7 +231,7 @@ few_from net place (line ∷ lines) behind draft number h goes passes =
       | inr first ↦ first_few net.network.events (length net.network.arcs) place lines first (few_behind net (step.0) lines behind (with_line draft line) (number + 1) first.at (step.2) (parts.1))
     ]
 
--- lines of which none fails, in the order in which they may come
+-- lines in an order that is allowed, none of which fails
 pub are_few : (net : PricedNetwork) (place : Place) (lines : List CertLine) → ran Start lines ≡ Some place → failure_of net lines ≡ None → AreFew net.network.events (length net.network.arcs) lines
 are_few net place lines led none =
     let few = few_from net Start lines place empty_draft 1 refl led none in

@@ -90,7 +90,7 @@ passed_with {net} {rows} a row are known has = record {
       (λ other. subst (IsPassed net b) (sym (get_or-set_other rows a b row _ other)) (are.each b below)) (cases_eq b a);
 }
 
--- what is read of the rows
+-- a row as it is read
 pub row_read : {net : PricedNetwork} {rows : List Passed} (a : ℕ) (row : Passed) → ArePassed net rows → a < length net.network.arcs → row ≡ slice_index_or rows a row → row ≡ passed_at rows a
 row_read {net} {rows} a row are known is =
     let default : Passed = record { text = record { cells = []; len = 0 }; duration = 0; flows = []; flow = 0; cost = 0; least = 0; most = 0; low = 0; high = 0 } in
@@ -156,7 +156,7 @@ pub adds_again : {net : PricedNetwork} {old new : Tally} → IsStill net.network
     → AddsAct net old (passed_at old.rows.items old.acts).duration (passed_at old.rows.items old.acts).flows new
 adds_again {net} {old} {new} still has rest = adds_across (adds_nothing (stretch_of old) old.acts still) has (rest ∙ ap (λ cut. record old { acts = old.acts + 1; cut = cut }) (same_cut old.cut))
 
--- one more has come, and the sums of the cut are no larger than it can make them
+-- one more activity was added, and the sums of the cut are no larger than it can make them
 safe_with : {net : PricedNetwork} {old : Tally} (cut : Cut) → IsSafe net old → old.acts < length net.network.arcs
     → cut.forward ≤ (old.acts + 1) * 2 ^ 67 → cut.backward ≤ (old.acts + 1) * 2 ^ 67 → IsSafe net (record old { acts = old.acts + 1; cut = cut })
 safe_with {net} {old} cut safe known forward backward = record {

@@ -1,4 +1,4 @@
--- What the pieces of a text say of the pulls by which they came.
+-- What the pieces of a text show about the pulls that gave them.
 use Rattle.std.proofs.Common.{◌≡◌, ℕ, ◌+◌, ◌≤◌, List, [], ◌∷◌, ◌++◌, length, length-append, Option, sym, ap, subst, arith}
 use Rattle.pc_edges.specs.Pulls.{CameIn, TakesPulls}
 use Rattle.pc_edges.proofs.PullLaws.{TakesPulls-then, TakesPulls-none, TakesPulls-more}

@@ -6,7 +6,7 @@ pub fails_here : (holds : Bool) (later : Option ℕ) (number : ℕ) → holds �
 fails_here true later number h = absurd cc
 fails_here false later number h = refl
 
--- behind a condition that holds come the others
+-- after a condition that holds come the others
 pub fails_later : (holds : Bool) (later : Option ℕ) (number : ℕ) (found : Option ℕ) → holds ≡ true → found ≡ later → found ≡ cond holds later (Some number)
 fails_later true later number found h same = same
 fails_later false later number found h same = absurd cc

@@ -1,4 +1,4 @@
--- Lines of one piece that are taken one behind the other.
+-- Lines of one piece that are taken one after the other.
 use Rattle.std.proofs.Common.{◌≡◌, ℕ, ◌+◌, ◌-◌, ◌^◌, ◌<◌, ◌≤◌, zero, suc, List, ◌++◌, length, take, drop, None, refl, sym, ap, subst, ◌∙◌, arith, append_assoc}
 use Rattle.std.proofs.Math.Seq.{take-add}
 use Rattle.std.proofs.lemmas.List.{length-drop, drop-drop}
@@ -6,7 +6,7 @@ use Rattle.pc_cert.specs.inside.Reader.{Reading, StandsFor as ReadsAs}
 use Rattle.pc_check.specs.inside.Along.{TakesAlong}
 use Rattle.pc_check.specs.inside.Checking.{Checking, StandsFor}
 
--- lines that are so many bytes of the piece were taken, or nothing has changed, and more may be taken
+-- lines that are this many bytes of the piece were taken, or nothing has changed, and more may be taken
 pub record IsRun (piece : List ℕ) (used : ℕ) (before after : Reading) (old new : Checking) : Type 0 where
   pub within : used ≤ length piece
   pub same : used ≡ 0 → new ≡ old
@@ -35,7 +35,7 @@ begun piece reader checker none place going alike few = record {
   few = few;
 }
 
--- lines, and lines behind them
+-- lines, and lines after them
 joined : {piece : List ℕ} {before between after : Reading} {old mid new : Checking} (n m : ℕ) → TakesAlong piece n before between old mid →
     TakesAlong (drop n piece) m between after mid new → TakesAlong piece (n + m) before after old new
 joined {piece} {before} {between} {after} {old} {mid} {new} n m one two = record {
@@ -82,7 +82,7 @@ further {piece} {used} {before} {between} {after} {old} {mid} {new} more h some 
   few = it.few;
 }
 
--- of the piece this is left behind such lines
+-- what is left of the piece after such lines
 pub record IsRest (piece rest : List ℕ) (before after : Reading) (old new : Checking) : Type 0 where
   pub used : ℕ
   pub left : rest ≡ drop used piece
@@ -102,6 +102,6 @@ less_left {piece} {rest} {before} {between} {after} {old} {mid} {new} more h som
   run = further more h.run some (subst (λ t. TakesAlong t more between after mid new) h.left it);
 }
 
--- so many bytes were used
+-- this many bytes were used
 pub used_is : {piece rest : List ℕ} {before after : Reading} {old new : Checking} → (h : IsRest piece rest before after old new) → h.used ≡ length piece - length rest
 used_is {piece} {rest} h = omega (arith, h.long)

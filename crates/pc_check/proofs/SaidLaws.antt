@@ -1,4 +1,4 @@
--- What is kept is what the lines say.
+-- The checker's state is what the lines say.
 use Rattle.std.proofs.Common.{◌≡◌, ℕ, ◌+◌, ◌<◌, ◌≤◌, suc, Bool, true, false, ◌||◌, cond, ltb, List, [], ◌∷◌, ◌++◌, length}
 use Rattle.std.proofs.Common.{map, inl, inr, ⊎_elim, Option, refl, sym, ap, subst, ◌∙◌, arith, add-one, length-append}
 use Rattle.std.proofs.lemmas.Bool.{cases_eq, cases_lt, lt-ltb, le-ltb}
@@ -33,7 +33,7 @@ use Rattle.pc_check.specs.inside.Checking.{IsKept, IsTallied}
 use Rattle.pc_check.proofs.Drafts.{begun_part, with_step, with_event, with_act, outline}
 use Rattle.pc_check.proofs.BelowLaws.{some_below-same}
 
--- ---- what is kept is what is said
+-- ---- the state is what is said
 
 times_at : (rows : List EventRow) (e : ℕ) → slice_index (map (λ row. row.time) rows) e ≡ (event_at rows e).time
 times_at rows e = get_or-map (λ (row : EventRow). row.time) rows e (record { code = []; time = 0; moves = false })
@@ -76,11 +76,11 @@ spent_come net part tally all k is =
     ∙ ap (λ n. sum_to n (cost_of tally.rows.items)) (sym all)
     ∙ sum_to-same (length part.acts) (cost_of tally.rows.items) (λ a. activity_cost net.terms (knees_in net) a ((segment_in net part).duration a)) k.costs
 
--- what is kept, with these sums of flows and of the cost
+-- the state, with these sums of flows and of the cost
 abbrev known_with : Kept → (ℕ → ℕ) → (ℕ → ℕ) → ℕ → Known
 known_with kept inflow outflow spent = record (known_by kept) { inflow = inflow; outflow = outflow; spent = spent }
 
--- what is kept is what is said, with sums that are said
+-- the state is what is said, with sums that are said
 known_is_said : (net : PricedNetwork) (draft : Draft) (kept : Kept) (inflow outflow : ℕ → ℕ) (spent : ℕ) →
     ((e : ℕ) → inflow e ≡ (said net draft).inflow e) → ((e : ℕ) → outflow e ≡ (said net draft).outflow e) → spent ≡ (said net draft).spent →
     IsKept net draft kept → known_with kept inflow outflow spent ≡ said net draft
@@ -114,7 +114,7 @@ known_is_said net draft kept inflow outflow spent inflow_is outflow_is spent_is 
 almost_said : (net : PricedNetwork) (draft : Draft) (kept : Kept) → IsKept net draft kept → known_with kept (said net draft).inflow (said net draft).outflow (said net draft).spent ≡ said net draft
 almost_said net draft kept k = known_is_said net draft kept (said net draft).inflow (said net draft).outflow (said net draft).spent (λ e. refl) (λ e. refl) refl k
 
--- where all activities have come
+-- after all activities
 wholly_said : (net : PricedNetwork) (draft : Draft) (kept : Kept) → IsSafe net kept.tally → kept.tally.acts ≡ length net.network.arcs → IsKept net draft kept → known_by kept ≡ said net draft
 wholly_said net draft kept safe all k =
     let come : length draft.part.acts ≡ length net.network.arcs = sym k.tally.acts ∙ all in
@@ -129,7 +129,7 @@ wholly_said net draft kept safe all k =
     (spent_come net draft.part tally come k.tally safe.spent)
     k
 
--- the reason for which a line fails is told by what is kept, at the end of a segment where all its activities have come
+-- the reason for which a line fails follows from the state, at the end of a segment after all its activities
 pub reason_told : (net : PricedNetwork) (draft : Draft) (line : CertLine) (kept : Kept) → IsSafe net kept.tally →
     (line ≡ Close → kept.tally.acts ≡ length net.network.arcs) → IsKept net draft kept →
     first_failing (conditions net (known_by kept) line) ≡ reason_at net draft line
@@ -221,7 +221,7 @@ tallied_event net part row old new none k added =
       stops = ap (λ t. t.cut.stops) rest ∙ k.stops ∙ some_none (length part.acts) (stops_in net (segment_in net part)) (stops_in net (segment_in net (with_event part row))) none;
     }
 
--- what is kept of a part is what it begins to be
+-- the tally of a part is what it begins to be
 stretch_is_outline : (net : PricedNetwork) (part : Part) (tally : Tally) → IsTallied net part tally → stretch_of tally ≡ outline part
 stretch_is_outline net part tally k =
     let time : (e : ℕ) → slice_index tally.times.items e ≡ (event_at part.events e).time = λ e. ap (λ xs. slice_index xs e) k.times ∙ times_at part.events e in
@@ -338,7 +338,7 @@ in_part net draft part old new rest k tally = record {
   tally = tally;
 }
 
--- what has to hold so that an event or an activity can be added to what is said
+-- what must hold so that an event or an activity can be added to a draft
 abbrev pub IsReady : PricedNetwork → CertLine → Draft → Type 0
 IsReady net (Event code time moves) draft = length draft.part.acts ≡ 0
 IsReady net (Act code duration flows) draft = length flows ≡ (knees_in net).count (length draft.part.acts) + 1

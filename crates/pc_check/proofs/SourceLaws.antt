@@ -19,7 +19,7 @@ use Rattle.pc_check.proofs.PieceLaws.{CameIn-pulls}
 
 -- ---- bytes
 
--- what holds of the bytes that were taken, whatever comes behind them
+-- what holds of the bytes that were taken, whatever follows them
 with_anything : (left left_after : Option (List ℕ)) (bytes : List ℕ) (P : List ℕ → Type 0) → Consumes left left_after bytes → ((more : List ℕ) → P (bytes ++ more)) → IfSome left P
 with_anything None left_after bytes P taken holds = tt
 with_anything (Some all) None bytes P taken holds = absurd taken
@@ -75,7 +75,7 @@ none_pulled left faults pulls old audit read going = record {
   fewer = omega arith;
 }
 
--- the source as it stood before the last pull, and as it stands
+-- the source as it was before the last pull, and as it is
 module _ {X : Type 0} (left : X → Option (List ℕ)) (faults : X → ℕ) (pulls : X → Option ℕ) (old mid new : X) {before now : Auditing}
     (h : IsPulling left faults pulls old mid before now) where
   -- the bytes that were pulled are taken of what was left
@@ -139,7 +139,7 @@ module _ {X : Type 0} (left : X → Option (List ℕ)) (faults : X → ℕ) (pul
     once = once;
   }
 
-  -- what is found of the bytes that were taken
+  -- the verdict on the bytes that were taken
   settled : (piece : List ℕ) → Consumes (left mid) (left new) piece → TakesPulls 1 (pulls mid) (pulls new) → (verdict : Verdict) (room : ℕ) → length piece ≤ room →
       Finds before.checker.net (h.text ++ piece) verdict → IsSettled before.checker.net verdict room left faults pulls old new
   settled piece pulled once verdict room fits found = record {
@@ -164,7 +164,7 @@ module _ {X : Type 0} (left : X → Option (List ℕ)) (faults : X → ℕ) (pul
       settled piece pulled once verdict room (omega (arith, none))
       (subst (λ n. Finds n (h.text ++ piece) verdict) h.net (subst (λ t. Finds now.checker.net t verdict) (sym same) (finds h.text h.read)))
 
-  -- of a source in which a line fails
+  -- the verdict on a source in which a line fails
   pub settled_in_piece : (piece : List ℕ) → Consumes (left mid) (left new) piece → TakesPulls 1 (pulls mid) (pulls new) → (fail : Fail) (room : ℕ) → length piece ≤ room →
       ((text more : List ℕ) → HasRead text now → IsFailing now.checker.net (text ++ (piece ++ more)) fail) →
       IsSettled before.checker.net (No fail.line fail.reason) room left faults pulls old new

@@ -1,4 +1,4 @@
--- What a checker stands for after one more line.
+-- The state of a checker after one more line.
 use Rattle.std.proofs.Common.{◌≡◌, ℕ, ◌+◌, true, false, List, [], ◌∷◌, ◌++◌, length, Option, Some, None, sym, ap, subst, ◌∙◌, arith, length-append}
 use Rattle.std.proofs.lemmas.Bool.{eqb-true, and_parts}
 use Rattle.std.specs.Prelude.{IfNone, IsSome}
@@ -45,7 +45,7 @@ kept_moved net draft between place k = record { normal = k.normal; crash = k.cra
 ran_more : (line : CertLine) (place behind : Place) → next place line ≡ Some behind → ran place (line ∷ []) ≡ Some behind
 ran_more line place behind goes = ap (λ found. found >>= (λ b. ran b [])) goes
 
--- the reason for which a line fails is told by what is kept
+-- the reason for which a line fails follows from the state
 reason_is : (net : PricedNetwork) (lines : List CertLine) (line : CertLine) (kept : Kept) (behind : Place) → IsSafe net kept.tally →
     IsBounded net kept → next kept.place line ≡ Some behind → IsKept net (draft_of lines) kept →
     reason_at net (draft_of lines) line ≡ first_failing (conditions net (known_by kept) line)
@@ -77,19 +77,19 @@ fails {net} {lines} {kept} line behind reason number safe bounded goes found is 
     ∙ ap (λ r. or_later (1 + length lines) r None) (reason_is net lines line kept behind safe bounded goes h.keeps ∙ sym found)
     ∙ ap (λ n. Some (record { line = n; reason = reason })) (omega (arith, is, h.count))
 
--- a failure that is kept
+-- a failure that is stored
 pub stays : (net : PricedNetwork) (kept : Kept) (found : Option Fail) (lines : List CertLine) (line : CertLine) (fail : Fail) →
     found ≡ Some fail → Stands net kept found lines → Stands net kept found (lines ++ line ∷ [])
 stays net kept found lines line fail is h =
     subst (λ f. Stands net kept f (lines ++ line ∷ [])) (sym is) (failure_of-more net lines (line ∷ []) fail (subst (λ f. Stands net kept f lines) is h))
 
--- where the line is not allowed, a failure is kept
+-- if the line is not allowed, a failure is stored
 pub stays_failed : (net : PricedNetwork) (kept : Kept) (found : Option Fail) (lines : List CertLine) (line : CertLine) →
     IfNone found (IsSome (next kept.place line)) → next kept.place line ≡ None → Stands net kept found lines → Stands net kept found (lines ++ line ∷ [])
 stays_failed net kept None lines line allowed none h = absurd (let e : false ≡ true = subst (λ behind. IsSome behind) none allowed in cc)
 stays_failed net kept (Some fail) lines line allowed none h = failure_of-more net lines (line ∷ []) fail h
 
--- none is kept
+-- none is stored
 pub is_going : (net : PricedNetwork) (kept : Kept) (found : Option Fail) (lines : List CertLine) → found ≡ None → Stands net kept found lines → IsGoing net kept lines
 is_going net kept found lines none h = subst (λ f. Stands net kept f lines) none h
 

@@ -19,9 +19,9 @@ use Rattle.pc_check.specs.Certified.{segments_of}
 use Rattle.pc_check.proofs.FailureLaws.{failure_of-more}
 use Rattle.pc_check.specs.Texts.{IsCertified, IsFailing, fails, malformed, missing}
 
--- ---- lines that stand at the beginning of a text
+-- ---- lines at the beginning of a text
 
--- the lines go on behind those at the beginning, and their text with it
+-- the lines continue those at the beginning, and their text with it
 pub record GoesOn (lines front : List CertLine) (rest : List ℕ) : Type 0 where
   pub more : List CertLine
   pub lines_are : lines ≡ front ++ more
@@ -40,9 +40,9 @@ begin_with (x ∷ xs) (y ∷ ys) rest p q same =
     let on = begin_with xs ys rest (p.1) (q.1) (parts.1) in
     record { more = on.more; lines_are = ap (λ l. l ∷ xs) line ∙ ap (λ ls. y ∷ ls) on.lines_are; rest_is = on.rest_is; fit = on.fit }
 
--- ---- a whole text has no line that is malformed or missing
+-- ---- a complete text has no line that is malformed or missing
 
--- the first line behind others that lead to a place may stand there
+-- the first line after others that lead to a place is allowed there
 pub next_line : (place behind : Place) (front more : List CertLine) (line : CertLine) → ran Start front ≡ Some place →
     ran Start (front ++ line ∷ more) ≡ Some behind → (after : Place) × (next place line ≡ Some after)
 next_line place behind front more line led whole =
@@ -50,13 +50,13 @@ next_line place behind front more line led whole =
     let step = bind_some (next place line) (λ p. ran p more) behind goes in
     (step.0, step.1)
 
--- a text without an end of a line has no more bytes than a line that goes on where it does
+-- a text without an end of a line has no more bytes than a line that continues where it does
 pub line_is_longer : (line bad more rest : List ℕ) → Lacks 10 bad → line ++ 10 ∷ rest ≡ bad ++ more → length bad ≤ length line
 line_is_longer line [] more rest lacks same = omega arith
 line_is_longer [] (b ∷ bad) more rest lacks same = absurd (lacks.0 (let e : 10 ≡ b = cc in sym e))
 line_is_longer (x ∷ line) (b ∷ bad) more rest lacks same = let shorter = line_is_longer line bad more rest (lacks.1) cc in omega (arith, shorter)
 
--- the next line of a whole text is neither one that is not allowed nor one that is too long
+-- the next line of a complete text is neither one that is not allowed nor one that is too long
 pub not_bad : (place after : Place) (line : CertLine) (bad more rest : List ℕ) → IsWritable line → next place line ≡ Some after →
     spelling line ++ 10 ∷ rest ≡ bad ++ more → IsBadLine place bad ⊎ IsTooLong bad → ⊥
 not_bad place after line bad more rest fits goes same (inl is) =
@@ -71,7 +71,7 @@ bad_is_some place bad more (inl is) same = lacks_no_stop 10 (is.0) [] more tt (s
 bad_is_some place [] more (inr is) same = omega (arith, is.0)
 bad_is_some place (b ∷ bad) more (inr is) same = nil_not_cons (sym same)
 
--- behind lines that lead to a place no line is bad
+-- after lines that lead to a place no line is bad
 pub no_bad_line : (place : Place) (front more : List CertLine) (bad rest : List ℕ) → ran Start front ≡ Some place →
     ran Start (front ++ more) ≡ Some Ended → AreWritable more → text_of more ≡ bad ++ rest → IsBadLine place bad ⊎ IsTooLong bad → ⊥
 no_bad_line place front [] bad rest led whole fit same bad_is = bad_is_some place bad rest bad_is same
@@ -79,7 +79,7 @@ no_bad_line place front (line ∷ more) bad rest led whole fit same bad_is =
     let step = next_line place Ended front more line led whole in
     not_bad place (step.0) line bad rest (text_of more) (fit.0) (step.1) same bad_is
 
--- no line is missing behind the lines of a whole text
+-- no line is missing after the lines of a complete text
 pub no_line_lacks : (place : Place) (front more : List CertLine) (held : List ℕ) → ran Start front ≡ Some place →
     ran Start (front ++ more) ≡ Some Ended → Lacks 10 held → text_of more ≡ held → (place ≡ Ended) × (held ≡ [])
 no_line_lacks place front [] held led whole lacks same =

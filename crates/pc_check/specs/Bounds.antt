@@ -8,7 +8,7 @@ use Rattle.pc_cert.specs.declared.place.Place.TheVariants.{Start, AfterHead, Nor
 abbrev pub longest_walk : ℕ → ℕ
 longest_walk n = n * MAX_DURATION
 
--- the most lines of segments whose upper ends are at most `high`, the first of which may have one length, and END
+-- the most lines of segments with upper ends of at most `high`, where the first may have one length, and END
 abbrev pub lines_below : ℕ → ℕ → ℕ → ℕ
 lines_below n m high = high * (n + m + 2) + 1
 

@@ -15,7 +15,7 @@ use Rattle.pc_check.specs.Failures.{failure_of}
 abbrev pub segments_of : PricedNetwork → List CertLine → List Segment
 segments_of net lines = map (segment_in net) (draft_of lines).segments
 
--- segments that are the whole curve of a network: they are whole and join, the first upper end is the all-normal length and
+-- segments that are the complete curve of a network: they are complete and join, the first upper end is the all-normal length and
 -- the last lower end the all-crash length, and for every length between them what is read is right: it is a schedule for
 -- the length, costs what is said, no schedule for the length costs less, the flow has the slope as its value and the cost
 -- as its bound, and the slope is the cut gain

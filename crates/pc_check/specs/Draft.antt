@@ -10,7 +10,7 @@ pub record EventRow : Type 0 where
   pub moves : Bool
 
 -- what an ACT line says: the activity's code, its duration at the upper end, and its flows, one for each knee and the one
--- beside them
+-- on its crash duration
 pub record ActRow : Type 0 where
   pub code : List ℕ
   pub duration : ℕ
@@ -26,7 +26,7 @@ pub record Part : Type 0 where
   pub acts : List ActRow
 
 -- what the lines so far say: the steps of the two walks, and whether those of the crash walk have begun; the segments
--- that are whole; and the last one that has begun
+-- that are complete; and the last one that has begun
 pub record Draft : Type 0 where
   pub normal : List (List ℕ)
   pub crash : List (List ℕ)

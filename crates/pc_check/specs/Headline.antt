@@ -7,7 +7,7 @@ use Rattle.pc_cert.specs.Reader.{IsWhole}
 use Rattle.pc_crash.specs.Priced.{PricedNetwork, knees_in}
 use Rattle.pc_check.specs.Certified.{segments_of}
 
--- the text is that of the lines of a whole certificate, whose segments join from the all-normal length down to the all-crash length;
+-- the text is that of the lines of a complete certificate, whose segments join from the all-normal length down to the all-crash length;
 -- and for every length between them what is read from the first segment that holds it is right (`IsReadRight`): no time is cut off at
 -- 0, the durations and times are a schedule that ends at that length, they cost what is printed, and no schedule for the length costs
 -- less; the flow has the slope as its value and the printed cost as its bound; and the slope is the cut gain

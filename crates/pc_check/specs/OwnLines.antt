@@ -30,7 +30,7 @@ most_lines_before n = 3 + (n + n)
 abbrev pub most_segment_lines : ℕ → ℕ → ℕ → ℕ
 most_segment_lines n m upper = max upper 1 * (n + m + 2)
 
--- the lines are few: header and walks, behind them as many segments as the first upper end is long, or one where that is 0, and END
+-- the lines are few: header and walks, after them as many segments as the first upper end is long, or one where that is 0, and END
 pub record AreFew (n m : ℕ) (lines : List CertLine) : Type 0 where
   pub head : lines_before lines ≤ most_lines_before n
   pub all : length lines ≤ lines_before lines + (most_segment_lines n m (first_upper_in_lines lines) + 1)
@@ -41,7 +41,8 @@ abbrev pub bytes_below : PricedNetwork → ℕ → ℕ
 bytes_below net upper =
     (most_lines_before net.network.events + (most_segment_lines net.network.events (length net.network.arcs) upper + 2)) * MAX_LINE
 
--- the text begins with lines of which none fails, and there were at most as many pulls as bytes may come with their first upper end
+-- the text begins with lines none of which fails, and there were at most as many pulls as bytes may come with their
+-- first upper end
 pub record KeepsToOwnLines (net : PricedNetwork) (text : List ℕ) (pulls pulls_after : Option ℕ) : Type 0 where
   pub place : Place
   pub lines : List CertLine

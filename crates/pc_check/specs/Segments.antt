@@ -6,7 +6,7 @@ use Rattle.pc_crash.specs.Priced.{PricedNetwork, knees_in}
 use Rattle.pc_check.specs.Known.{some_below}
 use Rattle.pc_check.specs.Draft.{Part, event_at, act_at}
 
--- the segment that a part is, or begins to be: the k-th flow of an activity is that of its k-th knee, and the last one the flow beside them
+-- the segment that a part is, or begins to be: the k-th flow of an activity is that of its k-th knee, and the last one that on its crash duration
 abbrev pub segment_in : PricedNetwork → Part → Segment
 segment_in net part = record {
   upper = part.upper;

@@ -107,7 +107,7 @@ fn judge(
 }
 
 /// The same of the line of an activity: its gaps are looked up once for all that is asked of it and all that it adds.
-/// Its bytes are kept, so that little is asked where they come again.
+/// Its bytes are stored, so that little is checked if they occur again.
 fn judge_act(
     net: &CrashNet<'_>,
     kept: &mut Kept,

@@ -74,7 +74,7 @@ impl<'n> Audit<'n> {
 
     /// Reads and checks the next piece of the text, and returns the failure if there is one.
     ///
-    /// It is the first failure of the text, however the text goes on. Its reason is 0 if the line is malformed.
+    /// It is the first failure of the text, however the text continues. Its reason is 0 if the line is malformed.
     pub fn feed(&mut self, piece: &[u8]) -> Option<Fail>
         requires read { (text : List ℕ) × HasRead text self.old }
         requires going { IsGoing self.old }

@@ -8,7 +8,7 @@ use pc_crash::CrashNet;
 use pc_model::MAX_DURATION;
 use pc_text::Code;
 
-/// How far a walk has come: the event that it has reached, and the sum of the lengths of its activities, in units.
+/// How far a walk leads: the event that it has reached, and the sum of the lengths of its activities, in units.
 #[derive(Clone, Copy)]
 pub struct Reached {
     pub event: u32,

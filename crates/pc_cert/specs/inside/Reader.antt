@@ -17,7 +17,7 @@ pub record Reading : Type 0 where
   pub held : List ℕ
   pub malformed : Option Malformed
 
--- the bytes of a line that has not ended have room, and one more than the whole lines can be counted
+-- the bytes of a line that has not ended have room, and one more than the complete lines can be counted
 pub record KeepsRoom (cells : List ℕ) (held count : ℕ) : Type 0 where
   pub short : held < MAX_LINE
   pub room : length cells ≡ MAX_LINE

@@ -11,7 +11,7 @@ use Rattle.pc_check.specs.inside.Fronts.{AreFronts}
 use Rattle.pc_check.specs.inside.Rows.{going}
 use Rattle.pc_check.specs.inside.Safe.{IsSafe}
 
--- lines at the front of the piece, which are so many bytes with their ends, were read and taken, and none has failed
+-- lines at the front of the piece, with their ends `count` bytes, were read and taken, and none has failed
 pub record TakesAlong (piece : List ℕ) (count : ℕ) (before after : Reading) (old new : Checking) : Type 0 where
   pub taken : List CertLine
   pub within : count ≤ length piece
@@ -26,7 +26,7 @@ pub record TakesAlong (piece : List ℕ) (count : ℕ) (before after : Reading) 
   pub few : new.kept.lines < 2 ^ 63
   pub left : lines_left new.net new.kept < lines_left old.net old.kept
 
--- rows may be taken: the reader is at the place and the line to which what is kept has come, and has found no malformed line
+-- rows may be taken: the reader is at the place and the line of the state, and has found no malformed line
 pub record MayAdvance (net : PricedNetwork) (list : List EventFront) (reader : Reading) (kept : Kept) : Type 0 where
   pub safe : IsSafe net kept.tally
   pub fronts : AreFronts net list
@@ -36,7 +36,7 @@ pub record MayAdvance (net : PricedNetwork) (list : List EventFront) (reader : R
   pub alike : reader.lines ≡ kept.lines
   pub few : kept.lines < 2 ^ 63
 
--- the rows in so many bytes at the front of the piece were taken; nothing has changed where there are none
+-- the rows in the first `used` bytes of the piece were taken; nothing has changed if there are none
 pub record HasAdvanced (net : PricedNetwork) (piece : List ℕ) (used : ℕ) (before after : Reading) (old new : Kept) : Type 0 where
   pub same_kept : used ≡ 0 → new ≡ old
   pub same_reader : used ≡ 0 → after ≡ before

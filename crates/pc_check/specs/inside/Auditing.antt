@@ -37,7 +37,7 @@ pub record MayUse (piece : List ℕ) (audit : Auditing) : Type 0 where
   pub going : IsGoing audit
   pub some : 0 < length piece
 
--- a step uses some bytes at the beginning of the piece, and fewer bytes may come after it; or every text that goes on with the
+-- a step uses some bytes at the beginning of the piece, and fewer bytes may come after it; or every text that continues with the
 -- piece fails as it says
 pub record HasUsed (piece : List ℕ) (old new : Auditing) (result : Result ℕ Fail) : Type 0 where
   pub within : IfOk result (λ used. used ≤ length piece)

@@ -19,28 +19,28 @@ pub record IsShaped (n m : ℕ) (shape : Shape) : Type 0 where
   pub events : shape.events ≡ n
   pub activities : shape.activities ≡ m
 
--- no segment has come, and the normal walk has come so far
+-- no segment yet, and this many steps may still be added to the normal walk
 pub record IsInNormal (n steps : ℕ) (kept : Kept) : Type 0 where
   pub normal : kept.crash_walk_started ≡ false
   pub none : kept.segments ≡ 0
   pub short : sum_of kept.normal + steps * MAX_DURATION ≤ longest_walk n
   pub nothing : sum_of kept.crash ≡ 0
 
--- no segment has come, the normal walk is whole, and the crash walk has come so far
+-- no segment yet, the normal walk is complete, and this many steps may still be added to the crash walk
 pub record IsInCrash (n steps : ℕ) (kept : Kept) : Type 0 where
   pub normal : kept.crash_walk_started ≡ true
   pub none : kept.segments ≡ 0
   pub whole : sum_of kept.normal ≤ longest_walk n
   pub short : sum_of kept.crash + steps * MAX_DURATION ≤ longest_walk n
 
--- a segment has begun, and so many events and activities of it have come
+-- a segment has begun, and this many of its events and activities are still to come
 pub record IsInPart (n m events activities : ℕ) (kept : Kept) : Type 0 where
   pub low : kept.tally.lower ≤ longest_walk n
   pub events_come : length kept.tally.times.items + events ≡ n
   pub acts_come : kept.tally.acts + activities ≡ m
   pub events_first : 0 < events → kept.tally.acts ≡ 0
 
--- what is kept fits the place of the next line
+-- the state fits the place of the next line
 abbrev pub IsAtPlace : ℕ → ℕ → Place → Kept → Type 0
 IsAtPlace n m Start kept = IsInNormal n n kept
 IsAtPlace n m (AfterHead shape) kept = IsShaped n m shape × IsInNormal n n kept

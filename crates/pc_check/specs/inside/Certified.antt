@@ -8,7 +8,7 @@ use Rattle.pc_check.specs.declared.checker.Verdict.TheVariants.{Yes, No}
 use Rattle.pc_check.specs.Failures.{failure_of}
 use Rattle.pc_check.specs.Certified.{AreCertified, segments_of}
 
--- what a checker found: that the lines are certified, with so many segments, or their first failure
+-- what a checker found: that the lines are certified, and how many segments they have, or their first failure
 abbrev pub Finds : PricedNetwork → List CertLine → Verdict → Type 0
 Finds net lines (Yes segments) = AreCertified net lines × (segments ≡ length (segments_of net lines))
 Finds net lines (No line reason) = failure_of net lines ≡ Some (record { line = line; reason = reason })

@@ -22,7 +22,7 @@ pub record IsWithin (low high head tail : ℕ) : Type 0 where
   pub above : tail + low ≤ head
   pub below : head ≤ tail + high
 
--- none of these gaps is below crash, or above it where something flows beside the knees; and at the first so many knees none is
+-- none of these gaps is below crash, or above it if there is flow on the crash duration; and at the first `count` knees none is
 -- below a knee where the flow is not its rise, or above one where something flows
 pub record FitsWithin (crash : ℕ) (knees : List Knee) (flows : List ℕ) (count low high : ℕ) : Type 0 where
   pub room : crash ≤ low

@@ -37,7 +37,7 @@ pub record IsSafe (net : PricedNetwork) (tally : Tally) : Type 0 where
 abbrev pub no_cut : Cut
 no_cut = record { forward = 0; backward = 0; stops = false }
 
--- a segment with these ends, of which nothing has come
+-- a segment with these ends, before its rows
 pub record IsBegun (u l c s : ℕ) (tally : Tally) : Type 0 where
   pub upper : tally.upper ≡ u
   pub lower : tally.lower ≡ l
