@@ -37,7 +37,7 @@ pub struct AcctRow {
     pub budget: u64,
 }
 
-/// A dated amount of an account: a charge, or what was to go on that day.
+/// A dated amount of an account: a charge, or an amount to go on that day.
 #[derive(Clone, Copy)]
 pub struct MoneyRow {
     pub account: u32,

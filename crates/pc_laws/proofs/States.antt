@@ -1,4 +1,4 @@
--- Laws of the state between two labellings: the first one, raisings, and falls.
+-- Laws of the state between two labellings: the first one, augmentations, and falls.
 pub mod Opening
 pub mod WalkedBack
 pub mod Raising

@@ -75,7 +75,7 @@ const TEXTS: &[(&[&[u8]], (u64, u64))] = &[
     (&[b"CERT 1 E1 03 3\n"], (0, 1)),
 ];
 
-// Whether the text of these parts is read so in pulls of so many bytes.
+// Whether the text of these parts is read so in pulls of `pull` bytes.
 fn is_read(
     alloc: Global,
     parts: &[&[u8]],

@@ -52,12 +52,12 @@ pub struct Knee {
     pub rise: u64,
 }
 
-/// What time costs: amounts of money per unit of the project's length, and per unit by which the end comes before or
-/// after the target.
+/// What time costs: amounts of money per unit of the project's length, and per unit that the end is before or after the
+/// target.
 ///
-/// A project of length L costs `overhead` · L for its time, plus `penalty` for each unit by which L is above the
-/// target, or minus `bonus` for each unit by which it is below. Each number is at most `MAX_TERMS`, and the bonus is at
-/// most the penalty.
+/// A project of length L costs `overhead` · L for its time, plus `penalty` for each unit that L is above the target, or
+/// minus `bonus` for each unit that it is below. Each number is at most `MAX_TERMS`, and the bonus is at most the
+/// penalty.
 #[derive(Clone, Copy)]
 pub struct TimeTerms {
     pub overhead: u64,

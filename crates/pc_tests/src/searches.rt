@@ -1,4 +1,4 @@
-//! Which way labels may cross an activity. The calls that ask for a whole state of a search are made by a solver in the
+//! Which way labels may cross an activity. The calls that need a complete state of a search are made by a solver in the
 //! tests of `curves`.
 ghost use Rattle.std.specs.Prelude.{◌≡◌, length};
 ghost use Rattle.pc_crash.specs.inside.Steps.{IsBlankOf};

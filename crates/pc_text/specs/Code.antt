@@ -7,7 +7,7 @@ use Rattle.std.specs.Char.{is_ascii_alphanumeric}
 abbrev pub is_code_byte : ℕ → Bool
 is_code_byte b = is_ascii_alphanumeric b || (b == 46 || (b == 95 || b == 45))
 
--- 1 to 16 bytes, each of which a code may have
+-- 1 to 16 bytes, each allowed in a code
 abbrev pub is_code : List ℕ → Bool
 is_code field = nat_le 1 (length field) && (nat_le (length field) 16 && list_all is_code_byte field)
 

@@ -48,7 +48,8 @@ took_line old held new count is less holds passes =
 
 -- ---- within a step
 
--- some bytes were pulled since the lines were given; within the limit they go on with a part of the next line, and then with the bytes ahead
+-- some bytes were pulled since the lines were given; within the limit they continue with a part of the next line, and
+-- then with the bytes ahead
 pub record IsWithin (lines : List (List ℕ)) (bytes : List ℕ) (left left_now : Option (List ℕ)) (reading : Reading) : Type 0 where
   pub part : List ℕ
   pub more : List ℕ
