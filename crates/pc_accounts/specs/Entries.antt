@@ -11,7 +11,7 @@ entry_at entries a = slice_index_or entries a (record { budget = 0; actual = 0; 
 abbrev pub latest_of : Entry → ℕ
 latest_of entry = entry.actual + entry.to_go
 
--- what its work is worth: the budget where its package is finished, and otherwise the budget in the ratio of actual to
+-- what its work is worth: the budget if its package is finished, and otherwise the budget in the ratio of actual to
 -- latest, rounded down, or nothing where latest is 0
 abbrev pub value_of : Bool → Entry → ℕ
 value_of finished entry =

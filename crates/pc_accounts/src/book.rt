@@ -149,7 +149,7 @@ impl Model for Book {
 
 impl Book {
     /// Builds the book of these accounts. Charges and amounts to go that are dated after `as_of` do not count. Linear
-    /// in the rows, but for the look-up of repeated amounts to go.
+    /// in the rows, except for the look-up of repeated amounts to go.
     ///
     /// # Errors
     ///

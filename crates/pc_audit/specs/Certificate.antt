@@ -68,7 +68,7 @@ abbrev pub IsSettledIn : {X : Type 0} → PricedNetwork → Verdict → Side X �
 IsSettledIn net verdict cert =
     IsSettled net verdict STREAM_ROOM cert.bytes cert.faults cert.pulls cert.old cert.new
 
--- the deck is accepted, and this is so for the network of its project
+-- the deck is accepted, and this holds for the network of its project
 pub record IsSettledFor {X : Type 0} (deck : List ℕ) (cert : Side X) (verdict : Verdict) : Type 0 where
   pub project : Project
   pub accepted : IsProjectOf deck project
@@ -78,7 +78,7 @@ pub record IsSettledFor {X : Type 0} (deck : List ℕ) (cert : Side X) (verdict 
 abbrev pub IsUnsettledIn : {X : Type 0} → PricedNetwork → Side X → Type 0
 IsUnsettledIn net cert = IsUnsettled net cert.bytes cert.faults cert.pulls cert.old cert.new
 
--- the deck is accepted, and this is so for the network of its project
+-- the deck is accepted, and this holds for the network of its project
 pub record IsUnsettledFor {X : Type 0} (deck : List ℕ) (cert : Side X) : Type 0 where
   pub project : Project
   pub accepted : IsProjectOf deck project

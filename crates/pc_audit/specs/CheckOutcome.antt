@@ -34,8 +34,8 @@ pub record IsVerdictCut {D C O : Type 0} (words : List (String Global)) (deck : 
   pub no_fault : cert.faults cert.new ≡ cert.faults cert.old
   pub took : TookFront out (verdict_text verdict)
 
--- where a write fault came: in the verdict, in the line of a fault, or in the usage line. The other output is as it was, and
--- the certificate is unread where no verdict was found
+-- where a write fault occurred: in the verdict, in the line of a fault, or in the usage line. The other output is unchanged, and
+-- the certificate is unread if no verdict was found
 pub data IsCheckCut {D C O E : Type 0} (words : List (String Global)) (deck : Side D) (cert : Side C) (out : Side O) (err : Side E) : Type 0 where
   in_verdict : IsVerdictCut words deck cert out → IsUntouched err → IsCheckCut words deck cert out err
   in_refusal : IsRefusalCut words deck err → IsUntouched cert → IsUntouched out → IsCheckCut words deck cert out err

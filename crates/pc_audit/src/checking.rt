@@ -101,7 +101,7 @@ pub fn check_run<D: Source, C: Source, O: Sink, E: Sink>(
         (pulled_side C.left C.faults C.pulls cert.old cert.new)
         (side O.taken O.faults out.old out.new) (side E.taken E.faults err.old err.new) }
 
-    // Each status but 2 and 5 comes only where there is one word.
+    // Each status but 2 and 5 is returned only if there is one word.
     ensures one_word { result ≢ 2 → result ≢ 5 → IsOneWord words.now }
 
     // No certificate is both certified and failing for one deck, each has one first failing point, and no deck is both

@@ -22,7 +22,7 @@ pub data Limit : Type 0 where
   up_to : ℕ → Limit
   growing : ℕ → ℕ → Limit
 
--- how many cards a limit allows in a deck of a version, where it is a number
+-- how many cards a limit allows in a deck of a version, if it is a number
 abbrev pub limit_at : ℕ → Limit → Option ℕ
 limit_at version unlimited = None
 limit_at version (up_to most) = Some most

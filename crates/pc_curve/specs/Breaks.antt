@@ -2,7 +2,7 @@
 use Rattle.std.specs.Prelude.{◌≡◌, ℕ, ◌<◌, ◌≤◌, ⊤, List, length, Option, Some, None}
 use Rattle.pc_laws.specs.Curve.{IsBreak, Breakpoint, IsBreakpoint, breakpoint_at}
 
--- a length below that of the breakpoint that was given last; every one, where none was given
+-- a length below that of the breakpoint that was given last; every length if none was given
 abbrev pub IsAhead : Option ℕ → ℕ → Type 0
 IsAhead None limit = ⊤
 IsAhead (Some last) limit = limit < last

@@ -199,7 +199,7 @@ fn next_turn<L: Ledger>(solver: &mut Solver<'_>, last: u64, steps: &mut Steps<L>
     break_at_lower(solver)
 }
 
-// The upper end of the present segment; without a slope where the curve has one length alone.
+// The upper end of the present segment; without a slope if the curve has only one length.
 fn break_at_upper(solver: &Solver<'_>) -> Break
     requires { solver.now.given ≡ true }
     ensures length { result.length ≡ (present solver.now).upper }
@@ -216,7 +216,7 @@ fn break_at_upper(solver: &Solver<'_>) -> Break
     }
 }
 
-// The lower end of the present segment, where the curve ends.
+// The lower end of the present segment, at which the curve ends.
 fn break_at_lower(solver: &Solver<'_>) -> Break
     requires { IsThere solver.now (lower_of solver.now) }
     ensures length { result.length ≡ (present solver.now).lower }

@@ -30,7 +30,7 @@ pub record IsDateText (text : List ℕ) (y m d : ℕ) : Type 0 where
   pub civil : IsCivilDate (pos y) m d
   pub spelled : text ≡ date_text y m d
 
--- the text is the date of this day, where a day is the number of days from 1970-01-01 to it
+-- the text is the date of this day; a day is the number of days from 1970-01-01 to it
 abbrev pub NamesDay : List ℕ → ℤ → Type 0
 NamesDay text day = (y : ℕ) × ((m : ℕ) × ((d : ℕ) × (IsDateText text y m d × (days_from_civil (pos y) m d ≡ day))))
 

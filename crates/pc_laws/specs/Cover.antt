@@ -17,7 +17,7 @@ Joins high (seg ∷ next ∷ rest) low = (seg.upper ≡ high) × Joins seg.lower
 abbrev pub IsLong : Segment → Type 0
 IsLong seg = seg.lower < seg.upper
 
--- a segment of one length alone is the only one
+-- a segment of only one length is the only segment
 abbrev pub IsLongUnlessAlone : List Segment → Type 0
 IsLongUnlessAlone segments = 1 < length segments → All IsLong segments
 

@@ -14,7 +14,7 @@ pub record AreAround (curve : ℕ → ℕ → Type 0) (limit shorter here longer
 abbrev pub IsTurn : (ℕ → ℕ → Type 0) → ℕ → Type 0
 IsTurn curve limit = (shorter here longer : ℕ) × AreAround curve limit shorter here longer × (shorter + longer ≢ 2 * here)
 
--- the curve from the shortest to the longest length breaks at its two ends, and where it turns between them
+-- the curve from the shortest to the longest length breaks at its two ends, and wherever it turns between them
 abbrev pub IsBreak : (ℕ → ℕ → Type 0) → ℕ → ℕ → ℕ → Type 0
 IsBreak curve shortest longest limit =
     (limit ≡ longest) ⊎ ((limit ≡ shortest) ⊎ ((shortest < limit) × (limit < longest) × IsTurn curve limit))
@@ -44,7 +44,7 @@ pub record AreBreakpoints (curve : ℕ → ℕ → Type 0) (shortest longest : �
       (k : ℕ) × (k < length points) × ((breakpoint_at points k).limit ≡ limit)
   pub falling : (j k : ℕ) → j < k → k < length points → (breakpoint_at points k).limit < (breakpoint_at points j).limit
 
--- the later segment begins where the earlier one ends, and neither is of one length alone
+-- the later segment begins where the earlier one ends, and neither has only one length
 pub record Meet (earlier later : Segment) : Type 0 where
   pub joined : earlier.lower ≡ later.upper
   pub first_long : earlier.lower < earlier.upper
@@ -78,7 +78,7 @@ abbrev pub corners_of : List Segment → List Breakpoint
 corners_of [] = []
 corners_of (seg ∷ rest) = upper_point seg ∷ corners_after (λ last. []) seg rest
 
--- and the last lower end; one point where the only segment is of one length
+-- and the last lower end; only one point if there is one segment, of one length
 abbrev pub breakpoints_of : List Segment → List Breakpoint
 breakpoints_of [] = []
 breakpoints_of (seg ∷ rest) =

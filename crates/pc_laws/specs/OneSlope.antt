@@ -46,7 +46,7 @@ plain_promise terms f1 f2 =
 
 -- Segments
 
--- where the gap is above normal f1 is 0, where it is below normal f1 is the slope, and where it is above crash f2 is 0
+-- if the gap is above normal f1 is 0, if it is below normal f1 is the slope, and if it is above crash f2 is 0
 pub record IsPlainSlack (terms : List Term) (a tail head f1 f2 : ℕ) : Type 0 where
   pub above_normal : tail + normal_of terms a < head → f1 ≡ 0
   pub below_normal : head < tail + normal_of terms a → f1 ≡ slope_of terms a

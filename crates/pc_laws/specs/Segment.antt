@@ -83,14 +83,14 @@ pub record HasEnds (net : Network) (seg : Segment) : Type 0 where
 abbrev pub HasDuration : Network → List Term → Segment → ℕ → Type 0
 HasDuration net terms seg a = seg.duration a ≡ lesser_of net terms seg.time a
 
--- nothing costs, moves or flows
+-- the slope is 0, no event moves and nothing flows
 pub record IsStill (net : Network) (knees : Knees) (seg : Segment) : Type 0 where
   pub flat : seg.slope ≡ 0
   pub rests : (e : ℕ) → e < net.events → seg.moves e ≡ false
   pub empty : (a k : ℕ) → a < length net.arcs → k < knees.count a → seg.flow a k ≡ 0
   pub empty_beside : (a : ℕ) → a < length net.arcs → seg.beside a ≡ 0
 
--- the lower end is not above the upper one, and where they are equal nothing costs, moves or flows
+-- the lower end is not above the upper one, and if they are equal the slope is 0, no event moves and nothing flows
 pub record IsProper (net : Network) (knees : Knees) (seg : Segment) : Type 0 where
   pub ordered : seg.lower ≤ seg.upper
   pub degenerate : seg.lower ≡ seg.upper → IsStill net knees seg

@@ -57,7 +57,7 @@ CanLower net terms knees st a =
     ((k : ℕ) × (k < knees.count a) × IsAtKnee net knees st.time a k × (0 < st.flow a k))
     ⊎ (IsAtCrash net terms st.time a × (0 < st.beside a))
 
--- The way on where the labels reach the end
+-- The next step if the labels reach the end
 
 -- the flow `now` is the flow `old` with `room` more from event x to the end: what enters an event less what leaves it
 -- is `room` more at the end, `room` less at x, and the same at each other event
@@ -75,7 +75,7 @@ pub record IsRaising (net : Network) (terms : List Term) (knees : Knees) (st : S
   pub at_knee : (a k : ℕ) → a < length net.arcs → k < knees.count a → (flow a k ≡ st.flow a k) ⊎ IsAtKnee net knees st.time a k
   pub at_crash : (a : ℕ) → a < length net.arcs → (beside a ≡ st.beside a) ⊎ IsAtCrash net terms st.time a
 
--- a step changes the flows of activity a alone: each to at most the rise, and only where the gap is its knee
+-- a step changes only the flows of activity a: each to at most the rise, and only if the gap is its knee
 pub record IsStep (net : Network) (terms : List Term) (knees : Knees) (st : State) (flow next_flow : ℕ → ℕ → ℕ) (beside next_beside : ℕ → ℕ) (a : ℕ) : Type 0 where
   pub capacity : (k : ℕ) → k < knees.count a → next_flow a k ≤ knees.rise a k
   pub at_knee : (k : ℕ) → k < knees.count a → (next_flow a k ≡ flow a k) ⊎ IsAtKnee net knees st.time a k
@@ -88,7 +88,7 @@ abbrev pub augmented : State → (ℕ → ℕ → ℕ) → (ℕ → ℕ) → ℕ
 augmented st flow beside room =
     record { limit = st.limit; time = st.time; flow = flow; beside = beside; value = st.value + room }
 
--- The way on where they do not
+-- The next step if they do not
 
 -- the labels cannot grow: the start has one and the end has none, so that the start rests and the end moves, and no
 -- step with residual capacity leads from a resting to a moving event

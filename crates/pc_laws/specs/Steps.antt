@@ -40,7 +40,7 @@ filled_state terms knees limit time along value = record {
   value = value;
 }
 
--- The way on where the labels reach the end
+-- The next step if the labels reach the end
 
 -- an augmentation by `room`, walked back from the end to event x: the flows are the earlier ones with `room` more from
 -- x to the end, and each fits its gap
@@ -48,7 +48,7 @@ pub record IsStairRaising (net : Network) (terms : List Term) (knees : Knees) (t
   pub part : IsPart net along now x room
   pub fits : (a : ℕ) → a < length net.arcs → IsOnStair (stair_of terms knees a) (gap_of net.arcs time a) (now a)
 
--- The way on where they do not
+-- The next step if they do not
 
 -- the labels cannot grow: the start rests and the end moves, the next unit of each forward activity has an arc shorter
 -- than the gap, and the last unit of each backward one an arc longer than it

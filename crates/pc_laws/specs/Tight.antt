@@ -12,7 +12,7 @@ use Rattle.pc_model.specs.Cost.{Knees}
 abbrev pub HasRoom : List Term → ℕ → ℕ → ℕ → Type 0
 HasRoom terms a tail head = tail + crash_of terms a ≤ head
 
--- at one knee: where the gap is above it the flow is 0, and where it is below it the flow is the rise
+-- at one knee: if the gap is above it the flow is 0, and if it is below it the flow is the rise
 pub record IsSlackAtKnee (tail head knee rise flow : ℕ) : Type 0 where
   pub above : tail + knee < head → flow ≡ 0
   pub below : head < tail + knee → flow ≡ rise

@@ -94,7 +94,7 @@ pub fn conditions_make_it_right()
 {}
 
 /// States how a front of segments grows: the first segment begins it, each further complete segment at its lower end
-/// takes it further down, and at the all-crash length it covers the range.
+/// extends it downwards, and at the all-crash length it covers the range.
 pub fn a_front_grows()
     ensures begins { (net : Network) (terms : List Term) (knees : Knees) (segment : Segment) →
         IsSegment net terms knees segment → ((a : ℕ) → a < length net.arcs → segment.duration a ≡ normal_of terms a) →

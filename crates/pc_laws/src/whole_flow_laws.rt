@@ -75,7 +75,7 @@ pub fn whole_flows_are_states()
 {}
 
 /// States that at the normal durations, with times that end with the length, nothing flows. If nothing flows and no
-/// event moves, the segment of the present length alone is complete.
+/// event moves, the segment of only the present length is complete.
 pub fn nothing_flows_at_first()
     ensures state { (net : Network) (terms : List Term) (knees : Knees) → IsPriced net terms knees →
         (limit : ℕ) (times : ℕ → ℕ) → IsSchedule net terms limit (normal_of terms) times → times net.end ≡ limit →
@@ -196,8 +196,8 @@ pub fn whole_flows_give_a_segment()
 
 /// States a state worked by hand: the small deck at 8 units, with A shortened to its middle knee.
 ///
-/// Of the 5 units that flow along A three run on the first knee and two on the second, where one more could. T alone
-/// moves, by 1, until C is as long as it normally takes.
+/// Of the 5 units that flow along A three run on the first knee and two on the second, which could take one more. Only
+/// T moves, by 1, until C is as long as it normally takes.
 pub fn middle_knee_is_worked()
     ensures state { IsStairOptimal small_net small_terms (knees_of small_terms small_pieces) 8 small_2.time
         (slice_index (5 ∷ 5 ∷ 0 ∷ [])) 5 }

@@ -18,7 +18,7 @@ abbrev pub period_row : Project → ℕ → ℕ → List ℕ
 period_row project days k =
     period_cells k (date_or_none (project.heading.start_day +ℤ pos (days * k)))
 
--- the row of an amount in period k; none where it is 0
+-- the row of an amount in period k, or none if it is 0
 abbrev pub amount_row : List ℕ → ℕ → ℤ → List ℕ
 amount_row code k amount =
     if int_le amount (pos 0) then [] else row (left 16 code ∷ right 6 (decimal k) ∷ right 14 (signed_decimal amount) ∷ [])

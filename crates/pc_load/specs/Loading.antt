@@ -33,7 +33,7 @@ normal_cost_at project a = base_cost_of project.terms a
 abbrev pub load_at : Project → ℕ → LoadItem
 load_at project l = slice_index_or project.loads l (record { activity = 0; resource = 0; quantity = 0 })
 
--- the part in period k, where a period is so wide
+-- the part in period k, with periods of this width
 abbrev pub part_at : Spread → ℕ → ℕ → ℕ
 part_at s width k = part s (width * k) (width * (k + 1))
 

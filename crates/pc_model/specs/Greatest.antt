@@ -15,7 +15,7 @@ pub record IsFirst (P : ℕ → Type 0) (a : ℕ) : Type 0 where
 abbrev pub StandsBelow : List ℕ → ℕ → ℕ → Type 0
 StandsBelow xs n v = (j : ℕ) × (j < n) × (slice_index xs j ≡ v)
 
--- the places of x among ys, where the first of ys has the place i
+-- the places of x among ys, counted from i
 abbrev pub places : ℕ → ℕ → List ℕ → List ℕ
 places x i [] = []
 places x i (y ∷ ys) = if y == x then i ∷ places x (i + 1) ys else places x (i + 1) ys

@@ -14,7 +14,7 @@ pieces_of pieces a = filter (λ piece. piece.activity == a) pieces
 abbrev pub units_of : List PieceRow → ℕ
 units_of pieces = sum_by (λ piece. piece.units) pieces
 
--- the slope of an activity's k-th piece, where its term gives the first; past the last one 0
+-- the slope of an activity's k-th piece: for k = 0 that of its term; past the last piece 0
 abbrev pub slope_in : Term → List PieceRow → ℕ → ℕ
 slope_in term pieces zero = term.slope
 slope_in term pieces (suc k) = (slice_index_or pieces k (record { activity = 0; units = 0; slope = 0 })).slope

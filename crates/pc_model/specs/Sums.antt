@@ -7,6 +7,6 @@ sum_to zero f = 0
 sum_to (suc n) f = sum_to n f + f n
 
 -- the sum of f over those of the first m activities that `place` puts at event e:
--- what enters e where `place` is an activity's ending event, what leaves e where it is the beginning one
+-- what enters e if `place` is an activity's ending event, what leaves e if it is the beginning one
 abbrev pub at_event : ℕ → (ℕ → ℕ) → (ℕ → ℕ) → ℕ → ℕ
 at_event m place f e = sum_to m (λ a. if place a == e then f a else 0)

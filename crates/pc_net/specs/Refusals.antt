@@ -1,4 +1,4 @@
--- Why a network is refused: each cause with the first thing that it names, where none of the earlier causes holds.
+-- Why a network is refused: each cause with the first thing that it names, if no earlier cause holds.
 use Rattle.std.specs.Prelude.{ℕ, ◌↔◌, Bool, IsFalse}
 use Rattle.pc_model.specs.Greatest.{IsFirst}
 use Rattle.pc_model.specs.Network.{Network, IsEntered, IsLeft}
@@ -7,7 +7,7 @@ use Rattle.pc_net.specs.declared.refusal.NetError.TheVariants.{StartEntered, End
 use Rattle.pc_net.specs.Firmness.{EntersStart, LeavesEnd, Dangles, IsUnentered, IsFirm}
 use Rattle.pc_net.specs.Cycles.{IsFirstCycle}
 
--- the first event that dangles, and whether it is the start or entered, where the start and the end are free
+-- the first event that dangles, and whether it is the start or entered, if no activity enters the start or leaves the end
 pub record IsFirstDangling (net : Network) (event : ℕ) (entered : Bool) : Type 0 where
   pub not_entered : IsEntered net net.start → ⊥
   pub not_left : IsLeft net net.end → ⊥

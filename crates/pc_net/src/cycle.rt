@@ -9,7 +9,7 @@ use crate::graph::Graph;
 use pc_model::MAX_EVENTS;
 use std::alloc::{AllocError, Global};
 
-/// A cycle through no event twice that begins with the first activity on any cycle; none where there is no cycle.
+/// A cycle through no event twice that begins with the first activity on any cycle; none if there is no cycle.
 ///
 /// Linear in events and activities: only an activity between events of the same label is searched from, and with the
 /// labels of strongly connected components the first such search finds a cycle.

@@ -101,7 +101,7 @@ impl Code {
 fn is_code_byte(byte: u8) -> bool
     ensures { result ≡ is_code_byte byte }
 {
-    // One look at the table, where the ranges of letters and digits would be five comparisons.
+    // One look at the table, instead of five comparisons for the ranges of letters and digits.
     CODE_BYTES[byte as usize] != b','
 }
 
@@ -202,7 +202,7 @@ impl Hash for Code {
 
     ghost respects_eq = { same_cells };
 
-    // All cells at once, the zeros among them: two codes are equal exactly where all their cells are.
+    // All cells at once, the zeros among them: two codes are equal if and only if all their cells are.
     fn hash<H: Hasher>(&self, state: &mut H) {
         state.write(&self.cells);
     }

@@ -15,7 +15,7 @@ pub record Expected : Type 0 where
 abbrev pub state_at : List ActState → ℕ → ActState
 state_at states a = slice_index_or states a Waiting
 
--- when an activity of that length is expected to be finished, where its beginning event is expected at `begin`: when it
+-- when an activity of that length is expected to be finished if its beginning event is expected at `begin`: when it
 -- was finished, or its length after it was started, but not before as-of; an activity that waits cannot begin before as-of
 -- either, unless it takes no time
 abbrev pub finish_of : ActState → ℕ → ℕ → ℕ → ℕ

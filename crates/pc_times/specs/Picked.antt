@@ -1,4 +1,4 @@
--- The critical path that is picked where there are several.
+-- The critical path that is picked if there are several.
 use Rattle.std.specs.Prelude.{◌≡◌, ℕ, ◌<◌, List, [], ◌∷◌, length, Contains}
 use Rattle.pc_model.specs.Greatest.{IsFirst}
 use Rattle.pc_model.specs.Walk.{from_of, to_of, IsWalk, walk_sum}

@@ -11,7 +11,7 @@ parent_of rows x = (slice_index_or rows x (record { parent = None })).parent
 abbrev pub AreInRange : List ItemRow → Type 0
 AreInRange rows = (x p : ℕ) → x < length rows → parent_of rows x ≡ Some p → p < length rows
 
--- the row that is k parents up from x; none where there are fewer
+-- the row that is k parents up from x, or none if there are fewer
 abbrev pub climb : List ItemRow → ℕ → ℕ → Option ℕ
 climb rows zero x = Some x
 climb rows (suc k) x = option_and_then (climb rows k) (parent_of rows x)

@@ -72,7 +72,7 @@ pub(crate) fn levels_of(alloc: Global, rows: &[ItemRow]) -> Result<Vec<u32>, Tre
     Ok(levels)
 }
 
-/// The level of a row, where there is no loop.
+/// The level of a row, if there is no loop.
 fn level_of(rows: &[ItemRow], item: u32) -> u32
     requires count { length rows.now ≤ MAX_ITEMS }
     requires in_range { AreInRange rows.now }

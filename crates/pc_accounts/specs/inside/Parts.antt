@@ -44,7 +44,7 @@ abbrev pub to_go_from : List MoneyRow → ℕ → Option ℕ → ℕ
 to_go_from togos left None = left
 to_go_from togos left (Some k) = (money_at togos k).amount
 
--- the entry of an account with this budget and this actual, where that amount to go counts
+-- the entry of an account with this budget and this actual, if that amount to go counts
 abbrev pub entry_from : List MoneyRow → ℕ → ℕ → Option ℕ → Entry
 entry_from togos budget actual latest =
     record { budget = budget; actual = actual; to_go = to_go_from togos (budget - actual) latest }

@@ -35,7 +35,7 @@ over_limit_at row (Some slot) = Some (fault.over_limit row slot.0)
 abbrev pub flaw_of_fields : ℕ → List Slot → List (List ℕ) → Option Fault
 flaw_of_fields row slots fields = option_or (misshapen_at row (first_misshapen slots fields)) (over_limit_at row (first_over_limit slots fields))
 
--- F9: the card's code, where an earlier card of its kind has it
+-- F9: the card's code, if an earlier card of its kind has it
 abbrev pub repeated : ℕ → List (List ℕ) → List ℕ → Option Fault
 repeated row codes code = then_some (is_among code codes) (fault.repeated_code row code)
 

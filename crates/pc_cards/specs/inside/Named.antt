@@ -16,7 +16,7 @@ abbrev pub none_by : (once : Bool) (C : Type 0) → HeldBy once C
 none_by true C = None
 none_by false C = []
 
--- with one more card, where the test holds
+-- with one more card if the test holds
 abbrev pub more_if : (test once : Bool) (C : Type 0) → HeldBy once C → C → HeldBy once C
 more_if false once C held card = held
 more_if true true C held card = Some card

@@ -1,4 +1,4 @@
-//! What is said of a time-cost curve: its two ends, how often it breaks, and what all its lengths cost together.
+//! The figures of a time-cost curve: its two ends, how often it breaks, and the sum of the costs of all its lengths.
 ghost use Rattle.std.specs.Prelude.{◌≡◌, ◌+◌, ◌*◌, ◌^◌, ◌<◌, ◌≤◌, ◌==◌, if◌then◌else◌, true, false};
 ghost use Rattle.pc_model.specs.Sums.{sum_to};
 ghost use Rattle.pc_laws.specs.Segment.{cost_for};
@@ -83,7 +83,7 @@ fn first_segment<L: Ledger>(solver: &mut Solver<'_>, steps: &mut Steps<L>)
     solver.next_segment(steps);
 }
 
-/// The lower end of the curve is a breakpoint more, unless the curve has one length alone.
+/// The lower end of the curve is a breakpoint more, unless the curve has only one length.
 fn lower_ends(shortest: u64, longest: u64) -> u64
     ensures some { shortest < longest → result ≡ 1 }
     ensures none { longest ≤ shortest → result ≡ 0 }

@@ -16,7 +16,7 @@ abbrev pub open_behind : List ℕ → List ℕ → List ℕ
 open_behind open_line [] = open_line
 open_behind open_line (b ∷ bytes) = if b == 10 then open_behind [] bytes else open_behind (open_line ++ b ∷ []) bytes
 
--- a line without an end is one where it is not empty
+-- the bytes after the last end of a line are a line if there are any
 abbrev pub last_line : List ℕ → List (List ℕ)
 last_line [] = []
 last_line (b ∷ bytes) = (b ∷ bytes) ∷ []

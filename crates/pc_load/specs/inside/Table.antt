@@ -46,7 +46,7 @@ pub record IsRowOf (table : Table) (row : ℕ) : Type 0 where
 
 -- ---- the table of entries
 
--- the part of the e-th entry in period k, where a period is so wide
+-- the part of the e-th entry in period k, with periods of this width
 abbrev pub part_in : List LoadRow → ℕ → ℕ → ℕ → ℕ
 part_in entries width k e = part (spread_of entries e) (width * k) (width * (k + 1))
 

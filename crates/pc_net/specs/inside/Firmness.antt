@@ -4,7 +4,7 @@ use Rattle.std.specs.Prelude.{◌≢◌, ℕ, Option, MatchOption}
 use Rattle.pc_model.specs.Greatest.{IsFirst}
 use Rattle.pc_model.specs.Network.{Network, IsLeft}
 
--- the first number with P, or none where no number has it
+-- the first number with P, or none if no number has it
 abbrev pub IsFirstIn : (ℕ → Type 0) → Option ℕ → Type 0
 IsFirstIn P found = MatchOption found ((a : ℕ) → P a → ⊥) (IsFirst P)
 

@@ -7,7 +7,7 @@ use Rattle.pc_times.specs.declared.TheConstants.{MAX_TIME}
 use Rattle.pc_times.specs.declared.forecasts.ActState.{ActState}
 use Rattle.pc_times.specs.Forecast.{state_at, finish_of}
 
--- the finish of activity a, where these are the times of events
+-- the finish of activity a, given the times of events
 abbrev pub finish_at : Network → List ℕ → List ActState → ℕ → List ℕ → ℕ → ℕ
 finish_at net lengths states as_of times a =
     finish_of (state_at states a) (slice_index lengths a) as_of (slice_index times (from_of net.arcs a))

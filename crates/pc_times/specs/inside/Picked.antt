@@ -1,4 +1,4 @@
--- The critical path that is picked where there are several.
+-- The critical path that is picked if there are several.
 -- Here is what no clause of a top call and no law reaches.
 use Rattle.std.specs.Prelude.{ℕ, List}
 

@@ -50,7 +50,7 @@ pub record AreLevels (rows : List ItemRow) (n : ℕ) (levels : List ℕ) : Type 
   pub level : (x : ℕ) → x < n → HasLevel rows x (slice_index levels x)
   pub within : (x : ℕ) → x < n → slice_index levels x ≤ MAX_LEVEL
 
--- the greatest of the first n numbers; 0 where there are none
+-- the greatest of the first n numbers, or 0 if there are none
 pub record AreGreatest (xs : List ℕ) (n greatest : ℕ) : Type 0 where
   pub bound : (k : ℕ) → k < n → slice_index xs k ≤ greatest
   pub attained : 0 < n → StandsBelow xs n greatest

@@ -13,7 +13,7 @@ costs_below seg = sum_to (span seg) (λ k. cost_for seg (seg.upper - (k + 1)))
 abbrev pub first_tally : Segment → CurveTally
 first_tally seg = record { slope = seg.slope; breaks = 1; sum = seg.cost + costs_below seg }
 
--- and what one more does: where the slope changes, the curve breaks
+-- and the figures with one more: if the slope changes, the curve breaks
 abbrev pub next_tally : CurveTally → Segment → CurveTally
 next_tally tally seg = record {
   slope = seg.slope;
