@@ -35,7 +35,7 @@ pub record HasAnswered {C O : Type 0} (answers : List (List ℕ) → List ℕ �
   pub took : Took out text
 
 -- the output failed after it had taken a prefix of the answers to the first lines of the bytes that were taken: of complete lines,
--- unless the edits were read to their end. No pull of the edits failed, and none came after the one in which the last of these lines ended
+-- unless the edits were read to their end. No pull of the edits failed, and there was none after the one in which the last of these lines ended
 pub record HasAnsweredSome {C O : Type 0} (answers : List (List ℕ) → List ℕ → Type 0) (edits : Side C) (out : Side O) : Type 0 where
   pub bytes : List ℕ
   pub taken : Consumes (edits.bytes edits.old) (edits.bytes edits.new) bytes

@@ -78,7 +78,7 @@ pub fn session_run<D: Source, C: Source, O: Sink, E: Sink>(
         (pulled_side C.left C.faults C.pulls edits.old edits.new) (side O.taken O.faults out.old out.new)
         (side E.taken E.faults err.old err.new) }
 
-    // Each status but 2 and 5 comes only where there is one word.
+    // Each status but 2 and 5 is returned only if there is one word.
     ensures one_word { result ≢ 2 → result ≢ 5 → IsOneWord words.now }
 
     // Without a read fault, a deck that is not refused is accepted, or the status is 3.

@@ -6,7 +6,7 @@ use Rattle.pc_project.specs.Project.{Project}
 use Rattle.pc_project.specs.shell.Sides.{Side, Took}
 use Rattle.pc_project.specs.shell.Verdict.{IsProjectOf}
 
--- the output took a text that is an accepted deck, of version 2: its project is this one, but for the deck that it keeps, and the two
+-- the output took a text that is an accepted deck, of version 2: its project is this one, except for the deck that it has, and the two
 -- decks say the same; and whatever `migrate` writes of the text is the text again
 pub record TookDeckOf {X : Type 0} (out : Side X) (project : Project) : Type 0 where
   pub text : List ℕ

@@ -76,7 +76,7 @@ pub fn run<S: Source, O: Sink, E: Sink>(
         (TookSameProject (side O.taken O.faults out.old out.new)) }
 
     // At 0 for `arrows`, the deck is an accepted deck of tasks, and `out` took a deck that is accepted and has the
-    // project of the plan generated from them: it has a schedule for a length exactly if the tasks have one, and the
+    // project of the plan generated from them: it has a schedule for a length if and only if they have one, and the
     // same least cost.
     ensures drawn { result ≡ 0 → AskFor Arrows words.now → OfBytes (side S.left S.faults source.old source.new)
         (TookArrows (side O.taken O.faults out.old out.new)) }

@@ -41,7 +41,7 @@ begun project = record {
   kept = [];
 }
 
--- the number of the activity with a code; none where no activity has it
+-- the number of the activity with a code; none if no activity has it
 abbrev pub activity_named : PricedNetwork → List ℕ → Option ℕ
 activity_named net code = position (pointwise nat_eq code) net.activities
 

@@ -69,7 +69,7 @@ edit_refusal net estimates edit =
     -- 2: no activity has the code
     (Some UnknownActivity)
 
--- why a trial is refused, but for its length
+-- why a trial is refused, except for its length
 abbrev pub trial_refusal : PricedNetwork → List Estimates → Trial → Option Reason
 trial_refusal net estimates trial =
     option_map_or

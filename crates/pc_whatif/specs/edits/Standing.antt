@@ -26,7 +26,7 @@ noted journal edit = record { standing = journal.standing ++ edit ∷ []; kept =
 abbrev pub taken_back : Journal → Journal
 taken_back journal = record { standing = take (length journal.standing - 1) journal.standing; kept = journal.kept - 1 }
 
--- the number of the activity of an edit; past those of all activities where none has its code, which no accepted edit's is
+-- the number of the activity of an edit; past those of all activities if none has its code, which is not so for an accepted edit
 abbrev pub activity_of_edit : PricedNetwork → Edit → ℕ
 activity_of_edit net edit = unwrap_or (activity_named net edit.act) (length net.activities)
 

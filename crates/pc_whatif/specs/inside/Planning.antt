@@ -52,13 +52,13 @@ AnswersLine old line text new = IsAnswered old (ask_of line) text new
 abbrev pub LooksOver : PricedNetwork → ℕ → ℕ → Type 0
 LooksOver net before after = (shortest longest : ℕ) → IsRange net shortest longest → after ≤ before + looks_over net (longest - shortest)
 
--- a TRY looks over the network with its numbers in place, or not at all where it is refused before that
+-- a TRY looks over the network with its numbers in place, or takes no look if it is refused before that
 pub record LooksToTry (editing : Editing) (trial : Trial) (before after : ℕ) : Type 0 where
   pub refused : (reason : Reason) → trial_refusal editing.net editing.estimates trial ≡ Some reason → after ≡ before
   pub tried : (a : ℕ) → trial_refusal editing.net editing.estimates trial ≡ None → activity_named editing.net trial.act ≡ Some a
       → LooksOver (net_tried editing trial a) before after
 
--- CURVE looks over the network as it is edited, and no line but these two looks at all
+-- CURVE looks over the network as it is edited, and no line other than these two looks at activities
 abbrev pub LooksToAnswer : Editing → Option Ask → ℕ → ℕ → Type 0
 LooksToAnswer editing None before after = after ≡ before
 LooksToAnswer editing (Some (ask.Edit edit)) before after = after ≡ before
