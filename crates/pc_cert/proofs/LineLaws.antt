@@ -1,4 +1,4 @@
--- What is read of a line is spelled so, and what is spelled so is read: no line has two spellings, and no bytes spell two
+-- A line that is read has this text, and the text of a line is read as it: no line has two texts, and no bytes are two
 -- lines.
 use Rattle.std.proofs.Common.{◌≡◌, ℕ, ◌≤◌, zero, suc, Bool, false, ◌||◌, cond, ltb, List, [], ◌∷◌, ◌++◌, length, take, drop, Option, Some, None, refl, sym, ap, subst, ◌∙◌, arith}
 use Rattle.std.proofs.lemmas.Bool.{ltb-false, le-ltb}

@@ -38,7 +38,7 @@ pub struct ActRow {
 /// The lines of events and activities as they were put last, in card order.
 ///
 /// What a line says in the next segment is compared with what it says now, so that the text of a line that occurs again
-/// is put as it is. There is also a buffer in which lines are gathered for the page.
+/// is put as it is. There is also a buffer in which lines are collected for the page.
 pub struct LastLines {
     pub(crate) events: Vec<EventRow>,
     pub(crate) acts: Vec<ActRow>,

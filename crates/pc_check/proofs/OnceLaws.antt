@@ -48,8 +48,8 @@ either (x ∷ xs) (y ∷ ys) a b p q same =
 
 -- ---- points
 
--- a point behind lines of which none fails: of a line that is malformed or missing. What follows these lines begins with no line
--- that may stand there
+-- a point after lines none of which fails: of a line that is malformed or missing. What follows these lines begins with no line
+-- that is allowed there
 record IsBroken (net : PricedNetwork) (text : List ℕ) (fail : Fail) : Type 0 where
   pub lines : List CertLine
   pub rest : List ℕ

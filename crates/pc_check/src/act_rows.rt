@@ -18,7 +18,7 @@ use pc_crash::CrashNet;
 /// changes, and the answer is 0.
 ///
 /// The inner loop takes lines of activities that do not cross the cut, and writes nothing, so that it keeps what it
-/// needs in registers: how many activities have come is counted beside it too. At the first line that it does not take
+/// needs in registers: a variable of its own counts the activities, too. At the first line that it does not take
 /// the outer loop adds to the cut what the activity adds, where its line is one that passes across.
 #[inline(never)]
 pub(crate) fn advance_acts(

@@ -387,7 +387,7 @@ impl<'n> CrashNet<'n> {
     }
 }
 
-/// The events of an activity, its durations in units, the cost of the first unit by which it is shortened, and its
+/// The events of an activity, its durations in units, the cost of the first unit saved, and its
 /// knees.
 #[derive(Drop)]
 pub struct Look<'n> {

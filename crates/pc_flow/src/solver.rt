@@ -144,7 +144,7 @@ impl<'n> Solver<'n> {
     }
 
     /// Goes on to the next segment, and returns whether there is one. At most four looks at each activity for each unit
-    /// by which the slope rises or the lower end comes down. Allocates nothing.
+    /// that the slope rises or the lower end decreases. Allocates nothing.
     pub fn next_segment<L: Ledger>(&mut self, steps: &mut Steps<L>) -> bool
         ensures ended { IsFalse result ↔ HasEnded self.old }
         ensures unchanged { IsFalse result → self.new ≡ self.old }

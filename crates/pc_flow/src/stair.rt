@@ -1,5 +1,5 @@
 //! The staircase of an activity in numbers: the lengths of the arcs on which units of its flow run, how far the flow
-//! may change where the gap is as long as an arc, and what of a whole flow runs on each knee.
+//! may change where the gap is as long as an arc, and the part of a total flow that runs on each knee.
 //!
 //! An activity's knees are a slice in the order in which the duration falls, the first at the normal duration. No more
 //! than a handful are there, so each call looks at them one after the other.

@@ -160,7 +160,7 @@ IsSumOver-natural P (suc n) f t natural (inl (p, (r, (over, e)))) =
 IsSumOver-natural P (suc n) f t natural (inr (none, over)) =
     IsSumOver-natural P n f t (λ x h. natural x (omega arith)) over
 
--- where it can be told which numbers have the property, there is a sum
+-- if it is decided which numbers have the property, there is a sum
 pub IsSumOver-some : (P : ℕ → Type 0) (n : ℕ) (f : ℕ → ℤ) → ((x : ℕ) → x < n → P x ⊎ (P x → ⊥)) → (t : ℤ) × IsSumOver P n f t
 IsSumOver-some P zero f told = (pos 0, refl)
 IsSumOver-some P (suc n) f told =

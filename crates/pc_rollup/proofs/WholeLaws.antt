@@ -18,8 +18,8 @@ use Rattle.pc_rollup.proofs.SumLaws.{IsSumOver-none, IsSumOver-same, IsSumOver-b
 use Rattle.pc_rollup.proofs.RollLaws.{leaf_or_not}
 use Rattle.pc_rollup.proofs.LineLaws.{line_of_leaf, AreLinesTo, lines_none, lines_skip, lines_more, lines_all}
 
--- what stands on the leaves of a tree, and the lines of a level: those numbers below n that have P stand on leaves, each
--- total is the sum of what stands on its item or below it, and the lines are those of the level with these totals
+-- what is on the leaves of a tree, and the lines of a level: those numbers below n that have P are on leaves, each
+-- total is the sum of what is on its item or below it, and the lines are those of the level with these totals
 pub record AreAll (rows : List ItemRow) (order : List ℕ) (level : ℕ) (P : ℕ → Type 0) (place : ℕ → ℕ) (n : ℕ) (amount : ℕ → ℤ) (totals : List ℤ) (listed : List LevelLine) : Type 0 where
   pub ranged : AreInRange rows
   pub tree : IsTree rows

@@ -1,4 +1,4 @@
--- Convex costs: what neighbours say of the whole range.
+-- Convex costs: what neighbours show about the complete range.
 use Rattle.std.proofs.Common.{◌≡◌, ℕ, zero, suc, ◌+◌, ◌-◌, ◌*◌, ◌<◌, ◌≤◌, inl, inr, subst, arith}
 use Rattle.std.proofs.lemmas.Bool.{cases_lt}
 

@@ -1,4 +1,4 @@
--- Totals by length: the sum of what a length costs directly and what its units cost, less the bonus of the whole target, is
+-- Totals by length: the sum of what a length costs directly and what its units cost, less the bonus of all units of the target, is
 -- convex, and so the totals of a length's neighbours say of it that it is the optimum.
 use Rattle.std.proofs.Common.{◌≡◌, ℕ, ◌+◌, ◌-◌, ◌*◌, ◌^◌, ◌<◌, ◌≤◌, Option, Some, None, inl, inr, refl, ap, subst, arith}
 use Rattle.std.specs.Prelude.{ℤ, pos, ◌+ℤ◌, ◌<ℤ◌, ◌≤ℤ◌, IfSome, min, nat_lt}
@@ -15,7 +15,7 @@ use Rattle.pc_total.specs.inside.Stops.{unit_cost}
 use Rattle.pc_total.proofs.ConvexLaws.{IsConvex, dearer-below, no-cheaper-above}
 
 module _ (terms : TimeTerms) where
-  -- what the first n units cost, where the bonus of the whole target was paid before
+  -- what the first n units cost, if the bonus of all units of the target was paid before
   abbrev pub weight : ℕ → ℕ
   weight n = terms.overhead * n + (terms.penalty * (n - terms.target) + terms.bonus * min n terms.target)
 
@@ -61,7 +61,7 @@ module _ (terms : TimeTerms) where
         ]
       ]
 
-  -- the bonus of the whole target
+  -- the bonus of all units of the target
   abbrev pub prize : ℕ
   prize = terms.bonus * terms.target
 
@@ -75,7 +75,7 @@ module _ (terms : TimeTerms) where
       )
 
   module _ (curve : ℕ → ℕ → Type 0) (is : IsConvex curve) (small : terms.bonus ≤ terms.penalty) where
-    -- a length's total, and the bonus of the whole target
+    -- a length's total, and the bonus of all units of the target
     pub record Weighs (limit w : ℕ) : Type 0 where
       pub direct : ℕ
       pub least : curve limit direct

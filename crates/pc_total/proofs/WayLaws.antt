@@ -21,7 +21,7 @@ use Rattle.pc_total.specs.inside.Stops.{unit_cost, IsStop, IsGain, PaysToStop}
 abbrev pub left : Course → ℕ
 left c = if c.given then lower_of c else c.longest + 1
 
--- the solver has come down by whole segments, and at its lower end a unit more costs no less than it saves
+-- the solver has advanced by complete segments, and at its lower end a unit more costs no less than it saves
 pub record HasComeDown (terms : TimeTerms) (from c : Course) (gain : ℕ) : Type 0 where
   pub same : IsSameCurve from c
   pub further : IsFurther from c
@@ -205,7 +205,7 @@ module _ (terms : TimeTerms) (from c : Course) (gain : ℕ) (way : HasComeDown t
             costs = λ given below. subst (λ n. (present d).slope ≤ unit_cost terms (n + 1)) at (stops.costs (omega (arith, at, long below)));
           }
 
--- an optimum of the curve that a solver has come along is one of its whole curve
+-- an optimum of the curve along which a solver has advanced is one of its complete curve
 pub best-there : (terms : TimeTerms) (from c : Course) (best : Best) → IsSameCurve from c → IsBest (curve_in c.net) terms c.shortest c.longest best
     → IsBest (curve_in from.net) terms from.shortest from.longest best
 best-there terms from c best same is =
@@ -213,7 +213,7 @@ best-there terms from c best same is =
     (subst (λ n. IsBest (curve_in c.net) terms n from.longest best) same.shortest
     (subst (λ n. IsBest (curve_in c.net) terms c.shortest n best) same.longest is))
 
--- what pays along it pays from where it stands
+-- what pays along it pays from where the solver is
 pub pays-there : (terms : TimeTerms) (from c : Course) (stop slope gain : ℕ) → IsSameCurve from c
     → PaysToStop (curve_in from.net) terms from.shortest from.longest stop slope gain → PaysToStop (curve_in c.net) terms c.shortest c.longest stop slope gain
 pays-there terms from c stop slope gain same pays =

@@ -23,8 +23,8 @@ use std::sync::ledger::Ledger;
 ///
 /// No segment may have been taken from the solver before. It goes down for as long as one unit less costs no more than
 /// it saves, and stays at the segment that holds the optimum, so that a schedule for it can be read there. It takes a
-/// few steps per segment, and at most four looks at each activity for each unit by which the slope rises or the lower
-/// end comes down. Allocates nothing.
+/// few steps per segment, and at most four looks at each activity for each unit that the slope rises or the lower
+/// end decreases. Allocates nothing.
 ///
 /// # Examples
 ///

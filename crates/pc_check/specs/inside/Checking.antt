@@ -56,7 +56,7 @@ abbrev pub Stands : PricedNetwork → Kept → Option Fail → List CertLine →
 Stands net kept None lines = IsGoing net kept lines
 Stands net kept (Some fail) lines = failure_of net lines ≡ Some fail
 
--- the checker stands for lines: for those of which none fails and which give what it keeps, or for all that have its
+-- the checker is in the state after lines: those none of which fails and which give its state, or all that have its
 -- failure first
 abbrev pub StandsFor : Checking → List CertLine → Type 0
 StandsFor checking lines = Stands checking.net checking.kept checking.fail lines

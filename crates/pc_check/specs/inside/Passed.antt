@@ -37,7 +37,7 @@ pub record IsLineOf (net : PricedNetwork) (a duration : ℕ) (flows : List ℕ) 
   pub says : line ≡ Some (Act code duration flows)
 
 -- this has passed of activity a: its line was the one of the bytes, no flow is above its rise, conditions 6 and 11 hold at all gaps from
--- `least` to `most`, and at all gaps from `low` to `high`, at each of which the activity also lasts so long; and the flow and the cost are those of
+-- `least` to `most`, and at all gaps from `low` to `high`, at each of which the activity also has this duration; and the flow and the cost are those of
 -- the flows and the duration
 pub record HasPassed (net : PricedNetwork) (a : ℕ) (passed : Passed) : Type 0 where
   pub line : Option CertLine

@@ -5,7 +5,7 @@ use Rattle.pc_model.specs.declared.Term.{Term}
 use Rattle.pc_model.specs.declared.limits.TheConstants.{MAX_COST, MAX_DURATION, MAX_PIECES_EACH, MAX_SLOPE}
 use Rattle.pc_model.specs.Pieces.{slope_in, units_of}
 
--- no more pieces than an activity may have, each with a slope above the one before, which lie between the crash and the
+-- no more pieces than an activity may have, each with a slope above the one before, which fit between the crash and the
 -- normal duration; and nothing is above its limit
 pub record AreOwnPieces (term : Term) (pieces : List PieceRow) : Type 0 where
   pub few : length pieces ≤ MAX_PIECES_EACH

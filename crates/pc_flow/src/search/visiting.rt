@@ -72,7 +72,7 @@ impl Board {
     /// Visits an activity from an event with a label: this way, if its other end has none and more can flow. One look.
     ///
     /// This and the next call get the events at both ends, so that the rank of the other end alone says of most
-    /// activities that labels may not cross. They use nothing of what the look tells, so that a compiler leaves out
+    /// activities that labels may not cross. They use nothing that the look returns, so that a compiler leaves out
     /// reading the activity's row.
     #[inline(always)]
     pub fn visit_from<L: Ledger>(

@@ -51,7 +51,7 @@ pub record IsOutlookOf (tree : List ItemRow) (places : List ℕ) (cost : ℕ →
   pub one_each : length outlook.amounts ≡ length tree
   pub each : (y : ℕ) → y < length tree → AreAmountsOf tree places cost accounts entries y (amounts_at outlook.amounts y)
 
--- the whole outlook where all activities together cost so much: that, and the budgets of all accounts whose package has no
+-- the outlook of the project: the cost of all activities, and the budgets of all accounts whose package has no
 -- activities
 pub record IsWholeOutlook (places : List ℕ) (accounts : List AcctRow) (entries : List Entry) (cost : ℕ) (whole : ℤ) : Type 0 where
   pub rest : ℤ

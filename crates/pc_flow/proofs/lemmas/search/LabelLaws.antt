@@ -66,7 +66,7 @@ module _ (net : PricedNetwork) (s t : Sheet) (search : IsSearch net s) (is : IsR
     slope = omega (arith, slope-relabelled);
   }
 
--- raisings one after the other
+-- augmentations one after the other
 
 pub rises-joins : (net : PricedNetwork) (s t u : Sheet) (x y : ℕ) → Rises net s t x → Rises net t u y → Rises net s u (x + y)
 rises-joins net s t u x y first second = record {
