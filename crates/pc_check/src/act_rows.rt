@@ -13,13 +13,13 @@ use crate::passed::{Passed, has_gap, passes_again};
 use pc_cert::{CertReader, EventFront, Place, WIDTH};
 use pc_crash::CrashNet;
 
-/// Takes lines at the front of the piece, where all events have come and each line is that of the next activity as it
-/// passed last, and passes again: the answer is how many bytes they are with their ends. Where there is none, nothing
-/// changes, and the answer is 0.
+/// Takes lines at the front of the piece, after all events, as long as each is the line of the next activity that
+/// passed last and passes again. Returns how many bytes they have, with their line ends. If there is none, nothing
+/// changes, and it returns 0.
 ///
-/// The inner loop takes lines of activities that do not cross the cut, and writes nothing, so that it keeps what it
-/// needs in registers: a variable of its own counts the activities, too. At the first line that it does not take
-/// the outer loop adds to the cut what the activity adds, where its line is one that passes across.
+/// The inner loop takes lines of activities that do not cross the cut. It writes nothing and has a variable of its own
+/// to count the activities, so that it needs only registers. At the first line that it does not take, the outer loop
+/// adds to the cut what the activity adds, if its line passes across the cut.
 #[inline(never)]
 pub(crate) fn advance_acts(
     net: &CrashNet<'_>,

@@ -68,7 +68,7 @@ pub(crate) fn advance_events(
     piece.len() - rest.len()
 }
 
-/// Reads the line at the front of the piece and adds it to what is kept, if it is a line of the next event and only its
+/// Reads the line at the front of the piece and adds it to the state, if it is a line of the next event and only its
 /// code can be wrong: the event is neither the start nor the end, and the segment has two ends.
 #[inline(always)]
 fn add_row(

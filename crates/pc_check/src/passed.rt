@@ -24,8 +24,8 @@ use pc_crash::CrashNet;
 use pc_model::Knee;
 use std::alloc::{AllocError, Global};
 
-/// What passed last of an activity: the bytes of its line, which are not kept where nothing has passed, its duration
-/// and its flows.
+/// What passed last of an activity: the bytes of its line, which are not stored if nothing has passed, its duration and
+/// its flows.
 ///
 /// After the first segment the line passes again if the gap at the upper end is from `low` to `high` and the gap at the
 /// lower end is from `least` to `most`. If the activity does not cross the cut, its two gaps are the same, and the

@@ -10,8 +10,8 @@ use Rattle.pc_check.specs.inside.Safe.{IsSafe}
 abbrev pub checking : Inside → Checking
 checking a = record { net = a.net.now; kept = a.kept; fail = a.fail }
 
--- the lists are as long as the network asks, what is kept of each activity has passed and the sums are those of all of them, no count of
--- lines grows too large where no line failed, and the lines of each event begin as is kept
+-- the lists are as long as the network asks, the row stored for each activity has passed, the sums are those over all
+-- rows, the counts of lines are bounded if no line failed, and the lines of each event begin with its stored front
 pub record IsSound (a : Inside) : Type 0 where
   pub safe : IsSafe a.net.now a.kept.tally
   pub bounded : IfNone a.fail (IsBounded a.net.now a.kept)

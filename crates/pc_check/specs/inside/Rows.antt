@@ -15,8 +15,8 @@ use Rattle.pc_check.specs.Conditions.{conditions}
 use Rattle.pc_check.specs.Failures.{first_failing}
 use Rattle.pc_check.specs.inside.Kept.{known_by}
 
--- a row is at the front of the piece, of `count` bytes with its end, which is allowed in this place and does not fail, and was added to what
--- is kept
+-- a row is at the front of the piece, of `count` bytes with its end, which is allowed in this place and does not fail,
+-- and was added to the state
 pub record AddsLine (net : PricedNetwork) (piece : List ℕ) (count : ℕ) (before after : Place) (old new : Kept) : Type 0 where
   pub line : CertLine
   pub row : IsRow line

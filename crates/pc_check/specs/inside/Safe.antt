@@ -18,8 +18,9 @@ use Rattle.pc_check.specs.Segments.{stops_in}
 abbrev pub AreSums : PricedNetwork → List Passed → (ℕ → ℕ) → List ℕ → Type 0
 AreSums net rows event_of sums = (e : ℕ) → e < net.network.events → slice_index sums e ≡ at_event (length net.network.arcs) event_of (flow_of rows) e
 
--- there is room for all events, no activity has come that the network lacks, what is kept of each has passed, the sums of flows and of the
--- cost are those of what is kept of all, and those of the cut are no larger than this many activities can make them
+-- there is capacity for all events, the count of activities is at most the network's, the row stored for each has
+-- passed, the sums of flows and of the cost are those over all rows, and those of the cut are no larger than this many
+-- activities can make them
 pub record IsSafe (net : PricedNetwork) (tally : Tally) : Type 0 where
   pub times : net.network.events ≤ vec_capacity tally.times
   pub moves : net.network.events ≤ vec_capacity tally.moves

@@ -2,7 +2,7 @@
 use Rattle.std.specs.Prelude.{ℕ, ◌-◌, List, slice_index, nat_lt, if◌then◌else◌}
 use Rattle.pc_cells.specs.Spans.{Cells}
 
--- a list of numbers for each thing that is known of an event, and from `flow` on of an activity
+-- a list of numbers for each property of an event, and from `flow` on of an activity
 pub record Sheet : Type 0 where
   -- how many events and activities there are, and the region as it was before the board took its cells
   pub events : ℕ

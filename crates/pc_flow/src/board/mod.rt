@@ -1,9 +1,9 @@
-//! The board on which the events of a network are labelled: what is known of each event and of each activity while a
-//! flow is sought, kept in one region of memory. It takes no memory of its own.
+//! The board on which the events of a network are labelled: the data of each event and of each activity during the
+//! search for a flow, in one region of memory. It allocates nothing.
 //!
-//! Labels are given from the start on, each by a step along or against an activity from an event that has one. Where
-//! the end has a label the flow is raised along the steps that led there; the labels whose steps have no room left then
-//! fall, and with them those that came from there.
+//! Labels are given from the start on, each by a step along or against an activity from an event that has one. If the
+//! end has a label, the flow is augmented along the steps that led there; then the labels whose steps have no residual
+//! capacity left are removed, and with them those that came from there.
 
 mod board;
 mod labels;

@@ -16,7 +16,7 @@ use pc_crash::CrashNet;
 
 impl Board {
     /// Augments the flow along the steps that led to the end, as far as they have residual capacity. It measures their
-    /// residual capacities first, and then renews what is kept of their activities. No look.
+    /// residual capacities first, and then renews the stored lengths of their activities. No look.
     pub fn augment(&mut self, net: &CrashNet<'_>) -> Augmentation
         requires between { IsBetween net.now self.old }
         requires above { IsAboveAllCrash net.now self.old }

@@ -132,7 +132,7 @@ pub record HasRoomAgainst (net : PricedNetwork) (s : Sheet) (a room : ℕ) : Typ
 abbrev pub StopsLater : PricedNetwork → Sheet → ℕ → Type 0
 StopsLater net s a = (way : Way) → MayCross net s way a → lesser_at net s way a < greater_at net s way a
 
--- where labels may cross activity a it waits, and it stops only after a fall
+-- if labels may cross activity a, it waits and stops only after a fall
 abbrev pub IsSettled : PricedNetwork → Sheet → ℕ → Type 0
 IsSettled net s a = (way : Way) → MayCross net s way a → (0 < slot_of s a) × (lesser_at net s way a < greater_at net s way a)
 
