@@ -17,7 +17,7 @@ abbrev pub AreWritable : List CertLine → Type 0
 AreWritable [] = Unit {0}
 AreWritable (line ∷ lines) = IsWritable line × AreWritable lines
 
--- the place after lines that begin at a place; none where one of them is not allowed at its place
+-- the place after lines that begin at a place; none if one of them is not allowed at its place
 abbrev pub ran : Place → List CertLine → Option Place
 ran place [] = Some place
 ran place (line ∷ lines) = next place line >>= (λ behind. ran behind lines)

@@ -15,7 +15,7 @@ lines_before [] = 0
 lines_before (Segment upper lower cost slope ∷ lines) = 0
 lines_before (line ∷ lines) = suc (lines_before lines)
 
--- the upper end of the first segment, and 0 where none has begun
+-- the upper end of the first segment, or 0 if none has begun
 abbrev pub first_upper_in_lines : List CertLine → ℕ
 first_upper_in_lines [] = 0
 first_upper_in_lines (Segment upper lower cost slope ∷ lines) = upper
@@ -30,7 +30,7 @@ most_lines_before n = 3 + (n + n)
 abbrev pub most_segment_lines : ℕ → ℕ → ℕ → ℕ
 most_segment_lines n m upper = max upper 1 * (n + m + 2)
 
--- the lines are few: header and walks, after them as many segments as the first upper end is long, or one where that is 0, and END
+-- the lines are few: header and walks, after them as many segments as the first upper end is long, or one if that is 0, and END
 pub record AreFew (n m : ℕ) (lines : List CertLine) : Type 0 where
   pub head : lines_before lines ≤ most_lines_before n
   pub all : length lines ≤ lines_before lines + (most_segment_lines n m (first_upper_in_lines lines) + 1)

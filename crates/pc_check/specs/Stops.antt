@@ -24,7 +24,7 @@ pub record HasNoFailure (net : PricedNetwork) (bytes : List ℕ) : Type 0 where
   pub no_end : Lacks 10 rest
   pub short : length rest < MAX_LINE
 
--- The bytes that were taken are found to be this, and reading stopped where it was found. There is a state of the source in which it had
+-- The bytes that were taken have this verdict, and reading stopped where it was found. There is a state of the source in which it had
 -- given bytes in which no line fails, by pulls that each gave at least one and had no fault; and from there at most one more pull, of at most
 -- `room` bytes, led to the new state. So nothing is pulled after the first failing line, or after a pull that found the source at its end.
 pub record IsSettled {X : Type 0} (net : PricedNetwork) (verdict : Verdict) (room : ℕ) (left : X → Option (List ℕ)) (faults : X → ℕ) (pulls : X → Option ℕ) (old new : X) : Type 0 where

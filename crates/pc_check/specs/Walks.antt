@@ -17,7 +17,7 @@ abbrev pub index_of : List ℕ → ℕ → List (List ℕ) → Option ℕ
 index_of code i [] = None
 index_of code i (c ∷ cs) = if bytes_eq c code then Some i else index_of code (i + 1) cs
 
--- one activity further, where it begins at the event that the walk has reached
+-- one activity further, if it begins at the event that the walk has reached
 abbrev pub further : Network → (ℕ → ℕ) → Reached → ℕ → Option Reached
 further net lengths at a =
     if from_of net.arcs a == at.event then Some (record { event = to_of net.arcs a; sum = at.sum + lengths a }) else None

@@ -195,7 +195,7 @@ pub fn audit_source<C: Source>(
     ensures end { IfOk result (λ verdict. OnYes verdict (IsAtEnd (C.left source.new))) }
     ensures no_fault { OnOk result (C.faults source.new ≡ C.faults source.old) }
     ensures fault { IsErrOf result AuditError.ReadFault → Rose (C.faults source.old) (C.faults source.new) }
-    // a fault counts only where no line has failed before it, and nothing is pulled after it
+    // a fault counts only if no line has failed before it, and nothing is pulled after it
     ensures unsettled { IsErrOf result AuditError.ReadFault → IsUnsettled net.now C.left C.faults C.pulls source.old
         source.new }
     ensures no_room { IsErrOf result AuditError.OutOfMemory → source.new ≡ source.old }

@@ -43,8 +43,8 @@ impl Cut {
     }
 }
 
-/// What an activity adds to the cut: the rises of its knees above its gap, at the lower end where it is forward and at
-/// the upper end where it is backward, and whether it stops at the lower end.
+/// What an activity adds to the cut: the rises of its knees above its gap, at the lower end if it is forward and at
+/// the upper end if it is backward, and whether it stops at the lower end.
 pub(crate) fn cut_of(net: &CrashNet<'_>, tally: &Tally, a: u32, crossing: &Crossing) -> Cut
     requires known { a < length net.now.network.arcs }
     requires crossing { IsCrossing net.now.network.arcs (stretch_of tally.now) a crossing.now }

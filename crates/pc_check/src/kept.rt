@@ -32,7 +32,7 @@ pub struct Kept {
 /// The state of the last segment that has begun.
 ///
 /// The sums of flows and of the cost stay from one segment to the next, since most activities do: an activity changes
-/// them where its line does. So they are those of the segment once all its activities have come.
+/// them if its line does. So they are those of the segment once all its activities have come.
 pub struct Tally {
     pub(crate) upper: u64,
     pub(crate) lower: u64,

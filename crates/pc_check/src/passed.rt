@@ -41,7 +41,7 @@ pub struct Passed {
     /// the least and the greatest gap at which conditions 6 and 11 hold with these flows
     pub(crate) least: u64,
     pub(crate) most: u64,
-    /// those of them at which the activity lasts so long
+    /// the gaps among those at which the activity has this duration
     pub(crate) low: u64,
     pub(crate) high: u64,
 }
@@ -125,7 +125,7 @@ fn gaps_of(crash: u64, knees: &[Knee], flows: &[u64]) -> Gaps
     Gaps { low, high }
 }
 
-/// Those of the gaps at which an activity lasts so long.
+/// The gaps among those at which an activity has this duration.
 fn lasting(gaps: Gaps, normal: u64, duration: u64) -> Gaps
     requires { duration ≤ normal }
     ensures above { gaps.low ≤ result.low }
@@ -157,7 +157,7 @@ fn raised(low: u64, knee: Knee, flow: u64) -> u64
     }
 }
 
-/// The greatest gap of those up to `high` that a flow at a knee fits: not above the knee where something flows.
+/// The greatest gap of those up to `high` that a flow at a knee fits: not above the knee if something flows.
 fn lowered(high: u64, knee: Knee, flow: u64) -> u64
     ensures within { result ≤ high }
     ensures knee { flow ≢ 0 → result ≤ knee.at }

@@ -33,7 +33,7 @@ use pc_cert::{CertLine, Flows};
 use pc_crash::CrashNet;
 use pc_text::Code;
 
-/// The first condition that is reported at the line and does not hold, where it is not the line of an activity.
+/// The first condition that is reported at the line and does not hold, if it is not the line of an activity.
 pub(crate) fn reason(net: &CrashNet<'_>, kept: &Kept, line: &CertLine) -> Option<Condition>
     requires safe { IsSafe net.now kept.now.tally }
     requires other { IsAct line.now → ⊥ }
@@ -149,7 +149,7 @@ fn has_event_code(net: &CrashNet<'_>, e: usize, code: &Code) -> bool
     e < net.net().events() as usize && *code == net.event_code(e as u32)
 }
 
-/// The first condition on the gaps and the flows of the next activity that does not hold, where its line has its code
+/// The first condition on the gaps and the flows of the next activity that does not hold, if its line has its code
 /// and as many flows as it should.
 pub(crate) fn reason_at_act(
     net: &CrashNet<'_>,

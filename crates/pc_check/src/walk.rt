@@ -15,7 +15,7 @@ pub struct Reached {
     pub sum: u64,
 }
 
-/// One step further: along the activity with this code, where it begins at the event that the walk has reached. In the
+/// One step further: along the activity with this code, if it begins at the event that the walk has reached. In the
 /// crash walk an activity counts with its crash duration, else with its normal one.
 pub(crate) fn stepped(
     net: &CrashNet<'_>,

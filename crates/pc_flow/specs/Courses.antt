@@ -40,12 +40,12 @@ pub record IsSameCurve (c d : Course) : Type 0 where
   pub longest : d.longest ≡ c.longest
   pub shortest : d.shortest ≡ c.shortest
 
--- from one solver to another further down the curve the slope never falls, and the lower end never rises
+-- from one solver to a later one on the curve the slope never falls, and the lower end never rises
 pub record IsFurther (c d : Course) : Type 0 where
   pub steeper : c.slope ≤ d.slope
   pub lower : lower_of d ≤ lower_of c
 
--- how many looks the way from one solver to another further down may take at most: four at each activity for each unit by
+-- how many looks the way from one solver to a later one may take at most: four at each activity for each unit by
 -- which the slope rose or the lower end came down
 abbrev pub most_looks : Course → Course → ℕ
 most_looks c d = 4 * length c.net.network.arcs * ((d.slope - c.slope) + (lower_of c - lower_of d))

@@ -11,7 +11,7 @@ use crate::board::Board;
 use crate::stair::lengths_of;
 use pc_crash::CrashNet;
 
-/// Keeps the lengths of the arcs of all activities where nothing flows. One pass over them.
+/// Stores the lengths of the arcs of all activities on a board on which nothing flows. One pass over them.
 pub(crate) fn keep_lengths(board: &mut Board, net: &CrashNet<'_>)
     requires fits { IsFor net.now.network board.old }
     requires empty { (a : ℕ) → flow_of board.old a ≡ 0 }

@@ -19,7 +19,7 @@ pub(crate) struct Opening {
     pub(crate) shortest: u64,
 }
 
-/// A board in the free cells of a region on which the start alone has a label. Two passes over the events, and one over
+/// A board in the free cells of a region on which only the start has a label. Two passes over the events, and one over
 /// the activities.
 pub(crate) fn open_board(region: Region, net: &CrashNet<'_>) -> Opening
     requires { 8 * net.now.network.events + 6 * length net.now.network.arcs ≤ free_of region }

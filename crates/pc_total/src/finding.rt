@@ -76,8 +76,8 @@ pub fn best<L: Ledger>(solver: &mut Solver<'_>, terms: &TimeTerms, steps: &mut S
     best_at(solver, terms, shortest, 0, gain, steps)
 }
 
-/// The optimum, where it pays to come down to this length and no further: so much a unit less costs, and so much a unit
-/// more saves.
+/// The optimum at `length`, given that it pays to shorten to it and no further: one unit less adds `slope` to the cost,
+/// and one unit more saves `gain`.
 fn best_at<L: Ledger>(
     solver: &mut Solver<'_>,
     terms: &TimeTerms,
@@ -151,7 +151,7 @@ pub(crate) fn above_at(terms: &TimeTerms, longest: u64, length: u64, gain: u64) 
 
 /// The length in a segment down to which each unit less saves at least as much of the time's cost as it costs, and
 /// below which it does not: one of the segment's two ends, or the target between them, since what a unit of time costs
-/// changes there alone.
+/// changes only there.
 pub(crate) fn stop_in(terms: &TimeTerms, lower: u64, upper: u64, slope: u64) -> u64
     requires terms { AreTimeTerms terms.now }
     requires ordered { lower ≤ upper }

@@ -23,7 +23,7 @@ pub record IsWithin (low high head tail : ℕ) : Type 0 where
   pub below : head ≤ tail + high
 
 -- none of these gaps is below crash, or above it if there is flow on the crash duration; and at the first `count` knees none is
--- below a knee where the flow is not its rise, or above one where something flows
+-- below a knee if the flow is not its rise, or above one if something flows
 pub record FitsWithin (crash : ℕ) (knees : List Knee) (flows : List ℕ) (count low high : ℕ) : Type 0 where
   pub room : crash ≤ low
   pub beside : slice_index flows (length knees) ≢ 0 → high ≤ crash

@@ -22,6 +22,6 @@ number_of condition.CutGain = 13
 number_of condition.Stop = 14
 number_of condition.Cover = 15
 
--- the number of the condition that was found, where one was
+-- the number of the condition that was found, if one was
 abbrev pub reason_of : Option Condition → Option ℕ
 reason_of found = option_map number_of found

@@ -14,7 +14,7 @@ use Rattle.pc_check.specs.inside.Passed.{ArePassed, passed_at, flow_of, cost_of}
 use Rattle.pc_check.specs.Segments.{stops_in}
 
 -- sums by event of what flows along all activities, each as its line said that passed last: into the events where `event_of` is an
--- activity's ending event, and out of them where it is the beginning one
+-- activity's ending event, and out of them if it is the beginning one
 abbrev pub AreSums : PricedNetwork → List Passed → (ℕ → ℕ) → List ℕ → Type 0
 AreSums net rows event_of sums = (e : ℕ) → e < net.network.events → slice_index sums e ≡ at_event (length net.network.arcs) event_of (flow_of rows) e
 
@@ -70,7 +70,7 @@ pub record AddsAct (net : PricedNetwork) (old : Tally) (duration : ℕ) (flows :
   pub backward : new.cut.backward ≡ old.cut.backward + (if is_backward net.network.arcs (stretch_of old).moves old.acts then rises_above net.network (knees_in net) (stretch_of old) 0 old.acts else 0)
   pub stops : new.cut.stops ≡ (old.cut.stops || stops_in net (stretch_of old) old.acts)
 
--- what activity a adds to the cut: the rises of its knees above its gap, at the lower end where it is forward and at the upper end where it is
+-- what activity a adds to the cut: the rises of its knees above its gap, at the lower end if it is forward and at the upper end if it is
 -- backward, and whether it stops at the lower end
 pub record IsCutOf (net : PricedNetwork) (seg : Segment) (a : ℕ) (cut : Cut) : Type 0 where
   pub forward : cut.forward ≡ (if is_forward net.network.arcs seg.moves a then rises_above net.network (knees_in net) seg (span seg) a else 0)

@@ -9,7 +9,7 @@ use Rattle.pc_flow.specs.inside.board.Sheets.{queue_of, clear_sheet}
 use Rattle.pc_flow.specs.inside.search.Searches.{AreLengths}
 use Rattle.pc_flow.specs.declared.early.TheConstants.{MAX_LENGTH}
 
--- the start alone has a label, and each event its time where all durations are normal; nothing flows and none waits, and
+-- only the start has a label, and each event has its time for normal durations; nothing flows and none waits, and
 -- the lengths of the arcs are stored
 pub record IsOpened (net : PricedNetwork) (home : Cells) (s : Sheet) : Type 0 where
   pub rest : s ≡ record (clear_sheet home net.network.events (length net.network.arcs)) {

@@ -10,7 +10,7 @@ use Rattle.pc_reports.specs.Schedule.{plan_text, schedule_text}
 abbrev pub text_of : Schedule → List ℕ
 text_of s = schedule_text s.length s.cost s.events.now s.times.now s.activities.now s.durations.now
 
--- the lines of its events and activities alone
+-- only the lines of its events and activities
 abbrev pub plan_of : Schedule → List ℕ
 plan_of s = plan_text s.events.now s.times.now s.activities.now s.durations.now
 

@@ -20,8 +20,8 @@ pub record IsFinishedPackage (places : List ℕ) (states : List ActState) (x : �
   pub some : (a : ℕ) × ((a < length places) × (slice_index places a ≡ x))
   pub all : (a : ℕ) → a < length places → slice_index places a ≡ x → IsFinished (state_at states a)
 
--- what the work of account a is worth: its budget where its package is finished, and otherwise the budget in the ratio of
--- what was spent to what it will have cost, rounded down, or nothing where it will have cost nothing
+-- what the work of account a is worth: its budget if its package is finished, and otherwise the budget in the ratio of
+-- what was spent to what it will have cost, rounded down, or nothing if it will have cost nothing
 abbrev pub IsValueOf : List ℕ → List ActState → List AcctRow → List Entry → ℕ → ℤ → Type 0
 IsValueOf places states accounts entries a value =
     (IsFinishedPackage places states (item_of accounts a) × (value ≡ pos (entry_at entries a).budget))

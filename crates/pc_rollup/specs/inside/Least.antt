@@ -17,7 +17,7 @@ pub record AreLeastOn (items : ℕ) (placed : List Placed) (n : ℕ) (least : Li
   pub one_each : length least ≡ items
   pub each : (x : ℕ) → x < items → IsLeastOver (λ k. place_of placed k ≡ x) n (amount_of placed) (least_at least x)
 
--- the lesser of two amounts, where one may be missing
+-- the lesser of two amounts, one of which may be missing
 abbrev pub lesser : Option ℤ → Option ℤ → Option ℤ
 lesser (Some a) (Some b) = if int_lt b a then Some b else Some a
 lesser None b = b

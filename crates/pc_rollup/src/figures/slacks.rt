@@ -115,7 +115,7 @@ fn least_by_item(
     Ok(least)
 }
 
-/// The lesser of two amounts, where one may be missing.
+/// The lesser of two amounts, one of which may be missing.
 fn lesser(a: Option<i64>, b: Option<i64>) -> Option<i64>
     ensures { result ≡ lesser a b }
 {

@@ -70,7 +70,7 @@ pub record SetsLengths (s t : Sheet) (a up down : ℕ) : Type 0 where
   pub down_at : down_of t a ≡ down
   pub down_off : (b : ℕ) → b ≢ a → down_of t b ≡ down_of s b
 
--- event e alone has a label
+-- only event e has a label
 pub record StartsAt (s t : Sheet) (e : ℕ) : Type 0 where
   pub rest : t ≡ record s { rank = t.rank; queue = t.queue; count = 1 }
   pub queue_at : queue_of t 0 ≡ e

@@ -24,7 +24,7 @@ abbrev pub outlook_columns : OutlookAmounts → List ℤ
 outlook_columns amounts =
     amounts.budget ∷ amounts.outlook ∷ amounts.change ∷ []
 
--- what of an account's budget counts for the outlook, where its package has activities or has none
+-- the part of an account's budget that counts for the outlook, if its package has activities or if it has none
 abbrev pub rest_of : Bool → Entry → ℤ
 rest_of has_activity entry = if has_activity then pos 0 else pos entry.budget
 
