@@ -33,7 +33,7 @@ pub record IsLevel (c : Course) : Type 0 where
 
 -- What a next segment is
 
--- the curve is the same, and the region as it was before is
+-- the same curve, and the same region before the board took its cells
 pub record IsSameCurve (c d : Course) : Type 0 where
   pub net : d.net ≡ c.net
   pub home : d.board.home ≡ c.board.home
@@ -45,8 +45,8 @@ pub record IsFurther (c d : Course) : Type 0 where
   pub steeper : c.slope ≤ d.slope
   pub lower : lower_of d ≤ lower_of c
 
--- how many looks the way from one solver to a later one may take at most: four at each activity for each unit by
--- which the slope rose or the lower end came down
+-- the most looks on the way from one solver to a later one: four at each activity for each unit that the slope rose or
+-- the lower end decreased
 abbrev pub most_looks : Course → Course → ℕ
 most_looks c d = 4 * length c.net.network.arcs * ((d.slope - c.slope) + (lower_of c - lower_of d))
 

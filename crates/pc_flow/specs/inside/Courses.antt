@@ -37,9 +37,9 @@ AreAllNormal c = (a : ℕ) → a < length c.net.network.arcs → lesser_of c.net
 
 -- What holds of every solver
 
--- its network is priced within the limits, and its events have an order; it is between two labellings, with the two lengths, the cost and the slope as they are said; before the first segment nothing
--- flows; with a segment, either the length is above the all-crash length, and some activity stops at the lower end, or
--- the curve has only one length
+-- its network is priced within the limits, and its events have an order; it is between two labellings, with the two
+-- lengths, the cost and the slope as stated; before the first segment nothing flows; with a segment, the length is
+-- above the all-crash length and some activity stops at the lower end, or the curve has only one length
 pub record IsOnCourse (c : Course) : Type 0 where
   pub priced : IsPriced c.net.network c.net.terms (knees_in c.net)
   pub limits : AreWithinLimits c.net.terms
