@@ -6,6 +6,7 @@ pub mod CardFaultLemmas
 pub mod SoFarLemmas
 pub mod WithinLemmas
 pub mod NumberLemmas
+pub mod TargetLaws
 pub mod SeenLemmas
 pub mod RefusalLemmas
 pub mod ToldLemmas

@@ -16,6 +16,7 @@ pub mod End
 pub mod Kinds
 pub mod WrittenKinds
 pub mod Deck
+pub mod Target
 pub mod Text
 pub mod Judged
 pub mod Within

@@ -1,5 +1,7 @@
 //! The cards of a deck that was read, of either sort.
-ghost use Rattle.std.specs.Prelude.{◌≡◌, ◌≤◌, length};
+ghost use Rattle.std.specs.Prelude.{◌≡◌, ◌≤◌, length, Some, IfOk, IfErr, OnOk};
+ghost use Rattle.pc_faults.specs.First.{IsFirstFault};
+ghost use Rattle.pc_faults.specs.declared.fault.Fault.{Fault};
 ghost use Rattle.pc_model.specs.Codes.{IsNamedOnce};
 ghost use Rattle.pc_model.specs.declared.limits.TheConstants.{MAX_ACTIVITIES, MAX_EVENTS};
 ghost use Rattle.pc_cards.specs.declared.sort.Sort.{Sort};
@@ -13,12 +15,14 @@ ghost use Rattle.pc_deck.specs.Deck.{
   resource_codes,
   task_codes,
 };
+ghost use Rattle.pc_deck.specs.Target.{IsUnknown, target_codes};
 ghost use Rattle.pc_deck.specs.Within.{IsWithin};
 
 use crate::kinds::{
     AcctCard, ActCard, AfterCard, AsOfCard, CardLists, ItemCard, LoadCard, MoneyCard, PieceCard,
     ProjectCard, StatusCard, TaskCard, TermsCard, TitledCard,
 };
+use pc_faults::{Fault, Target};
 use pc_names::Names;
 use pc_text::Code;
 use std::marker::{Model, PhantomData};
@@ -218,6 +222,45 @@ impl<S: DeckSort> CardsOf<S> {
     {
         let number = self.deck.lists.resources.place_of(code)?;
         Some(number as u32)
+    }
+
+    /// Returns the codes of what cards name, in card order, with the index that finds them.
+    fn names(&self, target: Target) -> &Names
+        ensures codes { result.now ≡ target_codes self.now target }
+        ensures within { IsWithin S.sort self.now }
+    {
+        match target {
+            Target::Event => self.deck.lists.events.names(),
+            Target::Item => self.deck.lists.items.names(),
+            Target::Account => self.deck.lists.accounts.names(),
+            Target::Activity => self.deck.lists.acts.names(),
+            Target::Task => self.deck.lists.tasks.names(),
+            Target::Resource => self.deck.lists.resources.names(),
+        }
+    }
+
+    /// Returns the number of what has a code: its index in card order, from 0.
+    pub fn named(&self, target: Target, code: &Code) -> Option<u32>
+        ensures { result ≡ named_among (target_codes self.now target) code.now }
+    {
+        let number = self.names(target).place_of(code)?;
+        Some(number as u32)
+    }
+
+    /// Returns the number of what the card at a record names by a code.
+    ///
+    /// # Errors
+    ///
+    /// The card's fault if nothing has the code (F13 to F16, F41).
+    pub fn find(&self, target: Target, row: u32, code: Code) -> Result<u32, Fault>
+        ensures found { IfOk result (λ number. named_among (target_codes self.now target) code ≡ Some number) }
+        ensures faultless { OnOk result ((fault : Fault) → IsUnknown self.now target row code fault → ⊥) }
+        ensures first { IfErr result (IsFirstFault (IsUnknown self.now target row code)) }
+    {
+        match self.named(target, &code) {
+            Some(number) => Ok(number),
+            None => Err(Fault::unknown_name(target, row, code)),
+        }
     }
 }
 

@@ -26,4 +26,4 @@ pub use crate::kinds::{
 pub use crate::limits::DECK_LIMIT;
 pub use crate::made::PlanLists;
 pub use crate::read::{read_cards, read_cards_by, read_tasks, read_tasks_by};
-pub use pc_faults::{DeckError, Detail, Fault, Kind, StatusFault, fault_line};
+pub use pc_faults::{DeckError, Detail, Fault, Kind, StatusFault, Target, fault_line};

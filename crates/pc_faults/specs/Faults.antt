@@ -4,6 +4,8 @@ use Rattle.pc_faults.specs.declared.kind.Kind.{Kind as ACardKind}
 use Rattle.pc_faults.specs.declared.fault.StatusFault.{StatusFault as AReason}
 use Rattle.pc_faults.specs.declared.fault.Detail.TheVariants.{Plain, Kind, Fields, Field, Name, TooMany, Names, Level, Side, Sums, Status, ToGo, Length, Periods}
 use Rattle.pc_faults.specs.declared.fault.Fault.{Fault}
+use Rattle.pc_faults.specs.declared.target.Target.{Target}
+use Rattle.pc_faults.specs.declared.target.Target.TheVariants.{Event, Item, Account, Activity, Task, Resource}
 
 -- F1: the deck is too long
 abbrev pub too_long : Fault
@@ -52,6 +54,19 @@ behind_end row = record { row = row; number = 11; detail = Plain }
 -- F12: no END card; `row` is the number behind the last record
 abbrev pub no_end : ℕ → Fault
 no_end row = record { row = row; number = 12; detail = Plain }
+
+-- the number of the fault of a card that names what is not there
+abbrev pub unknown_number : Target → ℕ
+unknown_number Event = 13
+unknown_number Item = 14
+unknown_number Account = 15
+unknown_number Activity = 16
+unknown_number Task = 16
+unknown_number Resource = 41
+
+-- F13 to F16, and F41: no card has the code that the card names
+abbrev pub unknown_name : Target → ℕ → List ℕ → Fault
+unknown_name target row code = record { row = row; number = unknown_number target; detail = Name code }
 
 -- F13: no EVENT card has the code
 abbrev pub unknown_event : ℕ → List ℕ → Fault

@@ -13,6 +13,7 @@ ghost use Rattle.pc_faults.specs.Faults.{
   too_many,
   behind_end,
   no_end,
+  unknown_name,
   unknown_event,
   unknown_item,
   unknown_account,
@@ -46,6 +47,7 @@ ghost use Rattle.pc_faults.specs.Faults.{
 
 use crate::fault::{Detail, Fault, StatusFault};
 use crate::kind::Kind;
+use crate::target::Target;
 use pc_days::Day;
 use pc_text::{Code, Codes};
 
@@ -128,6 +130,13 @@ impl Fault {
         ensures { result ≡ no_end row }
     {
         Fault::new(row, 12, Detail::Plain)
+    }
+
+    /// Returns F13 to F16, or F41: no card has the code that the card names.
+    pub fn unknown_name(target: Target, row: u32, code: Code) -> Fault
+        ensures { result ≡ unknown_name target row code }
+    {
+        Fault::new(row, target.unknown_number(), Detail::Name(code))
     }
 
     /// Returns F13: no EVENT card has the code.

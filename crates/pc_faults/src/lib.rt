@@ -8,6 +8,7 @@
 mod constructors;
 mod fault;
 mod kind;
+mod target;
 mod tell;
 mod words;
 
@@ -15,4 +16,5 @@ pub use crate::fault::{
     DeckError, Detail, Fault, NOT_UTF8, StatusFault, TOO_LONG, earlier_of, earliest,
 };
 pub use crate::kind::Kind;
+pub use crate::target::Target;
 pub use crate::tell::fault_line;
