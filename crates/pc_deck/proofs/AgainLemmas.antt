@@ -1,4 +1,4 @@
--- A deck that was read from its own text has the same text: what is written of a card does not tell its record.
+-- A deck that was read from its own text has the same text: what is written of a card does not depend on its record.
 use Rattle.std.proofs.Common.{◌≡◌, ℕ, ◌+◌, Bool, true, false, List, [], ◌∷◌, ◌++◌, map, flat_map, Option, Some, None, if◌then◌else◌, refl, ap, ◌∙◌}
 use Rattle.std.specs.Prelude.{option_map, option_to_list}
 use Rattle.pc_records.specs.Text.{records_text}

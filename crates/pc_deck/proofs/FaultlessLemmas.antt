@@ -1,5 +1,5 @@
--- Cards that stand in order have no fault: each is what it must be, there are no more of a kind than there may be, no code
--- of a kind stands twice, PROJECT comes first, and END comes last.
+-- Cards that are in order have no fault: each is what it must be, there are no more of a kind than there may be, no code
+-- of a kind occurs twice, PROJECT comes first, and END comes last.
 use Rattle.std.proofs.Common.{◌≡◌, ℕ, ◌+◌, ◌<◌, ◌≤◌, Bool, true, false, not, ◌&&◌, ◌==◌, nat_lt, List, [], ◌∷◌, ◌++◌, length, length-append, map, get_or}
 use Rattle.std.proofs.Common.{Option, Some, None, All, Ok, if◌then◌else◌, bytes_eq, inl, inr, refl, sym, ap, ◌∙◌, subst, append_assoc, append-nil, arith}
 use Rattle.std.specs.Cmp.Lexicographic.{bytes_decides}
@@ -40,7 +40,7 @@ abbrev pub Begins : List Numbered → Type 0
 Begins [] = ⊥
 Begins (card ∷ cards) = (text_at card.1 0 ≡ word_of Project) × (version_in (text_at card.1 8) ≡ 2)
 
--- the cards stand in order
+-- the cards are in order
 pub record IsInOrder (cards : List Numbered) : Type 0 where
   pub sound : All (λ (card : Numbered). (kind : Kind) × IsSound kind card.1) cards
   pub once : (kind : Kind) → stands_once kind ≡ true → length (of_kind kind cards) ≤ 1
@@ -48,7 +48,7 @@ pub record IsInOrder (cards : List Numbered) : Type 0 where
   pub differ : (kind : Kind) → has_code_of_its_own kind ≡ true → IsNamedOnce (map (λ (card : Numbered). text_at card.1 1) (of_kind kind cards))
   pub begins : Begins cards
   pub ends_once : length (of_kind End cards) ≤ 1
-  -- behind each front an END card comes
+  -- after each front there is an END card
   pub ends : (front rest : List Numbered) → cards ≡ front ++ rest → 0 < length rest → 0 < length (of_kind End rest)
 
 -- the cards of a kind, around one of them
@@ -81,7 +81,7 @@ first_is : (front rest : List Numbered) (card : Numbered) (kind : Kind) → Begi
 first_is [] rest card kind begins named = ap (λ (k : Kind). not (is_project k)) (project_only kind (text_at card.1 0) named begins.0)
 first_is (p ∷ more) rest card kind begins named = refl
 
--- F5: a card of a kind that stands once has none of its kind before it
+-- F5: a card of a kind that occurs once has none of its kind before it
 alone : (test : Bool) (count : ℕ) → (test ≡ true → count ≡ 0) → (test && nat_lt 0 count) ≡ false
 alone false count none = refl
 alone true count none = let zero_is = none refl in ap (nat_lt 0) zero_is
@@ -91,7 +91,7 @@ new_by : (coded : Bool) (codes : List (List ℕ)) (code : List ℕ) → (coded �
 new_by true codes code new = new refl
 new_by false codes code new = refl
 
--- F10: there is room for it
+-- F10: the limit of its kind is not reached
 room_left : (kind : Kind) (row count total : ℕ) (limit : Option ℕ) → IsUpTo limit total → count < total → one_too_many kind row count limit ≡ None
 room_left kind row count total None few less = refl
 room_left kind row count total (Some most) few less = not_found (count == most) _ (ne_eqb count most (λ same. omega arith))
@@ -151,7 +151,7 @@ judged cards front rest card kind order is sound =
         (none_then _ _ None (full front rest card kind card.0 (length (of_kind kind cards)) begins sound.named (order.few kind) less)
         (not_found (not (are_none (of_kind End front))) _ (no_end (of_kind End front) ended)))))))
 
--- so no fault stands behind any front of them
+-- so there is no fault after any front of them
 from_here : (cards front rest : List Numbered) (end : ℕ) (found : Fault) → IsInOrder cards → cards ≡ front ++ rest → HasFaultFrom Plan front end rest found → ⊥
 from_here cards front [] end found order is has =
     let same : cards ≡ front = is ∙ append-nil front in

@@ -12,7 +12,7 @@ use Rattle.pc_deck.specs.Kinds.{entry_of, kinds, kinds_of, kind_of, card_of, has
 use Rattle.pc_deck.specs.inside.Kinds.{is_project, is_end}
 use Rattle.pc_deck.specs.Within.{IsUpTo}
 
--- a choice that gave the kind by its test, or behind it
+-- a choice that gave the kind by its test, or by one after it
 chosen : (test : Bool) (here kind : Kind) (rest : Option Kind) (field : List ℕ) → (test ≡ true → field ≡ word_of here) →
     (rest ≡ Some kind → field ≡ word_of kind) → (if test then Some here else rest) ≡ Some kind → field ≡ word_of kind
 chosen true here kind rest field is behind h = let same : here ≡ kind = cc in is refl ∙ ap word_of same
@@ -67,7 +67,7 @@ pub project_is : (kind : Kind) → is_project kind ≡ true → kind ≡ Project
 project_is Project h = refl
 project_is other h = absurd (let h' = h in cc)
 
--- a code of its own stands in a card's second field
+-- a card's own code is its second field
 pub own_code : (kind : Kind) → has_code_of_its_own kind ≡ true → (row : ℕ) (fields : List (List ℕ)) → (entry_of kind).code (card_of kind row fields) ≡ text_at fields 1
 own_code Project h row fields = absurd (let h' = h in cc)
 own_code other h row fields = let h' = h in cc

@@ -20,7 +20,7 @@ use Rattle.pc_deck.specs.Text.{deck_text, record_of, records_of, settled}
 use Rattle.pc_deck.specs.Within.{IsWithinLimits}
 use Rattle.pc_deck.proofs.WrittenLemmas.{IsWritten, settled-within, written-settled}
 
--- what is written of a card stands in the fields of its kind
+-- what is written of a card are the fields of its kind
 written-fields : (kind : Kind) (card : CardOf kind) → (written_of kind).written card ≡ map (λ (slot : Slot). field_numbered (record_of kind card) slot.0) (slots_of Plan kind)
 written-fields Project card = refl
 written-fields kind card = refl
@@ -69,7 +69,7 @@ few-cards deck limits Terms = length-option_to_list deck.terms
 few-cards deck limits End = omega arith
 few-cards deck limits kind = (limits kind).few
 
--- no more of a kind that stands once than one
+-- at most one card of a kind that occurs once
 pub one-card : (deck : Deck) (kind : Kind) → stands_once kind ≡ true → length (list_of deck kind) ≤ 1
 one-card deck Project once = omega arith
 one-card deck AsOf once = length-option_to_list deck.as_of

@@ -1,4 +1,4 @@
--- The records of a deck within its limits stand in order.
+-- The records of a deck within its limits are in order.
 use Rattle.std.proofs.Common.{◌≡◌, ℕ, ◌+◌, ◌<◌, Bool, true, List, [], ◌∷◌, ◌++◌, drop, length, length-append, map, flat_map, All, if◌then◌else◌, bytes_eq, refl, sym, ap, ◌∙◌, subst, suc, arith}
 use Rattle.std.specs.Cmp.Lexicographic.{bytes_decides}
 use Rattle.std.specs.List.{enumerate_from}
@@ -57,7 +57,7 @@ length-enumerate : (row : ℕ) (rows : List (List (List ℕ))) → length (enume
 length-enumerate row [] = refl
 length-enumerate row (fields ∷ rows) = ap suc (length-enumerate (row + 1) rows)
 
--- a card's own code stands in the second field of its record
+-- a card's own code is the second field of its record
 code_written : (kind : Kind) → has_code_of_its_own kind ≡ true → (card : CardOf kind) → text_at (record_of kind card) 1 ≡ (entry_of kind).code card
 code_written Wbs coded card = refl
 code_written Event coded card = refl
@@ -74,7 +74,7 @@ codes_written kind coded row (card ∷ cards) =
     ap (λ code. code ∷ map (λ (c : Numbered). text_at c.1 1) (enumerate_from (row + 1) (map (record_of kind) cards))) (code_written kind coded card)
     ∙ ap (λ codes. (entry_of kind).code card ∷ codes) (codes_written kind coded (row + 1) cards)
 
--- where an END card stands last, one stands behind each front
+-- if the last card is an END card, there is one after each front
 last_behind : (first front rest : List Numbered) (last : Numbered) → text_at last.1 0 ≡ word_of End → first ++ last ∷ [] ≡ front ++ rest → 0 < length rest
     → 0 < length (of_kind End rest)
 last_behind first [] rest last named is some =
@@ -116,7 +116,7 @@ module _ (deck : Deck) (limits : IsWithinLimits deck) where
       let written = All-head (IsWritten Project) project [] (written-settled deck limits Project) in
       (refl, ap (λ p. p.version) (written.reads 1))
 
-  -- they stand in order
+  -- they are in order
   pub rows-in_order : IsInOrder cards
   rows-in_order = record {
     sound = with_numbers IsSoundRow 1 (deck_rows deck) (sound_rows (settled deck) (written-settled deck limits) kinds kinds-planned);

@@ -65,7 +65,7 @@ cards-text row (record_ ∷ records) all =
 pub deck_cards-text : (bytes : List ℕ) → is_utf8 bytes ≡ true → All IsTextCard (deck_cards bytes)
 deck_cards-text bytes utf8 = cards-text 1 (deck_records bytes) (deck_records-text bytes (IsUtf8-from_is_utf8 bytes utf8))
 
--- the next card is text, and so are those behind it
+-- the next card is text, and so are those after it
 pub next-text : (found : NextCard) (row : ℕ) (fields : List (List ℕ)) (old new : CardsLeft) → found ≡ Card row → Follows found old new fields →
     All IsTextCard old.cards → IsTextCard (row, fields) × All IsTextCard new.cards
 next-text found row fields old new is follows all =

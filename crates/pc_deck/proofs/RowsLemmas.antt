@@ -1,4 +1,4 @@
--- The records of a deck, kind by kind: those of one kind are its cards' records, one behind the other, and spell its cards.
+-- The records of a deck, kind by kind: those of one kind are its cards' records, one after the other, and give its cards.
 use Rattle.std.proofs.Common.{◌≡◌, ℕ, ◌+◌, ◌≤◌, Bool, true, false, List, [], ◌∷◌, ◌++◌, length, map, flat_map, Some, None, All, refl, sym, ap, ◌∙◌, arith, append-nil, if◌then◌else◌, bytes_eq, suc}
 use Rattle.std.specs.List.{enumerate_from}
 use Rattle.std.proofs.lemmas.List.{length-map}

@@ -50,7 +50,7 @@ spelled-more other kind before card is =
 pub unchanged : {X : Type 0} (xs : List X) → xs ≡ xs ++ []
 unchanged xs = sym (append-nil xs)
 
--- a card that stands once is the only one
+-- a card of a kind that occurs once is the only one
 only_one : {X : Type 0} (old : Option X) (x : X) → (true && nat_lt 0 (length (option_to_list old))) ≡ false → x ∷ [] ≡ option_to_list old ++ x ∷ []
 only_one None x once = refl
 only_one (Some y) x once = absurd (let once' = once in cc)

@@ -29,7 +29,7 @@ kind_of Resource = kinds.Res
 up_to : (most n : ℕ) → most ≤ 4294967295 → IsUpTo (Some most) n → n ≤ 4294967295
 up_to most n fits few = let within : n ≤ most = few in omega (arith, within, fits)
 
--- a number has room for how many cards of each of these kinds there may be
+-- the greatest number of cards of each of these kinds fits into a number
 fits_u32 : (sort : Sort) (target : Target) (n : ℕ) → IsUpTo (limit_of sort 2 (kind_of target)) n → n ≤ 4294967295
 fits_u32 Plan Event n few = up_to MAX_EVENTS n (omega arith) few
 fits_u32 Plan Item n few = up_to MAX_ITEMS n (omega arith) few

@@ -45,7 +45,7 @@ rows-text deck written [] = All-nil (All IsUtf8)
 rows-text deck written (kind ∷ rest) =
     All-append (All IsUtf8) (records_of deck kind) (flat_map (records_of deck) rest) (text_cards kind (list_of deck kind) (written kind)) (rows-text deck written rest)
 
--- PROJECT stands in front, and no mark
+-- the text begins with PROJECT, and not with a byte order mark
 no_mark : (deck : Deck) → starts_with nat_eq (deck_text deck) mark ≡ false
 unfolding record_text
 no_mark deck = refl

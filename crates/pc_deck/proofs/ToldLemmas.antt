@@ -1,4 +1,4 @@
--- Each fault of a deck can be told.
+-- Each fault of a deck has a line.
 use Rattle.std.proofs.Common.{ℕ, Bool, true, false, List, [], ◌∷◌, ◌++◌, inl, inr, refl, sym, subst}
 use Rattle.std.specs.Str.{is_utf8}
 use Rattle.pc_faults.specs.inside.FaultText.{IsTold}

@@ -89,7 +89,7 @@ module _ (draft : Draft) (row : ℕ) (fields : List (List ℕ)) (text : All IsUt
       (subst (λ (codes : List (List ℕ)). is_among (text_at fields 1) codes ≡ false) (codes-are draft kind) known.differs)))
       (row, fields, refl, fits (seen_in draft) row fields kind known, text)
 
-  -- the same where the card may tell the version
+  -- the same if the card may give the version
   own_then : (kind : Kind) → IsFaultless (seen_in draft) row fields kind →
       IsListWithin draft.sort kind (version_of (with_card draft kind row fields).project)
       (list_so_far draft kind ++ card_of kind row fields ∷ [])

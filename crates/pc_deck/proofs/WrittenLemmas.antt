@@ -31,7 +31,7 @@ written-is : (kind : Kind) → is_project kind ≡ false → (row : ℕ) (fields
 written-is Project h row fields = absurd (let h' = h in cc)
 written-is other h row fields = refl
 
--- these fields behind a word spell the same card
+-- these fields after a word are the same card
 again : (kind : Kind) (word : List ℕ) (row other : ℕ) (fields : List (List ℕ)) →
     card_of kind other (word ∷ fields_of (slots_of Plan kind) fields) ≡ (written_of kind).at_row other (card_of kind row fields)
 again Project word row other fields = refl

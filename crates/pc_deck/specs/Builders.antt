@@ -5,8 +5,8 @@ use Rattle.pc_cards.specs.Forms.{Slot}
 use Rattle.pc_cards.specs.declared.sort.Sort.{Sort}
 use Rattle.pc_deck.specs.declared.kinds.CardLists.{CardLists}
 
--- a kind of which a deck may have one card: the card that a record spells, what its fields must be, how many fields it must have and
--- how many it may have, and where the lists have the card
+-- a kind with at most one card in a deck: the card of a record, what its fields must be, how many fields it must have and how many it
+-- may have, and where the lists have the card
 abbrev pub single_kind : {C : Type 0} → (ℕ → List (List ℕ) → C) → (Sort → List Slot) → ℕ → ℕ → (CardLists → Option C) → Entry CardLists
 single_kind {C} spelled slots least most held = record {
   Card = C;
@@ -21,8 +21,8 @@ single_kind {C} spelled slots least most held = record {
   code = no_code;
 }
 
--- a kind of which a deck has a list: the card that a record spells, what its fields must be, how many it has, where the lists have
--- the cards, and how many there may be
+-- a kind with a list of cards: the card of a record, what its fields must be, how many it has, where the lists have the cards, and how
+-- many there may be
 abbrev pub listed_kind : {C : Type 0} → (ℕ → List (List ℕ) → C) → (Sort → List Slot) → ℕ → (CardLists → List C) → (Sort → Limit) → Entry CardLists
 listed_kind {C} spelled slots width held limit = record {
   Card = C;
@@ -37,6 +37,6 @@ listed_kind {C} spelled slots width held limit = record {
   code = no_code;
 }
 
--- a kind of which a deck has a list, as by `listed_kind`, whose cards have codes of their own: its second part is the code of a card
+-- a kind as by `listed_kind` whose cards have codes of their own; the second argument is the code of a card
 abbrev pub named_kind : {C : Type 0} → (ℕ → List (List ℕ) → C) → (C → List ℕ) → (Sort → List Slot) → ℕ → (CardLists → List C) → (Sort → Limit) → Entry CardLists
 named_kind spelled code slots width held limit = record (listed_kind spelled slots width held limit) { is_coded = true; code = code }

@@ -43,10 +43,10 @@ account_codes deck = map (λ account. account.code) deck.accounts
 abbrev pub resource_codes : Deck → List (List ℕ)
 resource_codes deck = map (λ resource. resource.code) deck.resources
 
--- the number of what has a code among those with these codes: the first place where it stands, from 0; none where it stands nowhere
+-- the number of what has the code, among those with these codes: the first place of the code, from 0; none if it does not occur
 abbrev pub named_among : List (List ℕ) → List ℕ → Option ℕ
 named_among codes code = position (pointwise nat_eq code) codes
 
--- the number of what has a code among those with these codes, as by `named_among`; how many codes there are where it stands nowhere
+-- the same number, or the number of codes if the code does not occur
 abbrev pub number_among : List (List ℕ) → List ℕ → ℕ
 number_among codes code = unwrap_or (named_among codes code) (length codes)

@@ -18,7 +18,7 @@ pub record IsFaultlessAs (seen : Seen) (card : Numbered) (kind : Kind) : Type 0 
   pub named : kind_named seen.sort card ≡ Some kind
   -- PROJECT comes first
   pub begins : seen.is_first ≡ true → kind ≡ Project
-  -- no other card of a kind that stands once came before
+  -- no other card of a kind that occurs once came before
   pub alone : stands_once kind ≡ true → seen.count kind ≡ 0
   -- it has as many fields as it may have, and each is what it must be
   pub whole : is_whole_as kind card.1 ≡ true

@@ -72,7 +72,7 @@ CardOf kind = (entry_of kind).Card
 abbrev pub stands_once : Kind → Bool
 stands_once kind = (entry_of kind).once
 
--- the cards of a kind: one or none of a kind that stands once, or else a list
+-- the cards of a kind: one or none of a kind that occurs once, or else a list
 abbrev pub Held : Kind → Type 0
 Held kind = HeldBy (stands_once kind) (CardOf kind)
 

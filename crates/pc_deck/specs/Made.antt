@@ -1,4 +1,4 @@
--- The plan that is drawn of a deck of tasks.
+-- The plan that is generated from a deck of tasks.
 use Rattle.std.specs.Prelude.{List, []}
 use Rattle.pc_deck.specs.Deck.{Deck}
 use Rattle.pc_deck.specs.declared.kinds.act.ActCard.{ActCard}

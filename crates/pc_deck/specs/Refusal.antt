@@ -56,13 +56,13 @@ seen_among sort cards = record {
 abbrev pub is_whole_as : Kind → List (List ℕ) → Bool
 is_whole_as kind fields = is_whole (least_width_of kind) (width_of kind) fields
 
--- the faults of a card behind the cards that were seen, a case for each
+-- the faults of a card that comes after the cards that were seen, a case for each
 pub data HasCardFault (seen : Seen) (card : Numbered) (found : Fault) : Type 0 where
   -- F3: the first card is not PROJECT
   not_project : seen.is_first ≡ true → kind_named seen.sort card ≢ Some Project → found ≡ fault.first_not_project card.0 → HasCardFault seen card found
   -- F4: the first field names no kind that the sort has
   unknown_kind : kind_named seen.sort card ≡ None → found ≡ fault.unknown_kind card.0 → HasCardFault seen card found
-  -- F5: a second card of a kind that stands once
+  -- F5: a second card of a kind that occurs once
   second_card : (kind : Kind) → kind_named seen.sort card ≡ Some kind → stands_once kind ≡ true → 0 < seen.count kind
       → found ≡ fault.second_card card.0 kind → HasCardFault seen card found
   -- F6: too few fields, or a further field that is not empty
@@ -72,23 +72,23 @@ pub data HasCardFault (seen : Seen) (card : Numbered) (found : Fault) : Type 0 w
   wrong_shape : (kind : Kind) (slot : Slot) → kind_named seen.sort card ≡ Some kind → is_whole_as kind card.1 ≡ true
       → first_misshapen (slots_of seen.sort kind) card.1 ≡ Some slot
       → found ≡ fault.misshapen card.0 slot.0 → HasCardFault seen card found
-  -- F8: a field over its limit, where every shape is right
+  -- F8: a field over its limit, if every shape is right
   over_limit : (kind : Kind) (slot : Slot) → kind_named seen.sort card ≡ Some kind → is_whole_as kind card.1 ≡ true
       → first_misshapen (slots_of seen.sort kind) card.1 ≡ None → first_over_limit (slots_of seen.sort kind) card.1 ≡ Some slot
       → found ≡ fault.over_limit card.0 slot.0 → HasCardFault seen card found
-  -- F9: a code that an earlier card of the kind has, where every shape is right
+  -- F9: a code that an earlier card of the kind has, if every shape is right
   repeated_code : (kind : Kind) → kind_named seen.sort card ≡ Some kind → is_whole_as kind card.1 ≡ true
       → first_misshapen (slots_of seen.sort kind) card.1 ≡ None → is_among (text_at card.1 1) (seen.codes kind) ≡ true
       → found ≡ fault.repeated_code card.0 (text_at card.1 1) → HasCardFault seen card found
   -- F10: the first card past the limit of its kind
   one_too_many : (kind : Kind) (limit : ℕ) → kind_named seen.sort card ≡ Some kind → limit_of seen.sort seen.version kind ≡ Some limit → seen.count kind ≡ limit
       → found ≡ fault.too_many card.0 kind limit → HasCardFault seen card found
-  -- F11: a card behind an END card
+  -- F11: a card after an END card
   behind_end : (kind : Kind) → kind_named seen.sort card ≡ Some kind → seen.has_ended ≡ true → found ≡ fault.behind_end card.0
       → HasCardFault seen card found
 
--- the faults of cards of a deck of a sort, where others came before them: those of each card, and F12 where no END card came; `end` is
--- the number behind the last record
+-- the faults of cards of a deck of a sort that come after others: those of each card, and F12 if no END card came; `end` is one more
+-- than the number of the last record
 abbrev pub HasFaultFrom : Sort → List Numbered → ℕ → List Numbered → Fault → Type 0
 HasFaultFrom sort before end [] found = ((seen_among sort before).has_ended ≡ false) × (found ≡ fault.no_end end)
 HasFaultFrom sort before end (card ∷ cards) found =
@@ -99,7 +99,7 @@ abbrev pub HasFaultWhere : Sort → Bool → List ℕ → Fault → Type 0
 HasFaultWhere sort true bytes found = HasFaultFrom sort [] (length (deck_records bytes) + 1) (deck_cards bytes) found
 HasFaultWhere sort false bytes found = found ≡ fault.not_utf8
 
--- the faults of a deck of a sort: F2 where it is not UTF-8, and otherwise those of its cards
+-- the faults of a deck of a sort: F2 if it is not UTF-8, and otherwise those of its cards
 abbrev pub HasFault : Sort → List ℕ → Fault → Type 0
 HasFault sort bytes found = HasFaultWhere sort (is_utf8 bytes) bytes found
 

@@ -46,7 +46,7 @@ deck_rows deck = flat_map (records_of (settled deck)) kinds
 abbrev pub deck_text : Deck → List ℕ
 deck_text deck = records_text (deck_rows deck)
 
--- the record of the first card of a kind: behind the cards of the kinds that come before it
+-- the record of the first card of a kind: after the cards of the kinds that come before it
 abbrev pub first_from : ℕ → Deck → Kind → List Kind → ℕ
 first_from row deck kind [] = row
 first_from row deck kind (other ∷ rest) = if is_same other kind then row else first_from (row + length (list_of deck other)) deck kind rest

@@ -9,7 +9,7 @@ use Rattle.pc_cards.specs.declared.sort.Sort.TheVariants.{Plan}
 use Rattle.pc_deck.specs.Kinds.{CardOf, card_of, entry_of, has_code_of_its_own, limit_of, slots_of}
 use Rattle.pc_deck.specs.Deck.{Deck, list_of}
 
--- so many are within a limit, where there is one
+-- the count is within the limit, if there is one
 abbrev pub IsUpTo : Option ℕ → ℕ → Type 0
 IsUpTo None count = Unit {0}
 IsUpTo (Some most) count = count ≤ most

@@ -1,4 +1,4 @@
--- How the cards of each kind are written: its fields behind the word of the kind, in card order; and what a card is in another record.
+-- How the cards of each kind are written: the fields after the word of the kind, in order; and what a card is in another record.
 use Rattle.std.specs.Prelude.{[], ◌∷◌, decimal}
 use Rattle.pc_days.specs.Calendar.{text_of_day}
 use Rattle.pc_faults.specs.declared.kind.Kind.{Kind}

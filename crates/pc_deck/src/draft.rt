@@ -103,7 +103,7 @@ impl Draft {
             (λ fault. fault_at place.now (count_in self.old place.now.kind)
             (codes_in self.old place.now.kind) fields.now ≡ Some fault)) }
     {
-        // By `return`, so that each answer is made where the caller wants it, and none is copied there.
+        // With `return`, each result is built in its final place and not copied there.
         match place.kind {
             Kind::Project => return self.project.take(place, fields),
             Kind::AsOf => return self.lists.as_of.take(place, fields),

@@ -2,10 +2,9 @@
 //!
 //! A deck is a text of records, and each record that is not blank is a card: its first field is the card's kind. There
 //! are two sorts of decks, which differ in the kinds that they have: [`read_cards`] reads a plan, and [`read_tasks`] a
-//! deck of tasks. Codes are read but not looked up here: what refers to another card is
-//! judged where the project is put together.
+//! deck of tasks. Codes are read but not looked up here: `pc_project` checks what refers to another card.
 //!
-//! What knows no kind by name stands in `pc_cards`: here are the kinds, the table of them, and the reading of a whole
+//! What knows no kind by name is in `pc_cards`; this crate has the kinds, their table, and the reading of a complete
 //! deck.
 #![tactic(auto)]
 

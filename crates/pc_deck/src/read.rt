@@ -24,8 +24,8 @@ use pc_records::Row;
 use std::alloc::Global;
 use std::str;
 
-/// The room of a row from the beginning: as many bytes as are read from the deck at once, so that a record is copied in
-/// one piece, and more fields than a card has.
+/// The capacity of a row when it is made: as many bytes as are read from the deck at once, so that a record is copied
+/// in one piece, and more fields than a card has.
 const ROW_BYTES: usize = 8192;
 
 const ROW_FIELDS: usize = 64;

@@ -36,7 +36,7 @@ impl Cards {
         text.finish()
     }
 
-    /// About as many bytes as the text has, so that its room seldom grows.
+    /// About as many bytes as the text has, so that its capacity seldom grows.
     fn usual_length(&self) -> usize {
         let plan = self.items().len().saturating_add(self.events().len());
         let money = self.charges().len().saturating_add(self.togos().len());

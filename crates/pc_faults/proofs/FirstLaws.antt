@@ -86,7 +86,7 @@ earliest-none (Some f) (Some g) h = absurd (by (is_no_later f g) h)
 pub earliest-some : (one : Option Fault) (fault : Fault) → earliest one (Some fault) ≡ None → ⊥
 earliest-some one fault h = let never = (earliest-none one (Some fault) h).1 in cc
 
--- beside none a fault is the earlier one
+-- of a fault and none, the fault is the earlier one
 pub earliest-alone : (one : Option Fault) → earliest one None ≡ one
 earliest-alone None = refl
 earliest-alone (Some fault) = refl

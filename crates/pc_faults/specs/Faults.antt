@@ -23,7 +23,7 @@ first_not_project row = record { row = row; number = 3; detail = Plain }
 abbrev pub unknown_kind : ℕ → Fault
 unknown_kind row = record { row = row; number = 4; detail = Plain }
 
--- F5: a second card of a kind that stands once
+-- F5: a second card of a kind that occurs once
 abbrev pub second_card : ℕ → ACardKind → Fault
 second_card row kind = record { row = row; number = 5; detail = Kind kind }
 
@@ -47,11 +47,11 @@ repeated_code row code = record { row = row; number = 9; detail = Name code }
 abbrev pub too_many : ℕ → ACardKind → ℕ → Fault
 too_many row kind limit = record { row = row; number = 10; detail = TooMany kind limit }
 
--- F11: a card behind the END card
+-- F11: a card after the END card
 abbrev pub behind_end : ℕ → Fault
 behind_end row = record { row = row; number = 11; detail = Plain }
 
--- F12: no END card; `row` is the number behind the last record
+-- F12: no END card; `row` is one more than the number of the last record
 abbrev pub no_end : ℕ → Fault
 no_end row = record { row = row; number = 12; detail = Plain }
 

@@ -76,7 +76,7 @@ impl Fault {
         Fault::new(row, 4, Detail::Plain)
     }
 
-    /// Returns F5: a second card of a kind of which a deck has one.
+    /// Returns F5: a second card of a kind that occurs once.
     pub fn second_card(row: u32, kind: Kind) -> Fault
         ensures { result ≡ second_card row kind }
     {

@@ -13,7 +13,7 @@ use std::alloc::AllocError;
 pub enum Detail {
     /// Nothing.
     Plain,
-    /// The kind of which this is a second card.
+    /// The kind that has this second card.
     Kind(Kind),
     /// How many fields the record has, the empty ones among them, and how many a card of its kind has.
     Fields {
@@ -25,7 +25,7 @@ pub enum Detail {
     Field(u8),
     /// A code.
     Name(Code),
-    /// The kind of which there are too many cards, and how many there may be.
+    /// The kind that has too many cards, and how many there may be.
     TooMany {
         kind: Kind,
         limit: u64,
@@ -50,7 +50,7 @@ pub enum Detail {
     },
     /// Why a STATUS or ASOF card is in disorder.
     Status(StatusFault),
-    /// An account, and the date of which it has a second TOGO card.
+    /// An account, and the date for which it has a second TOGO card.
     ToGo {
         account: Code,
         day: Day,

@@ -95,7 +95,7 @@ fn tell(line: &mut Line, number: u8, detail: &Detail)
     }
 }
 
-/// Appends of which kind there is a second card.
+/// Appends the kind that has a second card.
 fn tell_second(line: &mut Line, kind: Kind)
     requires { length line.old.bytes + 90 ≤ line.old.room }
     ensures { HasTold 90 line.old line.new (words_of 5 (detail.Kind kind)) }
@@ -138,7 +138,7 @@ fn tell_name(line: &mut Line, number: u8, code: &Code)
     line.text(words.after);
 }
 
-/// Appends of which kind there are too many cards.
+/// Appends the kind that has too many cards.
 fn tell_too_many(line: &mut Line, kind: Kind, limit: u64)
     requires { length line.old.bytes + 90 ≤ line.old.room }
     ensures { HasTold 90 line.old line.new (words_of 10 (detail.TooMany kind limit)) }
@@ -170,7 +170,7 @@ fn tell_level(line: &mut Line, name: &Code, level: u32)
     line.text(digits(u64::from(level)).bytes());
 }
 
-/// Appends on which side an event stands loose.
+/// Appends the side on which an event has no activity.
 fn tell_side(line: &mut Line, name: &Code, entered: bool)
     requires { length line.old.bytes + 90 ≤ line.old.room }
     ensures { HasTold 90 line.old line.new (words_of 26 (detail.Side name.now entered)) }
@@ -192,7 +192,7 @@ fn tell_sums(line: &mut Line, name: &Code, budgets: u64, costs: u64)
     line.text(digits(costs).bytes());
 }
 
-/// Appends of which account and date there is a second TOGO card.
+/// Appends the account and the date that have a second TOGO card.
 fn tell_togo(line: &mut Line, account: &Code, day: Day)
     requires { length line.old.bytes + 90 ≤ line.old.room }
     ensures { HasTold 90 line.old line.new (words_of 31 (detail.ToGo account.now day)) }

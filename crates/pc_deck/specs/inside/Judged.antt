@@ -13,7 +13,7 @@ use Rattle.pc_deck.specs.Kinds.{kind_of, stands_once, least_width_of, limit_of, 
 use Rattle.pc_deck.specs.inside.Kinds.{is_project}
 use Rattle.pc_deck.specs.Judged.{Seen}
 
--- where a card of a kind stands behind those that were seen
+-- the place of a card of a kind that comes after those that were seen
 abbrev pub place_of : Seen → Kind → ℕ → CardPlace
 place_of seen kind row = record { sort = seen.sort; kind = kind; row = row; limit = limit_of seen.sort seen.version kind; has_ended = seen.has_ended }
 
@@ -21,7 +21,7 @@ place_of seen kind row = record { sort = seen.sort; kind = kind; row = row; limi
 abbrev pub not_project : Seen → Kind → ℕ → Option Fault
 not_project seen kind row = then_some (seen.is_first && not (is_project kind)) (fault.first_not_project row)
 
--- F5: a second card of a kind that stands once
+-- F5: a second card of a kind that occurs once
 abbrev pub second : CardPlace → ℕ → Option Fault
 second place count = then_some (stands_once place.kind && nat_lt 0 count) (fault.second_card place.row place.kind)
 

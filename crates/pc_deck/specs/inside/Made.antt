@@ -1,5 +1,4 @@
--- The plan that is made of lists, or drawn of a deck of tasks.
--- Here is what no clause of a top call and no law reaches.
+-- The plan that is made of lists, or generated from a deck of tasks.
 use Rattle.std.specs.Prelude.{[], map}
 use Rattle.pc_model.specs.Codes.{IsNamedOnce}
 use Rattle.pc_deck.specs.Deck.{Deck}

@@ -77,16 +77,16 @@ abbrev pub closed_with : Draft → ℕ → Option ProjectCard → Result Deck Fa
 closed_with draft end None = Err (fault.no_end end)
 closed_with draft end (Some project) = if draft.has_ended then Ok (deck_with draft project) else Err (fault.no_end end)
 
--- what the deck says once all its cards are read; `end` is the number behind the last record
+-- the deck once all its cards are read, or its fault; `end` is one more than the number of the last record
 abbrev pub closed : Draft → ℕ → Result Deck Fault
 closed draft end = closed_with draft end draft.project
 
--- going on with the kind of a card that has no fault
+-- continuing with the kind of a card that has no fault
 abbrev pub and_then : Result Kind Fault → (Kind → Result Deck Fault) → Result Deck Fault
 and_then (Ok kind) go = go kind
 and_then (Err fault) go = Err fault
 
--- what the deck says after these cards
+-- the deck after these cards, or its fault
 abbrev pub read_from : Draft → ℕ → List Numbered → Result Deck Fault
 read_from draft end [] = closed draft end
 read_from draft end (card ∷ cards) =

@@ -8,7 +8,7 @@ use Rattle.pc_deck.specs.Deck.{Deck}
 use Rattle.pc_deck.specs.Kinds.{kinds}
 use Rattle.pc_deck.specs.Text.{first_from, settled, records_of}
 
--- the text of the cards that stand once, but for END, and of those that do not
+-- the text of the cards of kinds that occur once, without END, and of the others
 abbrev pub lead_text : Deck → List ℕ
 lead_text deck = records_text (flat_map (records_of (settled deck)) (Project ∷ AsOf ∷ Terms ∷ []))
 

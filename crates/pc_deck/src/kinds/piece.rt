@@ -13,8 +13,8 @@ use pc_records::{Fields, Records};
 use pc_text::{Code, digits};
 use std::alloc::AllocError;
 
-/// A PIECE card: a further piece of an activity's cost. Behind the slope of the ACT card, so many units cost this much
-/// each to be taken off.
+/// A PIECE card: a further piece of an activity's cost. After the units at the slope of the ACT card, it costs `slope`
+/// to take off each of these `units`.
 #[derive(Clone, Copy)]
 pub struct PieceCard {
     pub row: u32,

@@ -25,7 +25,7 @@ listed_in (Periods have) = 0
 abbrev pub words_limit : Detail → ℕ
 words_limit detail = 90 + 17 * listed_in detail
 
--- the line has the words after its old bytes, which are at most so many bytes more, and its capacity is the old one
+-- the line has the words after its old bytes, which are at most `limit` bytes more, and its capacity is the old one
 pub record HasTold (limit : ℕ) (old new : Line) (words : List ℕ) : Type 0 where
   pub bytes : new.bytes ≡ old.bytes ++ words
   pub room : new.room ≡ old.room

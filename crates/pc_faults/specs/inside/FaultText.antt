@@ -1,4 +1,4 @@
--- The line that tells a fault.
+-- The line that reports a fault.
 -- Here is what no clause of a top call and no law reaches.
 use Rattle.std.specs.Prelude.{◌≡◌, ℕ, true, ◌==◌, List, [], ◌∷◌}
 use Rattle.std.specs.List.{list_any}

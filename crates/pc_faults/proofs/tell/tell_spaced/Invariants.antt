@@ -2,7 +2,7 @@ use Rattle.std.proofs.Common.{◌≡◌, ◌+◌, ◌*◌, ◌≤◌, ◌++◌, 
 use Rattle.pc_faults.specs.FaultText.{spaced_codes}
 use Rattle.pc_faults.proofs.tell.tell_spaced.Given as goal
 
--- the bytes so far and those of the codes that are left are those of all codes, and the room is enough for them
+-- the bytes so far and those of the codes that are left are those of all codes, and the capacity is enough for them
 abbrev pub invariant-loop-code : goal.invariant-loop-code
 invariant-loop-code l = record {
   told : l.line.bytes ++ spaced_codes (drop l.code-index l.codes) ≡ l.fn.line.bytes ++ spaced_codes l.codes;
