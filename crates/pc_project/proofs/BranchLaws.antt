@@ -1,4 +1,4 @@
--- Activities and accounts that stand on leaves, and those that do not.
+-- Activities and accounts that are on leaves, and those that are not.
 use Rattle.std.proofs.Common.{◌≡◌, ◌+◌, ◌<◌, ◌≤◌, ℕ, List, length, map, get_or, Option, refl, sym, ap, ◌∙◌, subst, inl, inr, ◌⊎◌, arith}
 use Rattle.std.specs.List.{Any}
 use Rattle.std.proofs.lemmas.List.{get_or-map, length-map}
@@ -49,7 +49,7 @@ branch-is deck rows item row code found same_rows same_item first =
     subst (λ rs. IsFirstIn (λ fault. (IsLeaf rs (number_among (item_codes deck) code) → ⊥) × (fault ≡ not_a_leaf row code)) found) same_rows
     (subst (λ x. IsFirstIn (λ fault. (IsLeaf rows x → ⊥) × (fault ≡ not_a_leaf row code)) found) same_item first)
 
--- the first of these faults among cards that stand on items, of which a loop has passed some
+-- the first of these faults among the cards on items that a loop has passed
 module _ {C : Type 0} (deck : Deck) (row : C → ℕ) (item : C → List ℕ) (cards : List C) where
   abbrev pub IsFirstBranchBefore : ℕ → Option Fault → Type 0
   IsFirstBranchBefore i found = IsFirstBefore (λ card fault. StandsOnBranch deck (row card) (item card) fault) cards i found

@@ -1,4 +1,4 @@
--- The cards of a project stand where its numbers say, and say what its lists do.
+-- The cards of a project are where its numbers say, and say what its lists do.
 use Rattle.std.proofs.Common.{◌≡◌, ℕ, ◌<◌, List, length, map, get_or, sym, ap, ◌∙◌, arith}
 use Rattle.std.proofs.lemmas.List.{length-map, get_or-map}
 use Rattle.pc_project.specs.declared.project.Project.TheInside.{Inside}

@@ -83,7 +83,7 @@ as_of-late deck none = by deck.as_of refl
     by (Some card) is =
         by_lt_z card.day deck.project.start_day (λ early. absurd (none _ (of_as_of (card, (is, early, refl))))) (λ late. late)
 
--- the fault of a status by what is told of it
+-- the fault of a status by the reason that was found
 pub disorder-first : (deck : Deck) (k row : ℕ) (statuses : List StatusRow) (reason : Option StatusFault) → statuses ≡ statuses_in deck →
     IfSome reason (IsReason deck.project.start_day (as_of_in deck) statuses k) → IfNone reason (IsInOrder deck.project.start_day (as_of_in deck) statuses k) →
     IsFirstIn (λ fault. (r : StatusFault) × (IsReason deck.project.start_day (as_of_in deck) (statuses_in deck) k r × (fault ≡ disorder row r))) (option_map (disorder row) reason)

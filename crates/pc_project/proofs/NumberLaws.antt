@@ -1,4 +1,4 @@
--- The numbers that codes stand for.
+-- The numbers of codes.
 use Rattle.std.proofs.Common.{◌≡◌, ◌<◌, ℕ, List, [], length, get_or, sym, ap, ◌∙◌, refl, arith, Option, Some, None, nat_eq}
 use Rattle.std.specs.Prelude.{IsSome, unwrap_or}
 use Rattle.std.specs.Cmp.Lexicographic.{pointwise, bytes_decides}

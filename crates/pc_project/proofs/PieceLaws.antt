@@ -91,7 +91,7 @@ module _ (terms : List Term) (pieces : List PieceRow) (none : (i : ℕ) → i < 
         leaving = omega (arith, flawless.leaving, ap (λ (t : Term). t.crash) term, ap (λ (t : Term). t.normal) term, ap units_of before, ap (λ (p : PieceRow). p.units) here);
       }
 
--- pieces of which none has a flaw are pieces
+-- pieces without a fault are sound
 pub ArePieces-flawless : (terms : List Term) (pieces : List PieceRow) →
     ((i : ℕ) → i < length pieces → (piece_at pieces i).activity < length terms) →
     ((i : ℕ) → i < length pieces → IsFlawless terms pieces i) → ArePieces terms pieces

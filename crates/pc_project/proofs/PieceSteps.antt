@@ -47,7 +47,7 @@ module _ (deck : Deck) (none : HasNoMisfit deck) (limits : IsWithinLimits deck) 
     run-is : IsRunOf (term_at (terms_in deck) piece.activity) (pieces_before (pieces_in deck) i) run
     run-is = are.each piece.activity activity_known
 
-    -- no more pieces were read than stand before it
+    -- no more pieces were read than there are before it
     count-small : run.count ≤ i
     count-small =
         omega (

@@ -1,4 +1,4 @@
--- What the pieces of each activity come to, one piece further.
+-- The run of each activity, one piece further.
 use Rattle.std.proofs.Common.{◌≡◌, ℕ, ◌+◌, ◌<◌, ◌≤◌, List, [], ◌∷◌, ◌++◌, length, map, take, set, refl, sym, ◌∙◌, ap, subst, ⊎_elim, arith, add-one}
 use Rattle.std.proofs.lemmas.Bool.{cases_eq}
 use Rattle.std.proofs.lemmas.List.{get_or-map, get_or_push, get_or-set_same, get_or-set_other, length-map, length-set, length_push}

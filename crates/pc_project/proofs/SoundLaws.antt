@@ -19,7 +19,7 @@ use Rattle.pc_project.proofs.MakesLaws.{no_faults}
 use Rattle.pc_project.proofs.PlannedLaws.{pieces_of_deck}
 
 -- the network is sound and the items are a tree; each activity has its code, its term and the pieces of its cost, and each account
--- stands on a leaf
+-- is on a leaf
 pub record HasSoundParts (project : Project) : Type 0 where
   pub in_range : IsInRange project.network
   pub sound : IsSound project.network

@@ -14,7 +14,7 @@ use Rattle.pc_project.specs.Records.{status_records}
 abbrev pub as_of_in : Deck → ℤ
 as_of_in deck = as_of_day deck.project.start_day deck.as_of
 
--- the k-th STATUS card is in disorder, and the fault tells the first reason that it has
+-- the k-th STATUS card is in disorder, and the fault has its first reason
 abbrev pub IsDisorderAt : Deck → ℕ → Fault → Type 0
 IsDisorderAt deck k fault =
     (reason : StatusFault) × (IsReason deck.project.start_day (as_of_in deck) (statuses_in deck) k reason × (fault ≡ disorder (slice_index (status_records deck) k) reason))

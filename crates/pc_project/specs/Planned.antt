@@ -28,9 +28,9 @@ pub record IsLoad (project : Project) (load : LoadItem) : Type 0 where
   pub resource : load.resource < length project.resources
   pub quantity : load.quantity ≤ MAX_COST
 
--- activities and accounts stand on leaves, and where an item has activities, the budgets of its accounts add up to what
--- these cost; the entries are what charges and amounts to go make of the accounts; the statuses are in order, and the
--- states are what they say
+-- activities and accounts are on leaves, and if an item has activities, the budgets of its accounts add up to what these
+-- cost; the entries are what charges and amounts to go make of the accounts; the statuses are in order, and the states are
+-- what they say
 pub record HasFigures (project : Project) : Type 0 where
   pub on_leaves : (a : ℕ) → a < length project.network.arcs → IsLeaf project.tree (slice_index project.places a)
   pub accounts : AreAccounts project.tree project.accounts

@@ -38,9 +38,9 @@ pub record Heading : Type 0 where
 -- what a project is: what it is called and when, the network of its activities, the tree of its items, and the lists
 -- of its events (codes), its activities (codes, items, what each may last and cost, expected times in sixths of a day
 -- and their variances in thirty-sixths of a square day), the further pieces of their costs, its items (codes, titles),
--- its resources (codes) and the loads on them, its accounts, the charges and the amounts to go of these and what each
--- account has come to, and the statuses of its activities and how far each is, all in card order; and what time costs.
--- Beside these it is the deck of its cards, which say what no number does: titles, codes of accounts, estimates
+-- its resources (codes) and the loads on them, its accounts with their charges and amounts to go and the sums of these,
+-- and the statuses of its activities and how far each is, all in card order; and what time costs.
+-- It also has the deck of its cards, for what is no number: titles, codes of accounts, estimates
 pub record Project : Type 0 where
   pub deck : Deck
   pub heading : Heading
@@ -169,7 +169,7 @@ abbrev pub as_of_day : ℤ → Option AsOfCard → ℤ
 as_of_day start None = start
 as_of_day start (Some card) = card.day
 
--- what a deck says of the project as a whole
+-- what a deck says of the project itself
 abbrev pub heading_of : Deck → Heading
 heading_of deck = record {
   code = deck.project.code;
@@ -191,7 +191,7 @@ counts_of deck = record {
   statuses = length deck.statuses;
 }
 
--- the project of a deck whose accounts have come to these entries and whose activities are that far
+-- the project of a deck, with these entries of its accounts and these states of its activities
 abbrev pub project_in : Deck → List Entry → List ActState → Project
 project_in deck entries states = record {
   deck = deck;

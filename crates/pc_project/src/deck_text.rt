@@ -20,8 +20,8 @@ pub fn deck_text_of(alloc: Global, project: &Project) -> Result<Vec<u8>, AllocEr
 ///
 /// The deck has version 2, the as-of day, a TERMS card if time costs anything, and then the cards kind by kind, each
 /// kind in card order, with quotes only where they are needed. It is read as the same project, whose text is the same.
-/// Linear in the cards. The text goes into the capacity of `room`, for example the deck's own buffer, and takes further
-/// memory if that is too little.
+/// Linear in the cards. The text goes into the memory of `room`, for example the deck's own buffer, and takes more only
+/// if that is too little.
 ///
 /// # Errors
 ///

@@ -34,7 +34,7 @@ pub task-named : (deck : Deck) (code : List ℕ) → IsSome (named_among (task_c
 task-named deck code known =
     ap (λ codes. named_among codes code) (acts-are deck) ∙ found-before code (task_codes deck) (map code_of (links_of deck)) known
 
--- what stands in for what is not found does not matter for what is found
+-- the value for what is not found does not matter for what is found
 default : (found : Option ℕ) (a b : ℕ) → IsSome found → unwrap_or found a ≡ unwrap_or found b
 default (Some i) a b known = refl
 default None a b known = absurd (false≢true known)

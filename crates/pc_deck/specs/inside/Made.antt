@@ -1,4 +1,5 @@
 -- The plan that is made of lists, or generated from a deck of tasks.
+-- Here is what no clause of a top call and no law reaches.
 use Rattle.std.specs.Prelude.{[], map}
 use Rattle.pc_model.specs.Codes.{IsNamedOnce}
 use Rattle.pc_deck.specs.Deck.{Deck}

@@ -1,7 +1,7 @@
--- Why a deck whose cards were read is refused: the first fault, phase by phase. A phase counts only where none before
--- it has a fault: first the cards one by one (F13 to F19, F41), then the tree of the items (F20 to F23, tried in that
+-- Why a deck whose cards were read is refused: the first fault, phase by phase. A phase counts only if none before it
+-- has a fault: first the cards one by one (F13 to F19, F41), then the tree of the items (F20 to F23, tried in that
 -- order), then the network of the activities (F24 to F27, tried in that order), then the items that activities and
--- accounts stand on (F28), then the budgets of packages (F29), then statuses and as-of (F30), then second amounts to go
+-- accounts are on (F28), then the budgets of packages (F29), then statuses and as-of (F30), then second amounts to go
 -- (F31), then the pieces of the activities' costs (F33 to F35), and last the terms of time (F36).
 -- Here is what no clause of a top call and no law reaches.
 use Rattle.std.specs.Prelude.{ℕ, ◌<◌, All, length}

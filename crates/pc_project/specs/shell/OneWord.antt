@@ -1,4 +1,4 @@
--- What the top calls share that have one word, the name of a deck: what they come to before they have the deck's project.
+-- What the top calls with one word, the name of a deck, share: how they end before they have the deck's project.
 use Rattle.std.specs.Prelude.{◌≡◌, List, length, String}
 use Rattle.std.specs.declared.alloc.Global.{Global}
 use Rattle.pc_faults.specs.declared.fault.Fault.{Fault}

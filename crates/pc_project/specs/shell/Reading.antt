@@ -1,5 +1,5 @@
--- What reading a deck from a source comes to: its bytes, its project, or why there is none. What bytes are a deck of is a matter of
--- two relations, so that this is said once for every sort of deck: which project the bytes make, and which faults they have.
+-- The result of reading a deck from a source: its bytes, its project, or why there is none. Two relations vary with the sort of deck, so
+-- that this is defined once: which project bytes make, and which faults they have.
 use Rattle.std.specs.Prelude.{◌≡◌, ℕ, ◌≤◌, List, length}
 use Rattle.pc_faults.specs.declared.fault.Fault.{Fault}
 use Rattle.pc_deck.specs.Limits.{longest_deck}

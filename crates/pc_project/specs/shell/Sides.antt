@@ -4,8 +4,8 @@ use Rattle.std.specs.Io.KnownBytes.{Consumes, IsAtEnd}
 use Rattle.pc_edges.specs.Faults.{Rose}
 use Rattle.pc_edges.specs.Writes.{Wrote, Stopped}
 
--- a source or a sink at the beginning and the end of a call; its bytes, where it tells them: of a source those that it has
--- left, of a sink those that it has taken; its count of faults; and of a source its count of pulls, where that is told
+-- a source or a sink at the beginning and the end of a call; if it reports its bytes: of a source those that it has left,
+-- of a sink those that it has taken; its count of faults; and of a source its count of pulls, if that is reported
 pub record Side (X : Type 0) : Type 0 where
   pub bytes : X → Option (List ℕ)
   pub faults : X → ℕ
@@ -33,7 +33,7 @@ HadNoFault s = HadFault s → ⊥
 abbrev pub IsUntouched : {X : Type 0} → Side X → Type 0
 IsUntouched s = s.new ≡ s.old
 
--- the bytes that the source had left have P, where it tells them
+-- the bytes that the source had left have P, if it reports them
 abbrev pub OfBytes : {X : Type 0} → Side X → (List ℕ → Type 0) → Type 0
 OfBytes s P = IfSome (s.bytes s.old) P
 
@@ -41,18 +41,18 @@ OfBytes s P = IfSome (s.bytes s.old) P
 abbrev pub IsReadToEnd : {X : Type 0} → Side X → Type 0
 IsReadToEnd s = IsAtEnd (s.bytes s.new)
 
--- more bytes than so many were taken from the source
+-- more than `limit` bytes were taken from the source
 abbrev pub TookMoreThan : {X : Type 0} → ℕ → Side X → Type 0
 TookMoreThan limit s = (bytes : List ℕ) × Consumes (s.bytes s.old) (s.bytes s.new) bytes × (limit < length bytes)
 
--- at most so many bytes were taken from the source
+-- at most `most` bytes were taken from the source
 abbrev pub TookAtMost : {X : Type 0} → ℕ → Side X → Type 0
 TookAtMost most s = (bytes : List ℕ) × Consumes (s.bytes s.old) (s.bytes s.new) bytes × (length bytes ≤ most)
 
--- the sink took the whole text, and no fault came
+-- the sink took the complete text, and no fault occurred
 abbrev pub Took : {X : Type 0} → Side X → List ℕ → Type 0
 Took s text = Wrote (s.bytes s.old) (s.bytes s.new) (s.faults s.old) (s.faults s.new) text
 
--- a fault of the sink came when it had taken a front of the text
+-- a fault of the sink occurred when it had taken a front of the text
 abbrev pub TookFront : {X : Type 0} → Side X → List ℕ → Type 0
 TookFront s text = Stopped (s.bytes s.old) (s.bytes s.new) (s.faults s.old) (s.faults s.new) text

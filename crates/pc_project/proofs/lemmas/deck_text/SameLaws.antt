@@ -12,7 +12,7 @@ use Rattle.pc_project.specs.Project.{account_of, accounts_in, arc_of, charges_in
 use Rattle.pc_project.specs.Project.{item_of_act, project_in, row_of, rows_of, status_of, statuses_in, term_of, terms_in, togos_in, variance_in, work_in, work_of}
 use Rattle.pc_project.specs.deck_text.Same.{SayTheSame, account_said, act_said, item_said, load_said, money_said, piece_said, status_said, titled_said}
 
--- what is read of each element alike before and behind a function is the same of two lists that the function makes one
+-- if a value read of each element does not change when a function is applied, two lists that the function makes equal have the same values
 pub of_said : {X Y : Type 0} (said : X → X) (read : X → Y) (xs ys : List X) → map said xs ≡ map said ys → map (λ x. read (said x)) xs ≡ map (λ x. read (said x)) ys
 of_said said read xs ys same = sym (map-map read said xs) ∙ ap (map read) same ∙ map-map read said ys
 

@@ -1,4 +1,4 @@
--- What reading a deck says of its bytes, where the source tells them.
+-- What reading a deck says of its bytes, if the source reports them.
 use Rattle.std.proofs.Common.{◌≡◌, ◌≤◌, ℕ, ◌<◌, ◌↔◌, List, length, Option, Some, None, Result, Ok, Err, Vec, inl, inr, refl, ap, arith, length-append}
 use Rattle.std.proofs.lemmas.Bool.{cases_lt}
 use Rattle.std.specs.Prelude.{IfSome, IfOk, IfErr, IsErrOf}
@@ -22,7 +22,7 @@ use Rattle.pc_project.specs.inside.shell.Reading.{HasNoDeck, HasNoProjectBy, IsN
 use Rattle.pc_project.specs.shell.Verdict.{IsFault, too_long}
 use Rattle.pc_project.proofs.lemmas.shell.SideLaws.{of_one, of_the_deck}
 
--- a deck of which too many bytes were taken is too long
+-- if more bytes than allowed were taken from a deck, it is too long
 of_a_long_deck : (left left_after : Option (List ℕ)) (bytes : List ℕ) → Consumes left left_after bytes → longest_deck < length bytes → IfSome left (λ deck. longest_deck < length deck)
 of_a_long_deck None left_after bytes consumed long = tt
 of_a_long_deck (Some deck) None bytes consumed long = absurd consumed
@@ -37,7 +37,7 @@ unread_deck left faults old new load.ReadFault loaded bytes took long =
 unread_deck left faults old new load.TooLong loaded bytes took long = (refl, took_too_much refl (bytes, took, long.0 refl))
 unread_deck left faults old new load.OutOfMemory loaded bytes took long = tt
 
--- the project that a whole deck makes is that of the source
+-- the project that a complete deck makes is that of the source
 pub whole_has : {S : Type 0} (Makes : List ℕ → Project → Type 0) (source : Side S) (bytes : List ℕ) → IsWholeDeck source bytes
     → (result : Result Project NoProject) → IfOk result (Makes bytes) → IfOk result (HasProjectBy Makes source)
 whole_has Makes source bytes whole (Ok project) is = record {
@@ -47,20 +47,20 @@ whole_has Makes source bytes whole (Ok project) is = record {
 whole_has Makes source bytes whole (Err why) is = tt
 
 module _ (Has : List ℕ → Fault → Type 0) where
-  -- a fault that can be told is why bytes give no project
+  -- a fault that has a line is a reason why bytes give no project
   pub lacks_by : (bytes : List ℕ) (error : DeckError) → ((fault : Fault) → Has bytes fault → IsTold fault) → Refuses (Has bytes) error → IsNoProjectBy Has bytes (lacking error)
   lacks_by bytes (error.Fault fault) can is = (can fault is, is)
   lacks_by bytes error.OutOfMemory can is = tt
 
   module _ {S : Type 0} (source : Side S) where
-    -- where there is no deck, there is no project
+    -- without a deck there is no project
     pub unread_lacks : (why : NoProject) → HasNoDeck source why → HasNoProjectBy Has source why
     unread_lacks (Refused fault) (can, took_too_much is took) = (can, took_too_much is took)
     unread_lacks (Refused fault) (can, faulty read has) = (can, faulty read (of_one (source.bytes source.old) _ _ (λ bytes never. absurd never.1) has))
     unread_lacks ReadFault why = why
     unread_lacks OutOfMemory why = why
 
-    -- why a whole deck gives no project is why the source does
+    -- the reason why a complete deck gives no project is that of the source
     pub whole_lacks : (bytes : List ℕ) → IsWholeDeck source bytes → (result : Result Project NoProject) → IfErr result (IsNoProjectBy Has bytes) → IfErr result (HasNoProjectBy Has source)
     whole_lacks bytes whole (Ok project) why = tt
     whole_lacks bytes whole (Err (Refused fault)) why =

@@ -1,4 +1,4 @@
--- What holds of the bytes that a source had left, where it tells them.
+-- What holds of the bytes that a source had left, if it reports them.
 use Rattle.std.proofs.Common.{ℕ, List, ◌++◌, Option, Some, None, sym, ◌∙◌, ap, subst, append-nil}
 use Rattle.std.specs.Prelude.{IfSome}
 use Rattle.std.specs.Io.KnownBytes.{Consumes, IsAtEnd}

@@ -12,7 +12,7 @@ use Rattle.pc_project.specs.Figures.{IsProjectOfDeck}
 use Rattle.pc_project.proofs.OneProjectLaws.{one_project_of}
 use Rattle.pc_project.specs.shell.Verdict.{IsAccepted, IsFault, IsProjectOf, too_long, card_refusal, project_refusal}
 
--- each fault of a deck can be told
+-- each fault of a deck has a line
 pub told_of-fault : (bytes : List ℕ) (fault : ADeckFault) → IsFault bytes fault → IsTold fault
 told_of-fault bytes fault (too_long long is) = subst IsTold (sym is) refl
 told_of-fault bytes fault (card_refusal short refusal) = told_of-refusal bytes fault refusal

@@ -4,7 +4,7 @@ use Rattle.pc_project.proofs.RunLaws.{AreRuns}
 use Rattle.pc_project.proofs.CountLaws.{IsFirstBelow}
 use Rattle.pc_project.proofs.pieces.check_pieces.Given as goal
 
--- what the activities come to so far, and the first fault of the pieces so far
+-- the runs of the activities so far, and the first fault of the pieces so far
 pub record Kept (P Q : Type 0) : Type 0 where
   pub runs : P
   pub first : Q

@@ -1,4 +1,4 @@
--- What the top calls share that have one word, the name of a deck: what they come to before they have the deck's project.
+-- What the top calls with one word, the name of a deck, share: how they end before they have the deck's project.
 -- Here is what no clause of a top call and no law reaches.
 use Rattle.std.specs.Prelude.{ℕ, List, String}
 use Rattle.std.specs.declared.alloc.Global.{Global}
@@ -16,8 +16,8 @@ pub record IsProjectNamed {D E : Type 0} (words : List (String Global)) (deck : 
   pub has : HasProject deck project
   pub quiet : IsUntouched err
 
--- how a call ends for want of a project: the deck is refused, or there is not one word, which the error output was told, or a fault came in
--- that; or memory ran out, or the deck could not be read, and nothing was said
+-- how a call ends without a project: the deck is refused, or there is not one word, and the error output took the line that says so, or a
+-- fault occurred in that; or memory ran out, or the deck could not be read, and nothing was written
 pub data EndsWithout {D E : Type 0} (words : List (String Global)) (usage_text : List ℕ) (deck : Side D) (err : Side E) : Status → Type 0 where
   deck_refused : IsDeckRefused words deck err → EndsWithout words usage_text deck err Refused
   not_one_word : (IsOneWord words → ⊥) → Took err usage_text → IsUntouched deck → EndsWithout words usage_text deck err Usage

@@ -1,5 +1,5 @@
--- What reading a deck from a source comes to: its bytes, its project, or why there is none. What bytes are a deck of is a matter of
--- two relations, so that this is said once for every sort of deck: which project the bytes make, and which faults they have.
+-- The result of reading a deck from a source: its bytes, its project, or why there is none. Two relations vary with the sort of deck, so
+-- that this is defined once: which project bytes make, and which faults they have.
 -- Here is what no clause of a top call and no law reaches.
 use Rattle.std.specs.Prelude.{ℕ, ◌≤◌, List, length, ⊤}
 use Rattle.std.specs.Io.KnownBytes.{Consumes}
@@ -39,17 +39,17 @@ HasNoProjectBy Has source (Refused fault) = IsTold fault × HasRefusalBy Has sou
 HasNoProjectBy Has source ReadFault = HadFault source × TookAtMost longest_deck source
 HasNoProjectBy Has source OutOfMemory = ⊤
 
--- why a deck was not read: for none of its own faults, since these are found only where it was
+-- why a deck was not read: none of its own faults, which are found only in a deck that was read
 abbrev pub HasNoDeck : {X : Type 0} → Side X → NoProject → Type 0
 HasNoDeck source why = HasNoProjectBy (λ bytes fault. ⊥) source why
 
--- why there is no project, where the source was not read to its end
+-- why there is no project if the source was not read to its end
 abbrev pub unread : LoadError → NoProject
 unread load.ReadFault = ReadFault
 unread load.TooLong = Refused fault_too_long
 unread load.OutOfMemory = OutOfMemory
 
--- why there is no project, where a deck that was read is refused so
+-- why there is no project if a deck that was read is refused
 abbrev pub lacking : DeckError → NoProject
 lacking (error.Fault fault) = Refused fault
 lacking error.OutOfMemory = OutOfMemory

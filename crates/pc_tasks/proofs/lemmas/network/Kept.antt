@@ -46,7 +46,7 @@ module _ (p : ℕ → Bool) where
       (λ fails_x. subst (λ kept. Stands kept v) (sym (filter-no x xs fails_x)) (stands_kept xs v (j, omega arith, is) passes))
       (cases_Bool (p x))
 
-  -- numbers that stand once are kept once
+  -- numbers that occur once are kept once
   pub AreOnce-filter : (xs : List ℕ) → AreOnce xs → AreOnce (filter p xs)
   AreOnce-filter [] once = λ j k before inside. absurd (omega arith)
   AreOnce-filter (x ∷ xs) once =
