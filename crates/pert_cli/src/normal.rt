@@ -1,14 +1,12 @@
 //! `normal`: the schedule at the all-normal length.
 ghost use Rattle.std.specs.Prelude.{◌≡◌, IfOk};
 ghost use Rattle.pc_model.specs.Schedule.{normals};
-ghost use Rattle.pc_times.specs.Times.{AreEarly, AreLengths};
 ghost use Rattle.pert_cli.specs.Normal.{IsNormalSchedule};
 
 use crate::printed::PrintedSchedule;
 use pc_model::Term;
-use pc_net::Net;
 use pc_project::Project;
-use pc_times::early_into;
+use pc_times::early;
 use std::alloc::{AllocError, Global};
 
 /// Returns the schedule at the all-normal length of a project: every activity at its normal duration, every event as
@@ -21,7 +19,7 @@ pub(crate) fn normal_schedule(
 {
     let net = project.net();
     let durations = normal_durations(alloc, project.activity_terms())?;
-    let times = early_times(alloc, net, &durations)?;
+    let times = early(alloc, net, &durations)?;
     let cost = project.priced(alloc)?.cost_of(&durations);
     Ok(PrintedSchedule {
         total: times[net.end() as usize],
@@ -29,16 +27,6 @@ pub(crate) fn normal_schedule(
         times,
         durations,
     })
-}
-
-/// Returns the time of each event, in card order: the greatest sum of lengths over the walks from the start to it.
-fn early_times(alloc: Global, net: &Net, lengths: &[u64]) -> Result<Vec<u64>, AllocError>
-    requires { AreLengths net.now lengths.now }
-    ensures { IfOk result (λ times. AreEarly net.now lengths.now times.items) }
-{
-    let mut times = vec![in alloc; 0; net.events() as usize]?;
-    early_into(net, lengths, &mut times);
-    Ok(times)
 }
 
 /// Returns the normal durations, in card order.

@@ -13,8 +13,8 @@ at : (P : Network → List ℕ → Type 0) (net network : Network) (lengths othe
 at P net network lengths others same_net same_lengths fact =
     subst (λ n. P n others) same_net (subst (P net) same_lengths fact)
 
-pub early_times-requires : goal.early_times-requires
-early_times-requires c =
+pub early-requires : goal.early-requires
+early-requires c =
     at AreLengths c.args.project.now.network c.net-net.result.now (normals c.args.project.now.terms) c.deref.result.now
     (sym c.net-net.ensures.network) (sym (c.deref.ensures.value ∙ (c.in_ok-durations.ensures ∙ ap normals c.activity_terms.ensures.terms)))
     (normals-lengths c.args.project.now c.net-net.ensures.planned)
@@ -31,7 +31,7 @@ returns c =
     let times = c.in_ok-times.times.items in
     let durations = c.in_ok-durations.ensures ∙ ap normals c.activity_terms.ensures.terms in
     let lengths = c.deref.ensures.value ∙ durations in
-    let early = c.in_ok-times.ensures in
+    let early = c.in_ok-times.ensures.times in
     let in_range : c.end.result < length times = omega (arith, c.end.ensures.known, early.one_each) in
     let read : c.index.result.now ≡ slice_index times net.end =
     get_or_read times c.end.result c.index.result.now in_range c.index.ensures 0 ∙ ap (slice_index times) c.end.ensures.end in
