@@ -169,11 +169,7 @@ impl Summary {
 
     /// Returns the amounts of an item.
     pub fn of_item(&self, item: u32) -> SummaryAmounts
-        requires budget { item < length self.now.budget.items }
-        requires actual { item < length self.now.actual.items }
-        requires to_go { item < length self.now.to_go.items }
-        requires latest { item < length self.now.latest.items }
-        requires overrun { item < length self.now.overrun.items }
+        requires { item < length self.now.budget.items }
         ensures { result ≡ item_amounts self.now item }
     {
         self.amounts[item as usize]
@@ -181,11 +177,7 @@ impl Summary {
 
     /// Returns the amounts of level `k + 1`.
     pub fn of_level(&self, k: usize) -> SummaryAmounts
-        requires budget { k < length self.now.budget.levels }
-        requires actual { k < length self.now.actual.levels }
-        requires to_go { k < length self.now.to_go.levels }
-        requires latest { k < length self.now.latest.levels }
-        requires overrun { k < length self.now.overrun.levels }
+        requires { k < length self.now.budget.levels }
         ensures amounts { result ≡ level_amounts self.now k }
         ensures counted { k + 1 < 2 ^ 64 }
     {

@@ -156,10 +156,7 @@ impl Worth {
 
     /// Returns the amounts of an item.
     pub fn of_item(&self, item: u32) -> WorthAmounts
-        requires budget { item < length self.now.budget }
-        requires actual { item < length self.now.actual }
-        requires value { item < length self.now.value }
-        requires overrun { item < length self.now.overrun }
+        requires { item < length self.now.budget }
         ensures { result ≡ worth_amounts self.now item }
     {
         self.amounts[item as usize]

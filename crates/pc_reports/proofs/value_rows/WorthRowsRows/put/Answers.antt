@@ -19,12 +19,7 @@ of_item-amounts-requires g c =
     let t = c.args.self.now in
     let is = c.requires.ready.worth in
     let known = row_known t.project.now.tree t.report.now.outline c.args.i c.requires.ready.outline c.requires.known in
-    rw (c.worth.ensures, c.row-row.ensures) (record {
-      budget = omega (arith, known, is.budget.one_each);
-      actual = omega (arith, known, is.actual.one_each);
-      value = omega (arith, known, is.value.one_each);
-      overrun = omega (arith, known, is.overrun.one_each);
-    })
+    rw (c.worth.ensures, c.row-row.ensures) (omega (arith, known, is.budget.one_each))
 
 pub slack-slack-requires : goal.slack-slack-requires
 slack-slack-requires g c =

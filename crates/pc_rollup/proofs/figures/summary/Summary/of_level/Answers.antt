@@ -7,4 +7,4 @@ pub returns-clause-counted : goal.returns-clause-counted
 returns-clause-counted c =
     let levels = ap (λ (s : Summary). length s.budget.levels) c.self.view_is in
     let deep = length-replicate c.self.inside.depth c.self.inside.whole.budget in
-    omega (arith, c.requires.budget, c.self.invariant)
+    omega (arith, c.requires, c.self.invariant)
