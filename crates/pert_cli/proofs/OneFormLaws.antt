@@ -1,6 +1,6 @@
 -- The words ask for one form at most.
 use Rattle.std.proofs.Common.{◌≡◌, ℕ, ◌^◌, ◌<◌, List, [], ◌∷◌, Option, Some, None, refl, sym, ap, subst, ◌∙◌, arith, drop, get_or, if◌then◌else◌}
-use Rattle.std.specs.Prelude.{IfSome, String, codes, decimal, nat_eq}
+use Rattle.std.specs.Prelude.{IfSome, String, decimal, nat_eq}
 use Rattle.std.specs.Cmp.Lexicographic.{pointwise}
 use Rattle.std.specs.declared.alloc.Global.{Global}
 use Rattle.std.proofs.lemmas.Fmt.{decimal_injective}
