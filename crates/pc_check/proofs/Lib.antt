@@ -8,18 +8,14 @@ pub mod BoundLaws
 pub mod FailureLaws
 pub mod SaidLaws
 pub mod TakeLaws
-mod RunLaws
 pub mod WalkLaws
 pub mod GoodRows
 pub mod GoodSegments
 pub mod GoodLines
 pub mod FinishLaws
 pub mod StillLaws
-pub mod PassedLaws
 pub mod SumLaws
-mod FrontsLaws
 pub mod AuditLaws
-pub mod AlongLaws
 pub mod AuditFinishLaws
 pub mod FeedLaws
 pub mod TextLaws
@@ -30,3 +26,4 @@ pub mod OnceLaws
 pub mod HeadlineLaws
 pub mod OwnLineLaws
 pub mod OwnTurnLaws
+pub mod lemmas

@@ -22,8 +22,8 @@ use Rattle.pc_check.specs.inside.Kept.{known_by, stretch_of}
 use Rattle.pc_check.specs.inside.KneeTests.{flow_sum}
 use Rattle.pc_check.specs.Segments.{segment_in, stops_in}
 use Rattle.pc_check.specs.Said.{flow_along, flow_at, spent_in, forward_by, backward_by, said}
-use Rattle.pc_check.specs.declared.passed.Passed.{Passed}
-use Rattle.pc_check.specs.inside.Passed.{flow_of, cost_of}
+use Rattle.pc_check.specs.declared.fast.passed.Passed.{Passed}
+use Rattle.pc_check.specs.inside.fast.Passed.{flow_of, cost_of}
 use Rattle.pc_check.specs.Conditions.{conditions}
 use Rattle.pc_check.specs.Failures.{first_failing, reason_at}
 use Rattle.pc_check.specs.inside.Safe.{AreSums, IsSafe, IsBegun, AddsAct}

@@ -6,8 +6,8 @@ use Rattle.pc_model.specs.Sums.{sum_to}
 use Rattle.pc_model.proofs.Sums.{sum_to-zero, sum_to-bound, sum_to-change, sum_to-most}
 use Rattle.pc_crash.specs.Priced.{PricedNetwork}
 use Rattle.pc_crash.specs.declared.crash_net.TheConstants.{MAX_ACTIVITY_COST}
-use Rattle.pc_check.specs.declared.passed.Passed.{Passed}
-use Rattle.pc_check.specs.inside.Passed.{flow_of, cost_of, ArePassed, IsNothing}
+use Rattle.pc_check.specs.declared.fast.passed.Passed.{Passed}
+use Rattle.pc_check.specs.inside.fast.Passed.{flow_of, cost_of, ArePassed, IsNothing}
 use Rattle.pc_check.specs.inside.Safe.{AreSums, IsExchanged, IsRenewed}
 
 -- ---- the flows

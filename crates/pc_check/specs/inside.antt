@@ -5,14 +5,11 @@ pub mod Kept
 pub mod Crossings
 pub mod Safe
 pub mod Bounds
-pub mod Passed
-pub mod Fronts
-pub mod Rows
 pub mod Reasons
-pub mod Along
 pub mod Advances
 pub mod Additions
 pub mod Checking
 pub mod Checkers
 pub mod Certified
 pub mod Auditing
+pub mod fast

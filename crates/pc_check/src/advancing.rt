@@ -27,13 +27,13 @@ ghost use Rattle.pc_check.specs.inside.Kept.{known_by, stretch_of};
 ghost use Rattle.pc_check.specs.inside.Additions.{IsAct, MayBeAdded};
 ghost use Rattle.pc_check.specs.inside.Safe.{IsSafe, IsBegun, IsExchanged, IsRenewed, AddsAct};
 ghost use Rattle.pc_check.specs.inside.Crossings.{IsCrossing};
-ghost use Rattle.pc_check.specs.inside.Passed.{HasPassed};
+ghost use Rattle.pc_check.specs.inside.fast.Passed.{HasPassed};
 
 use crate::condition::Condition;
 use crate::cut::{Cut, cut_of};
+use crate::fast::{Passed, passed_of};
 use crate::gaps::{Crossing, crossing_of};
 use crate::kept::{Kept, Tally};
-use crate::passed::{Passed, passed_of};
 use crate::reasons::{has_act_code, reason, reason_at_act};
 use crate::walk::stepped;
 use pc_cert::{CertLine, Flows, KnownLine, Place};

@@ -8,13 +8,12 @@ ghost use Rattle.pc_check.specs.Certified.{segments_of};
 ghost use Rattle.pc_check.specs.inside.Certified.{Finds, OnYes};
 ghost use Rattle.pc_check.specs.Certified.{AreCurve};
 ghost use Rattle.pc_check.specs.inside.Checking.{StandsFor};
-ghost use Rattle.pc_check.specs.inside.Along.{TakesAlong};
+ghost use Rattle.pc_check.specs.inside.fast.Along.{TakesAlong};
 ghost use Rattle.pc_check.specs.declared.checker.Fail.{Fail};
 
-use crate::act_rows::advance_acts;
 use crate::advancing::advance;
-use crate::event_rows::advance_events;
-use crate::kept::{Kept, fronts_of, kept_of};
+use crate::fast::{advance_acts, advance_events, fronts_of};
+use crate::kept::{Kept, kept_of};
 use pc_cert::{CertLine, CertReader, EventFront, KnownLine, Place};
 use pc_crash::CrashNet;
 use std::alloc::{AllocError, Global};

@@ -1,16 +1,15 @@
-//! The state of a checker after the lines so far, and how the lines of each event begin.
+//! The state of a checker after the lines so far.
 ghost use Rattle.std.specs.Prelude.{◌≡◌, ◌<◌, slice_index, slice_index_or, length, false, IfOk};
 ghost use Rattle.pc_cert.specs.declared.place.Place.TheVariants.{Start};
 ghost use Rattle.pc_check.specs.inside.Bounds.{IsBounded};
 ghost use Rattle.pc_check.specs.inside.Checking.{IsKept};
 ghost use Rattle.pc_check.specs.Draft.{empty_draft};
 ghost use Rattle.pc_check.specs.inside.Safe.{IsBegun, IsSafe};
-ghost use Rattle.pc_check.specs.inside.Fronts.{AreFronts};
 
 use crate::cut::Cut;
-use crate::passed::{Passed, none_passed};
+use crate::fast::{Passed, none_passed};
 use crate::walk::Reached;
-use pc_cert::{EventFront, Place};
+use pc_cert::Place;
 use pc_crash::CrashNet;
 use std::alloc::{AllocError, Global};
 
@@ -151,15 +150,4 @@ pub(crate) fn known_bit(bits: &[bool], i: u32) -> bool
     ensures { result ≡ slice_index_or bits.now i false }
 {
     bits[i as usize]
-}
-
-/// How the lines of each event of the network begin.
-pub(crate) fn fronts_of(alloc: Global, net: &CrashNet<'_>) -> Result<Vec<EventFront>, AllocError>
-    ensures { IfOk result (λ fronts. AreFronts net.now fronts.items) }
-{
-    let mut fronts = Vec::with_capacity(alloc, net.net().events() as usize)?;
-    for e in 0..net.net().events() {
-        fronts.push(EventFront::of(net.event_code(e)))?;
-    }
-    Ok(fronts)
 }

@@ -3,7 +3,6 @@
 //! that write certificates.
 #![tactic(auto)]
 
-mod act_rows;
 mod acts;
 mod advancing;
 mod audit;
@@ -11,11 +10,10 @@ mod checker;
 mod closing;
 mod condition;
 mod cut;
-mod event_rows;
+mod fast;
 mod gaps;
 mod kept;
 mod meaning;
-mod passed;
 mod reasons;
 mod walk;
 

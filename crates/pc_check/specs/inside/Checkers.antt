@@ -3,7 +3,7 @@ use Rattle.std.specs.Prelude.{IfNone}
 use Rattle.pc_check.specs.declared.checker.Checker.TheInside.{Inside}
 use Rattle.pc_check.specs.inside.Bounds.{IsBounded}
 use Rattle.pc_check.specs.inside.Checking.{Checking}
-use Rattle.pc_check.specs.inside.Fronts.{AreFronts}
+use Rattle.pc_check.specs.inside.fast.Fronts.{AreFronts}
 use Rattle.pc_check.specs.inside.Safe.{IsSafe}
 
 -- the checker of the fields

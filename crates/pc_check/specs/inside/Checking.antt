@@ -11,7 +11,7 @@ use Rattle.pc_check.specs.declared.kept.Kept.{Kept}
 use Rattle.pc_check.specs.declared.kept.Tally.{Tally}
 use Rattle.pc_check.specs.Draft.{Part, Draft, draft_of}
 use Rattle.pc_check.specs.Known.{some_below}
-use Rattle.pc_check.specs.inside.Passed.{flow_of, cost_of}
+use Rattle.pc_check.specs.inside.fast.Passed.{flow_of, cost_of}
 use Rattle.pc_check.specs.Said.{flow_along, forward_by, backward_by, said}
 use Rattle.pc_check.specs.Segments.{segment_in, stops_in}
 use Rattle.pc_check.specs.Failures.{failure_of}

@@ -7,10 +7,10 @@ use Rattle.pc_laws.specs.Segment.{Segment, span, is_forward, is_backward, rises_
 use Rattle.pc_crash.specs.Priced.{PricedNetwork, knees_in}
 use Rattle.pc_check.specs.declared.cut.Cut.{Cut}
 use Rattle.pc_check.specs.declared.kept.Tally.{Tally}
-use Rattle.pc_check.specs.declared.passed.Passed.{Passed}
+use Rattle.pc_check.specs.declared.fast.passed.Passed.{Passed}
 use Rattle.pc_check.specs.inside.Kept.{stretch_of}
 use Rattle.pc_check.specs.inside.KneeTests.{flow_sum}
-use Rattle.pc_check.specs.inside.Passed.{ArePassed, passed_at, flow_of, cost_of}
+use Rattle.pc_check.specs.inside.fast.Passed.{ArePassed, passed_at, flow_of, cost_of}
 use Rattle.pc_check.specs.Segments.{stops_in}
 
 -- sums by event of what flows along all activities, each as its line said that passed last: into the events where `event_of` is an

@@ -1,6 +1,6 @@
 use Rattle.std.proofs.Common.{refl, sym, ap, ◌∙◌}
 use Rattle.pc_check.specs.inside.Kept.{known_by}
-use Rattle.pc_check.proofs.PassedLaws.{lasts_at_most, rises_kept}
+use Rattle.pc_check.proofs.lemmas.fast.PassedLaws.{lasts_at_most, rises_kept}
 use Rattle.pc_check.specs.inside.Reasons.{reason_of}
 use Rattle.pc_check.proofs.advancing.judge_act.Goals as goal
 

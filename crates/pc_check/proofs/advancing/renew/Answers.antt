@@ -1,10 +1,10 @@
 use Rattle.std.proofs.Common.{◌≡◌, ◌<◌, length, set, refl, ap, subst, ◌∙◌, arith}
 use Rattle.std.specs.Prelude.{slice_index}
 use Rattle.pc_model.specs.Walk.{from_of, to_of}
-use Rattle.pc_check.specs.declared.passed.Passed.{Passed}
-use Rattle.pc_check.specs.inside.Passed.{flow_of, cost_of}
+use Rattle.pc_check.specs.declared.fast.passed.Passed.{Passed}
+use Rattle.pc_check.specs.inside.fast.Passed.{flow_of, cost_of}
 use Rattle.pc_check.specs.inside.Safe.{IsExchanged}
-use Rattle.pc_check.proofs.PassedLaws.{passed_with, row_read, row_renewed}
+use Rattle.pc_check.proofs.lemmas.fast.PassedLaws.{passed_with, row_read, row_renewed}
 use Rattle.pc_check.proofs.SumLaws.{sums_exchanged, is_in_sum, sum_small, cost_exchanged, cost_in_sum, cost_small}
 use Rattle.pc_check.proofs.advancing.renew.Goals as goal
 

@@ -2,11 +2,11 @@ use Rattle.std.specs.Prelude.{IfNone}
 use Rattle.std.proofs.Common.{◌≡◌, None, sym, ap, subst, ◌∙◌, arith}
 use Rattle.pc_cert.specs.inside.Reader.{Reading}
 use Rattle.pc_check.specs.declared.kept.Kept.{Kept}
-use Rattle.pc_check.specs.inside.Rows.{going}
-use Rattle.pc_check.specs.inside.Along.{TakesAlong}
+use Rattle.pc_check.specs.inside.fast.Rows.{going}
+use Rattle.pc_check.specs.inside.fast.Along.{TakesAlong}
 use Rattle.pc_check.specs.inside.Bounds.{IsBounded}
 use Rattle.pc_check.specs.inside.Checking.{Checking}
-use Rattle.pc_check.specs.inside.Fronts.{AreFronts}
+use Rattle.pc_check.specs.inside.fast.Fronts.{AreFronts}
 use Rattle.pc_check.proofs.TakeLaws.{when_none}
 use Rattle.pc_check.proofs.checker.Checker.take_rows.Goals as goal
 

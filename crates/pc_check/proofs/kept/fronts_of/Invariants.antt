@@ -1,5 +1,0 @@
-use Rattle.pc_check.proofs.FrontsLaws.{AreFirst}
-use Rattle.pc_check.proofs.kept.fronts_of.Given as goal
-
-abbrev pub invariant-loop-e : goal.invariant-loop-e
-invariant-loop-e l = AreFirst l.net l.fronts.items l.e

@@ -1,0 +1,4 @@
+pub mod AlongLaws
+pub mod FrontsLaws
+pub mod PassedLaws
+mod RunLaws

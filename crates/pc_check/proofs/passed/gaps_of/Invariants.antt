@@ -1,5 +1,0 @@
-use Rattle.pc_check.specs.inside.Passed.{FitsWithin}
-use Rattle.pc_check.proofs.passed.gaps_of.Given as goal
-
-abbrev pub invariant-loop-k : goal.invariant-loop-k
-invariant-loop-k l = FitsWithin l.crash l.knees l.flows l.k l.low l.high
