@@ -4,7 +4,7 @@ use Rattle.pc_laws.specs.Segment.{Segment}
 use Rattle.pc_laws.specs.Stair.{stair_of, knee_flow, crash_flow}
 use Rattle.pc_crash.specs.Priced.{PricedNetwork, knees_in}
 use Rattle.pc_cert.specs.Document.{flows_along}
-use Rattle.pc_certify.specs.inside.Spelled.{filled_along}
+use Rattle.pc_certify.specs.inside.fast.Spelled.{filled_along}
 use Rattle.pc_cert.proofs.ListedLaws.{listed-same}
 
 -- the flows at the knees and on the crash duration follow from the total flow, so the list is the same

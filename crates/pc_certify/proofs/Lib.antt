@@ -1,5 +1,3 @@
-pub mod SpelledLaws
-pub mod GatherLaws
 pub mod PassLaws
 pub mod StepLaws
 pub mod HoldLaws
@@ -16,3 +14,4 @@ pub mod ExactLaws
 mod DescentLaws
 mod CertificateLaws
 mod WalkLaws
+pub mod lemmas

@@ -6,10 +6,10 @@ ghost use Rattle.pc_crash.specs.inside.Steps.{IsBlankOf};
 ghost use Rattle.pc_certify.specs.Certificate.{IsCertificate};
 ghost use Rattle.pc_certify.specs.inside.Certificate.{IsReadyFor};
 ghost use Rattle.pc_certify.specs.inside.Descent.{IsAtTop, IsPutDown};
-ghost use Rattle.pc_certify.specs.inside.Spelled.{AreEventsSpelled, AreActsSpelled};
+ghost use Rattle.pc_certify.specs.inside.fast.Spelled.{AreEventsSpelled, AreActsSpelled};
 ghost use Rattle.pc_certify.specs.inside.Walks.{ArePicked};
 
-use crate::last_lines::LastLines;
+use crate::fast::LastLines;
 use crate::laws::written_is_certified;
 use crate::segment::put_segment_by;
 use crate::walks::Walks;

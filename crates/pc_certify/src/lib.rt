@@ -4,16 +4,14 @@
 
 mod certificate;
 mod certifying;
-mod gathered;
-mod last_lines;
+mod fast;
 mod laws;
 mod segment;
-mod spelling;
 mod walks;
 
 pub use certificate::Certificate;
 pub use certifying::{CertifyError, certify};
-pub use last_lines::LastLines;
+pub use fast::LastLines;
 pub use laws::{
     certified_is_found, small_decks_are_written, written_fits, written_is_certified,
     written_is_one_text,

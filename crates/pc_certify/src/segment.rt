@@ -9,11 +9,10 @@ ghost use Rattle.pc_model.specs.Codes.{text_at};
 ghost use Rattle.pc_cert.specs.Listed.{listed};
 ghost use Rattle.pc_cert.specs.Document.{event_line, act_line, flows_along, segment_lines};
 ghost use Rattle.pc_cert.specs.Document.{HasSmallNumbers};
-ghost use Rattle.pc_certify.specs.inside.Gathers.{Gathers};
-ghost use Rattle.pc_certify.specs.inside.Spelled.{AreEventsSpelled, AreActsSpelled, SpellsAct, filled_along};
+ghost use Rattle.pc_certify.specs.inside.fast.Gathers.{Gathers};
+ghost use Rattle.pc_certify.specs.inside.fast.Spelled.{AreEventsSpelled, AreActsSpelled, SpellsAct, filled_along};
 
-use crate::gathered::Gathered;
-use crate::last_lines::{ActRow, EventRow, LastLines};
+use crate::fast::{ActRow, EventRow, Gathered, LastLines};
 use pc_cert::put_ends;
 use pc_crash::{CrashNet, SegmentView};
 use pc_edges::Sink;

@@ -1,7 +1,7 @@
 //! The certificate of three activities, put on a page part by part.
 ghost use Rattle.std.specs.Prelude.{◌≡◌, ◌≤◌, ◌<◌, length, All};
 ghost use Rattle.pc_crash.specs.inside.Steps.{IsBlankOf};
-ghost use Rattle.pc_certify.specs.inside.Spelled.{AreActsSpelled, AreEventsSpelled};
+ghost use Rattle.pc_certify.specs.inside.fast.Spelled.{AreActsSpelled, AreEventsSpelled};
 
 use crate::certificates::{TEXT, priced};
 use crate::curves::solver;

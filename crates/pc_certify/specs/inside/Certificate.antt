@@ -6,7 +6,7 @@ use Rattle.pc_edges.specs.Writes.{Wrote, Stopped}
 use Rattle.pc_crash.specs.Priced.{PricedNetwork}
 use Rattle.pc_certify.specs.Certificate.{IsCertificate}
 use Rattle.pc_certify.specs.declared.certificate.Certificate.{Certificate}
-use Rattle.pc_certify.specs.inside.Spelled.{AreActsSpelled, AreEventsSpelled}
+use Rattle.pc_certify.specs.inside.fast.Spelled.{AreActsSpelled, AreEventsSpelled}
 use Rattle.pc_certify.specs.inside.Walks.{ArePicked}
 
 -- the certificate is one of the network: its walks are the picked ones, its lines are those of the network's events and activities, and a

@@ -1,6 +1,6 @@
 use Rattle.pc_edges.specs.inside.page.Puts.{desk}
 use Rattle.pc_certify.proofs.DescentLaws.{IsPut, still_to_come}
-use Rattle.pc_certify.specs.inside.Spelled.{AreEventsSpelled, AreActsSpelled}
+use Rattle.pc_certify.specs.inside.fast.Spelled.{AreEventsSpelled, AreActsSpelled}
 use Rattle.pc_certify.proofs.certificate.put_segments.Given as goal
 
 abbrev pub invariant-loop-page : goal.invariant-loop-page

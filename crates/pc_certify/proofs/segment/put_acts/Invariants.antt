@@ -5,8 +5,8 @@ use Rattle.pc_cert.specs.Text.{text_of}
 use Rattle.pc_edges.specs.inside.page.Puts.{desk}
 use Rattle.pc_cert.specs.Listed.{listed}
 use Rattle.pc_cert.specs.Document.{act_line}
-use Rattle.pc_certify.specs.inside.Gathers.{Gathers}
-use Rattle.pc_certify.specs.inside.Spelled.{AreActsSpelled}
+use Rattle.pc_certify.specs.inside.fast.Gathers.{Gathers}
+use Rattle.pc_certify.specs.inside.fast.Spelled.{AreActsSpelled}
 use Rattle.pc_certify.proofs.segment.put_acts.Given as goal
 
 abbrev pub invariant-loop-a : goal.invariant-loop-a

@@ -1,6 +1,6 @@
 use Rattle.std.proofs.Common.{below_more, arith}
 use Rattle.pc_edges.specs.inside.page.Puts.{desk}
-use Rattle.pc_certify.proofs.GatherLaws.{Gathers-nil, Gathers-as, Gathers-then}
+use Rattle.pc_certify.proofs.lemmas.fast.GatherLaws.{Gathers-nil, Gathers-as, Gathers-then}
 use Rattle.pc_cert.specs.Document.{event_line}
 use Rattle.pc_cert.proofs.WordLaws.{text_of-more}
 use Rattle.pc_certify.proofs.segment.put_events.Goals as goal

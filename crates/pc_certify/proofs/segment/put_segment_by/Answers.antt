@@ -4,7 +4,7 @@ use Rattle.pc_edges.proofs.lemmas.page.PageLaws.{Adds-as, ◌⨾◌}
 use Rattle.pc_cert.specs.Listed.{listed}
 use Rattle.pc_cert.specs.Document.{ends_line, event_line, act_line}
 use Rattle.pc_cert.proofs.WordLaws.{text_of-between}
-use Rattle.pc_certify.proofs.GatherLaws.{Gathers-all, Gathers-then}
+use Rattle.pc_certify.proofs.lemmas.fast.GatherLaws.{Gathers-all, Gathers-then}
 use Rattle.pc_cert.proofs.FitLaws.{segment_fits}
 use Rattle.pc_certify.proofs.segment.put_segment_by.Goals as goal
 

@@ -1,9 +1,9 @@
 //! Lines of a segment on their way to the page.
 ghost use Rattle.std.specs.Prelude.{◌≡◌, ◌+◌, ◌≤◌, [], ◌++◌, IfOk, length};
 ghost use Rattle.pc_edges.specs.inside.page.Puts.{Puts, desk};
-ghost use Rattle.pc_certify.specs.inside.Gathers.{Gathers};
+ghost use Rattle.pc_certify.specs.inside.fast.Gathers.{Gathers};
 
-use crate::spelling::{ROOM, Spelling};
+use crate::fast::spelling::{ROOM, Spelling};
 use pc_edges::Sink;
 use pc_edges::page::Page;
 use std::alloc::{AllocError, Global};

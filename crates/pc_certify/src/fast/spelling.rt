@@ -1,6 +1,6 @@
 //! The text of a line with its end, as it was put last.
 ghost use Rattle.std.specs.Prelude.{◌≡◌, ◌+◌, ◌≤◌, [], ◌∷◌, ◌++◌, true, decimal, length, take};
-ghost use Rattle.pc_certify.specs.inside.Gathers.{IsPlaced};
+ghost use Rattle.pc_certify.specs.inside.fast.Gathers.{IsPlaced};
 ghost use Rattle.pc_text.specs.Code.{is_code};
 ghost use Rattle.pc_text.specs.Fields.{spaced};
 ghost use Rattle.pc_cert.specs.inside.Fields.{bit_text};

@@ -5,7 +5,7 @@ use Rattle.std.proofs.lemmas.Slice.{take-put_mid}
 use borrow.Rule.Slice.PartMut.{put_mid, same_len_mid}
 use Rattle.pc_edges.specs.inside.page.Puts.{Desk, Adds}
 use Rattle.pc_edges.proofs.lemmas.page.PageLaws.{Adds-nil, Adds-then, Adds-as}
-use Rattle.pc_certify.specs.inside.Gathers.{Gathers, IsPlaced}
+use Rattle.pc_certify.specs.inside.fast.Gathers.{Gathers, IsPlaced}
 
 -- nothing was put
 pub Gathers-nil : (d : Desk) (lines : List ℕ) → Gathers d lines d lines []

@@ -1,6 +1,6 @@
 use Rattle.std.proofs.Common.{◌≡◌, ℕ, ◌<◌, length}
-use Rattle.pc_certify.specs.inside.Spelled.{SpellsAct, act_row}
-use Rattle.pc_certify.proofs.last_lines.act_rows.Given as goal
+use Rattle.pc_certify.specs.inside.fast.Spelled.{SpellsAct, act_row}
+use Rattle.pc_certify.proofs.fast.last_lines.act_rows.Given as goal
 
 abbrev pub invariant-loop-a : goal.invariant-loop-a
 invariant-loop-a l = record {

@@ -1,7 +1,7 @@
 use Rattle.std.proofs.Common.{◌≡◌, ℕ, ◌<◌, length}
 use Rattle.pc_model.specs.Codes.{text_at}
-use Rattle.pc_certify.specs.inside.Spelled.{SpellsEvent, event_row}
-use Rattle.pc_certify.proofs.last_lines.event_rows.Given as goal
+use Rattle.pc_certify.specs.inside.fast.Spelled.{SpellsEvent, event_row}
+use Rattle.pc_certify.proofs.fast.last_lines.event_rows.Given as goal
 
 abbrev pub invariant-loop-e : goal.invariant-loop-e
 invariant-loop-e l = record {

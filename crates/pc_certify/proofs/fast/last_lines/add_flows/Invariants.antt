@@ -3,7 +3,7 @@ use Rattle.pc_laws.specs.Stair.{reach, stair_of, knee_flow}
 use Rattle.pc_crash.specs.Priced.{knees_in}
 use Rattle.pc_cert.specs.Lines.{numbers}
 use Rattle.pc_cert.specs.Listed.{listed}
-use Rattle.pc_certify.proofs.last_lines.add_flows.Given as goal
+use Rattle.pc_certify.proofs.fast.last_lines.add_flows.Given as goal
 
 abbrev pub invariant-loop-knee : goal.invariant-loop-knee
 invariant-loop-knee l = record {

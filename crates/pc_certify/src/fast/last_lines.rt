@@ -1,7 +1,7 @@
 //! The lines of the segment that was put last. Most of them are lines of the next one too.
 ghost use Rattle.std.specs.Prelude.{◌≡◌, ◌+◌, ◌<◌, ◌≤◌, ◌++◌, length, IfOk};
 ghost use Rattle.pc_cert.specs.Lines.{numbers};
-ghost use Rattle.pc_certify.specs.inside.Spelled.{
+ghost use Rattle.pc_certify.specs.inside.fast.Spelled.{
   SpellsEvent,
   SpellsAct,
   AreEventsSpelled,
@@ -9,8 +9,8 @@ ghost use Rattle.pc_certify.specs.inside.Spelled.{
   filled_along,
 };
 
-use crate::gathered::Gathered;
-use crate::spelling::{NUMBER_ROOM, ROOM, Spelling};
+use crate::fast::gathered::Gathered;
+use crate::fast::spelling::{NUMBER_ROOM, ROOM, Spelling};
 use pc_cert::{EVENT_NAMED, MAX_FLOWS};
 use pc_crash::CrashNet;
 use pc_text::Code;

@@ -1,8 +1,8 @@
 use Rattle.std.proofs.Common.{ℕ, ◌+◌, ◌<◌, sym, ap, subst, ◌∙◌, arith, length, length-append, ◌∷◌, [], false}
 use Rattle.pc_model.specs.Codes.{text_at}
-use Rattle.pc_certify.specs.inside.Spelled.{SpellsEvent, event_row}
+use Rattle.pc_certify.specs.inside.fast.Spelled.{SpellsEvent, event_row}
 use Rattle.pc_check.proofs.BelowLaws.{each_more}
-use Rattle.pc_certify.proofs.last_lines.event_rows.Goals as goal
+use Rattle.pc_certify.proofs.fast.last_lines.event_rows.Goals as goal
 
 pub loop-e-preserved : goal.loop-e-preserved
 loop-e-preserved c =

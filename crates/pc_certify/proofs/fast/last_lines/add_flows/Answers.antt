@@ -5,7 +5,7 @@ use Rattle.pc_text.specs.Fields.{spaced}
 use Rattle.pc_cert.specs.Lines.{numbers}
 use Rattle.pc_cert.specs.Listed.{listed}
 use Rattle.pc_cert.proofs.WordLaws.{numbers-more, numbers-with_last}
-use Rattle.pc_certify.proofs.last_lines.add_flows.Goals as goal
+use Rattle.pc_certify.proofs.fast.last_lines.add_flows.Goals as goal
 
 pub loop-knee-preserved : goal.loop-knee-preserved
 loop-knee-preserved c =

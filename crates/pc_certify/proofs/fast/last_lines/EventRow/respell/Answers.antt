@@ -3,8 +3,8 @@ use Rattle.std.specs.Prelude.{codes}
 use Rattle.pc_text.specs.Fields.{spaced}
 use Rattle.pc_cert.specs.inside.Fields.{bit_text}
 use Rattle.pc_cert.proofs.EventLaws.{short_code}
-use Rattle.pc_certify.proofs.SpelledLaws.{event_cut, event_long, event_rest}
-use Rattle.pc_certify.proofs.last_lines.EventRow.respell.Goals as goal
+use Rattle.pc_certify.proofs.lemmas.fast.SpelledLaws.{event_cut, event_long, event_rest}
+use Rattle.pc_certify.proofs.fast.last_lines.EventRow.respell.Goals as goal
 
 pub cut-requires : goal.cut-requires
 cut-requires c =

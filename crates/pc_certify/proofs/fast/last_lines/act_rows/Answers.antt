@@ -1,7 +1,7 @@
 use Rattle.std.proofs.Common.{ℕ, ◌+◌, ◌<◌, sym, ap, subst, ◌∙◌, arith, length, length-append, ◌∷◌, []}
-use Rattle.pc_certify.specs.inside.Spelled.{SpellsAct, act_row}
+use Rattle.pc_certify.specs.inside.fast.Spelled.{SpellsAct, act_row}
 use Rattle.pc_check.proofs.BelowLaws.{each_more}
-use Rattle.pc_certify.proofs.last_lines.act_rows.Goals as goal
+use Rattle.pc_certify.proofs.fast.last_lines.act_rows.Goals as goal
 
 pub loop-a-preserved : goal.loop-a-preserved
 loop-a-preserved c =

@@ -7,8 +7,8 @@ use Rattle.pc_cert.specs.declared.line.CertLine.TheVariants.{Event, Act}
 use Rattle.pc_text.specs.Fields.{IsCode}
 use Rattle.pc_cert.specs.Text.{text_of}
 use Rattle.pc_cert.specs.Listed.{listed}
-use Rattle.pc_certify.specs.declared.last_lines.EventRow.{EventRow}
-use Rattle.pc_certify.specs.declared.last_lines.ActRow.{ActRow}
+use Rattle.pc_certify.specs.declared.fast.last_lines.EventRow.{EventRow}
+use Rattle.pc_certify.specs.declared.fast.last_lines.ActRow.{ActRow}
 
 -- the text of the row is the line of the event with this code
 pub record SpellsEvent (code : List ℕ) (row : EventRow) : Type 0 where

@@ -1,6 +1,6 @@
 use Rattle.std.proofs.Common.{◌+◌, ◌-◌, ◌≤◌, length, take, ap, sym, ◌∙◌, arith, length-take-le, take-take}
-use Rattle.pc_certify.proofs.GatherLaws.{placed}
-use Rattle.pc_certify.proofs.spelling.Spelling.copy_to.Goals as goal
+use Rattle.pc_certify.proofs.lemmas.fast.GatherLaws.{placed}
+use Rattle.pc_certify.proofs.fast.spelling.Spelling.copy_to.Goals as goal
 
 pub returns-then-self-le-SHORT : goal.returns-then-self-le-SHORT
 returns-then-self-le-SHORT c =
