@@ -224,6 +224,20 @@ impl<'n> CrashNet<'n> {
         self.codes.project()
     }
 
+    /// Returns the code of each event, in card order.
+    pub fn event_codes(&self) -> &[Code]
+        ensures { result.now ≡ self.now.events }
+    {
+        self.codes.events()
+    }
+
+    /// Returns the code of each activity, in card order.
+    pub fn activity_codes(&self) -> &[Code]
+        ensures { result.now ≡ self.now.activities }
+    {
+        self.codes.activities().as_slice()
+    }
+
     /// Returns the code of an event.
     pub fn event_code(&self, e: u32) -> Code
         requires { e < self.now.network.events }

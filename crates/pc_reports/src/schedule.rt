@@ -4,7 +4,7 @@ ghost use Rattle.pc_edges.specs.inside.Writes.{Writes};
 ghost use Rattle.pc_edges.specs.inside.page.Puts.{Puts};
 ghost use Rattle.pc_reports.specs.Lines.{named_line_at};
 ghost use Rattle.pc_reports.specs.Schedule.{schedule_text};
-ghost use Rattle.pc_reports.specs.inside.Schedule.{durations_text, plan_of, text_of, times_text, IsWhole};
+ghost use Rattle.pc_reports.specs.inside.Schedule.{plan_of, text_of, IsWhole};
 
 use pc_crash::CrashNet;
 use pc_edges::page::{Page, Rows, put_named, put_number, put_rows};
@@ -45,39 +45,19 @@ pub fn write_schedule<O: Sink>(
     ensures { Writes result (O.taken sink.old) (O.taken sink.new) (O.faults sink.old) (O.faults sink.new)
         (schedule_text length cost net.now.events times.now net.now.activities durations.now) }
 {
+    // There is a code for each event and each activity.
+    net.facts();
+    let schedule = Schedule {
+        length,
+        cost,
+        events: net.event_codes(),
+        times,
+        activities: net.activity_codes(),
+        durations,
+    };
     let mut page = Page::without_buffer();
-    put_number(&mut page, sink, b"LENGTH ", length);
-    put_number(&mut page, sink, b"COST ", cost);
-    put_times(&mut page, sink, net, times);
-    put_durations(&mut page, sink, net, durations);
+    put_schedule(&mut page, sink, &schedule);
     page.push_out(sink)
-}
-
-fn put_times<O: Sink>(page: &mut Page, sink: &mut O, net: &CrashNet<'_>, times: &[u64])
-    requires { length times.now ≡ net.now.network.events }
-    ensures { Puts O.taken O.faults page.old sink.old page.new sink.new (times_text net.now.events times.now) }
-{
-    net.facts();
-    for e in 0..net.net().events() {
-        put_named(page, sink, b"EVENT ", &net.event_code(e), times[e as usize]);
-    }
-}
-
-fn put_durations<O: Sink>(page: &mut Page, sink: &mut O, net: &CrashNet<'_>, durations: &[u64])
-    requires { length durations.now ≡ length net.now.network.arcs }
-    ensures { Puts O.taken O.faults page.old sink.old page.new sink.new
-        (durations_text net.now.activities durations.now) }
-{
-    net.facts();
-    for a in 0..net.net().activities() {
-        put_named(
-            page,
-            sink,
-            b"ACT ",
-            &net.activity_code(a),
-            durations[a as usize],
-        );
-    }
 }
 
 /// Puts a schedule on a page: its length and its cost, the time of each event and the duration of each activity, in

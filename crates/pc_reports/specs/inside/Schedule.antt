@@ -1,8 +1,6 @@
 -- The text of a schedule.
 -- Here is what no clause of a top call and no law reaches.
-use Rattle.std.specs.Prelude.{◌≡◌, ℕ, List, length, codes}
-use Rattle.pc_edges.specs.Texts.{texts_to}
-use Rattle.pc_reports.specs.Lines.{named_line_at}
+use Rattle.std.specs.Prelude.{◌≡◌, ℕ, List, length}
 use Rattle.pc_reports.specs.declared.schedule.Schedule.{Schedule}
 use Rattle.pc_reports.specs.Schedule.{plan_text, schedule_text}
 
@@ -13,13 +11,6 @@ text_of s = schedule_text s.length s.cost s.events.now s.times.now s.activities.
 -- only the lines of its events and activities
 abbrev pub plan_of : Schedule → List ℕ
 plan_of s = plan_text s.events.now s.times.now s.activities.now s.durations.now
-
--- the time of each event, a line each, and the duration of each activity
-abbrev pub times_text : List (List ℕ) → List ℕ → List ℕ
-times_text events times = texts_to (length events) (named_line_at (codes "EVENT ") events times)
-
-abbrev pub durations_text : List (List ℕ) → List ℕ → List ℕ
-durations_text activities durations = texts_to (length activities) (named_line_at (codes "ACT ") activities durations)
 
 -- there is a time for each event and a duration for each activity
 pub record IsWhole (s : Schedule) : Type 0 where
