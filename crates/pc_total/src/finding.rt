@@ -58,22 +58,69 @@ pub fn best<L: Ledger>(solver: &mut Solver<'_>, terms: &TimeTerms, steps: &mut S
     ensures counted { steps.new ≤ steps.old + most_looks solver.old solver.new }
     ensures limit { steps.new ≤ steps.old + all_looks solver.old }
 {
-    // What is known of the network says that the least costs are those of a curve, and before the first segment nothing
-    // has fallen.
+    // What is known of the network bounds the looks, and before the first segment nothing has fallen.
+    solver.facts();
+    let turn = come_down(solver, terms, steps);
+    best_at(solver, terms, turn.length, turn.slope, turn.gain, steps)
+}
+
+/// Where it pays to come down to and no further: a length, what a unit less costs there, and what a unit more saves.
+#[derive(Clone, Copy)]
+struct TurningPoint {
+    length: u64,
+    slope: u64,
+    gain: u64,
+}
+
+/// Takes segments for as long as it pays, and returns the turning point. The solver stays at the segment that holds it.
+fn come_down<L: Ledger>(
+    solver: &mut Solver<'_>,
+    terms: &TimeTerms,
+    steps: &mut Steps<L>,
+) -> TurningPoint
+    requires before { solver.old.given ≡ false }
+    requires terms { AreTimeTerms terms.now }
+    ensures to_come { IsToCome solver.new result.length }
+    ensures pays { PaysToStop (curve_in solver.new.net) terms.now solver.new.shortest solver.new.longest result.length
+        result.slope result.gain }
+    ensures small { result.slope < 10 ^ 18 }
+    ensures small_gain { result.gain < 10 ^ 18 }
+    ensures same { IsSameCurve solver.old solver.new }
+    ensures further { IsFurther solver.old solver.new }
+    ensures counted { steps.new ≤ steps.old + most_looks solver.old solver.new }
+{
+    // What is known of the network says that the least costs are those of a curve.
     solver.facts();
     // What one unit more saves where the next segment begins.
     let mut gain = 0;
     while solver.next_segment(steps) {
         let slope = solver.slope();
-        let stop = stop_in(terms, solver.lower(), solver.upper(), slope);
-        if stop > solver.lower() {
-            let gain = if stop < solver.upper() { slope } else { gain };
-            return best_at(solver, terms, stop, slope, gain, steps);
+        let lower = solver.lower();
+        let upper = solver.upper();
+        let stop = stop_in(terms, lower, upper, slope);
+        if stop > lower {
+            return TurningPoint {
+                length: stop,
+                slope,
+                gain: gain_at(stop, upper, slope, gain),
+            };
         }
         gain = slope;
     }
-    let shortest = solver.shortest();
-    best_at(solver, terms, shortest, 0, gain, steps)
+    TurningPoint {
+        length: solver.shortest(),
+        slope: 0,
+        gain,
+    }
+}
+
+/// What one unit more saves at a length of a segment: the segment's slope below its upper end, and at that end the gain
+/// of the segment above.
+fn gain_at(length: u64, upper: u64, slope: u64, gain: u64) -> u64
+    ensures inside { length < upper → result ≡ slope }
+    ensures top { upper ≤ length → result ≡ gain }
+{
+    if length < upper { slope } else { gain }
 }
 
 /// The optimum at `length`, given that it pays to shorten to it and no further: one unit less adds `slope` to the cost,

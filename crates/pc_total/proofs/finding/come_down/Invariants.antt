@@ -1,7 +1,7 @@
 use Rattle.std.proofs.Common.{◌+◌, ◌≤◌}
 use Rattle.pc_flow.specs.Courses.{most_looks}
 use Rattle.pc_total.proofs.WayLaws.{HasComeDown, left}
-use Rattle.pc_total.proofs.finding.best.Given as goal
+use Rattle.pc_total.proofs.finding.come_down.Given as goal
 
 abbrev pub invariant-loop-solver : goal.invariant-loop-solver
 invariant-loop-solver g l = record {
