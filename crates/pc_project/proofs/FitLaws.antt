@@ -15,11 +15,14 @@ use Rattle.pc_deck.specs.declared.kinds.status.StatusCard.{StatusCard}
 use Rattle.pc_deck.specs.declared.kinds.wbs.ItemCard.{ItemCard}
 use Rattle.pc_faults.specs.Faults as told
 use Rattle.pc_faults.specs.declared.fault.Fault.{Fault}
+use Rattle.pc_faults.specs.declared.target.Target.{Target}
+use Rattle.pc_faults.specs.declared.target.Target.TheVariants.{Event, Item, Account, Activity, Resource}
 use Rattle.pc_deck.specs.declared.kinds.load.LoadCard.{LoadCard}
 use Rattle.pc_deck.specs.declared.kinds.piece.PieceCard.{PieceCard}
 use Rattle.pc_deck.specs.Deck.{Deck, account_codes, act_codes, event_codes, item_codes, named_among, number_among, resource_codes}
+use Rattle.pc_deck.specs.Target.{IsUnknown, target_codes}
 use Rattle.pc_project.specs.Project.{arc_of, network_of, item_of_act, row_of, rows_of}
-use Rattle.pc_project.specs.Misfit.{HasAccountFault, HasActFault, HasItemFault, HasLoadFault, HasMoneyFault, HasPieceCardFault, HasStatusFault}
+use Rattle.pc_project.specs.Misfit.{HasActFault, HasItemFault, HasLoadFault}
 use Rattle.pc_project.specs.Misfit.{HasNoMisfit, account, act, charge, figure, item, listed, project, status, togo}
 use Rattle.pc_project.specs.Makes.{HasProjectEnds, IsSoundAct}
 use Rattle.pc_project.specs.Misfit as has
@@ -34,21 +37,34 @@ known_unless (Some i) never = refl
 pub Any-at : {X : Type 0} (P : X → Type 0) (xs : List X) (i : ℕ) (d : X) → i < length xs → P (get_or xs i d) → Any P xs
 Any-at P xs i d within holds = (i, get_or xs i d, within, get_or_default xs i (get_or xs i d) d within, holds)
 
+-- what a card names without a fault is there
+pub known_target : (deck : Deck) (target : Target) (row : ℕ) (code : List ℕ) → ((fault : Fault) → IsUnknown deck target row code fault → ⊥) →
+    IsSome (named_among (target_codes deck target) code)
+known_target deck target row code none =
+    known_unless (named_among (target_codes deck target) code) (λ lacks. none (told.unknown_name target row code) (record { missing = lacks; told = refl }))
+
+-- what each card of a list names without a fault is there
+pub all_known : {C : Type 0} (deck : Deck) (target : Target) (row : C → ℕ) (code : C → List ℕ) (cards : List C) →
+    ((fault : Fault) → Any (λ card. IsUnknown deck target (row card) (code card) fault) cards → ⊥) → All (λ card. IsSome (named_among (target_codes deck target) (code card))) cards
+all_known deck target row code cards none = λ i d within.
+    known_target deck target (row (get_or cards i d)) (code (get_or cards i d))
+    (λ fault is. none fault (Any-at (λ card. IsUnknown deck target (row card) (code card) fault) cards i d within is))
+
 module _ (deck : Deck) (none : HasNoMisfit deck) where
   pub has_ends : HasProjectEnds deck
   has_ends =
-      let starts = known_unless (named_among (event_codes deck) deck.project.start) (λ n. none _ (project (has.unknown_start n refl))) in record {
+      let starts = known_target deck Event deck.project.row deck.project.start (λ fault is. none fault (project (has.unknown_start is))) in record {
         starts = starts;
-        ends = known_unless (named_among (event_codes deck) deck.project.end) (λ n. none _ (project (has.unknown_end starts n refl)));
+        ends = known_target deck Event deck.project.row deck.project.end (λ fault is. none fault (project (has.unknown_end starts is)));
         apart = λ same. none _ (project (has.same_ends same refl));
       }
 
   fits_at : (card : ActCard) → ((fault : Fault) → HasActFault deck card fault → ⊥) → IsSoundAct deck card
   fits_at card out =
-      let begins = known_unless (named_among (event_codes deck) card.from) (λ n. out _ (has.unknown_from n refl)) in record {
+      let begins = known_target deck Event card.row card.from (λ fault is. out fault (has.unknown_from is)) in record {
         begins = begins;
-        ends = known_unless (named_among (event_codes deck) card.to) (λ n. out _ (has.unknown_to begins n refl));
-        placed = known_unless (named_among (item_codes deck) card.item) (λ n. out _ (has.HasActFault.unknown_item n refl));
+        ends = known_target deck Event card.row card.to (λ fault is. out fault (has.unknown_to begins is));
+        placed = known_target deck Item card.row card.item (λ fault is. out fault (has.unknown_item is));
         apart = λ same. out _ (has.same_events same refl);
         ordered = record {
           optimistic = elim (cases_lt card.likely card.opt) [ inl above ↦ absurd (out _ (has.unordered (λ o. omega (arith, above, o.optimistic)) refl)) | inr fine ↦ fine ];
@@ -112,9 +128,8 @@ items-in_range deck none x p within is =
     let row = get_or-map (row_of deck) deck.items x no_item (record { parent = None }) inside in
     let parent : option_and_then (λ code. Some (number_among (item_codes deck) code)) card.parent ≡ Some p = sym (ap (λ r. r.parent) row) ∙ is in
     let known = λ (code : List ℕ) (there : card.parent ≡ Some code).
-    known_unless (named_among (item_codes deck) code)
-    (λ n. let fault : Fault = told.unknown_item card.row code in
-    none fault (Any-at (λ card. HasItemFault deck card fault) deck.items x no_item inside (has.unknown_parent code there n refl))) in
+    known_target deck Item card.row code
+    (λ fault unknown. none fault (Any-at (λ card. HasItemFault deck card fault) deck.items x no_item inside (has.unknown_parent code there unknown))) in
     omega (arith, count, parent_within deck card.parent p known parent)
 
 pub rows_of-in_range : (deck : Deck) → HasNoMisfit deck → AreInRange (rows_of deck)
@@ -128,11 +143,8 @@ place_of-within deck none a within =
 -- the item of an account is an item
 pub account_item-within : (deck : Deck) → HasNoMisfit deck → (a : ℕ) (d : AcctCard) → a < length deck.accounts → number_among (item_codes deck) (get_or deck.accounts a d).item < length deck.items
 account_item-within deck none a d within =
-    let card = get_or deck.accounts a d in
-    let fault : Fault = told.unknown_item card.row card.item in
-    item_number-within deck card.item
-    (known_unless (named_among (item_codes deck) card.item)
-    (λ n. none fault (listed (figure (account (Any-at (λ c. HasAccountFault deck c fault) deck.accounts a d within (has.HasAccountFault.unknown_item n refl)))))))
+    item_number-within deck (get_or deck.accounts a d).item
+    (all_known deck Item (λ (card : AcctCard). card.row) (λ card. card.item) deck.accounts (λ fault h. none fault (listed (figure (account h)))) a d within)
 
 -- the same of a card that was read
 pub act_item-within : (deck : Deck) → HasNoMisfit deck → (a : ℕ) (card : ActCard) → a < length deck.acts → card ≡ get_or deck.acts a card → number_among (item_codes deck) card.item < length deck.items
@@ -148,29 +160,20 @@ account_item-read deck none a card within read =
 pub charge_account-within : (deck : Deck) → HasNoMisfit deck → (k : ℕ) (d : MoneyCard) → k < length deck.charges →
     number_among (account_codes deck) (get_or deck.charges k d).account < length deck.accounts
 charge_account-within deck none k d within =
-    let card = get_or deck.charges k d in
-    let fault : Fault = told.unknown_account card.row card.account in
-    account_number-within deck card.account
-    (known_unless (named_among (account_codes deck) card.account)
-    (λ n. none fault (listed (figure (charge (Any-at (λ c. HasMoneyFault deck c fault) deck.charges k d within (has.HasMoneyFault.unknown_account n refl)))))))
+    account_number-within deck (get_or deck.charges k d).account
+    (all_known deck Account (λ (card : MoneyCard). card.row) (λ card. card.account) deck.charges (λ fault h. none fault (listed (figure (charge h)))) k d within)
 
 pub togo_account-within : (deck : Deck) → HasNoMisfit deck → (k : ℕ) (d : MoneyCard) → k < length deck.togos → number_among (account_codes deck) (get_or deck.togos k d).account < length deck.accounts
 togo_account-within deck none k d within =
-    let card = get_or deck.togos k d in
-    let fault : Fault = told.unknown_account card.row card.account in
-    account_number-within deck card.account
-    (known_unless (named_among (account_codes deck) card.account)
-    (λ n. none fault (listed (figure (togo (Any-at (λ c. HasMoneyFault deck c fault) deck.togos k d within (has.HasMoneyFault.unknown_account n refl)))))))
+    account_number-within deck (get_or deck.togos k d).account
+    (all_known deck Account (λ (card : MoneyCard). card.row) (λ card. card.account) deck.togos (λ fault h. none fault (listed (figure (togo h)))) k d within)
 
 -- the activity of a status is an activity
 pub status_activity-within : (deck : Deck) → HasNoMisfit deck → (k : ℕ) (d : StatusCard) → k < length deck.statuses →
     number_among (act_codes deck) (get_or deck.statuses k d).activity < length deck.acts
 status_activity-within deck none k d within =
-    let card = get_or deck.statuses k d in
-    let fault : Fault = told.unknown_activity card.row card.activity in
-    act_number-within deck card.activity
-    (known_unless (named_among (act_codes deck) card.activity)
-    (λ n. none fault (listed (figure (status (Any-at (λ c. HasStatusFault deck c fault) deck.statuses k d within (has.HasStatusFault.unknown_activity n refl)))))))
+    act_number-within deck (get_or deck.statuses k d).activity
+    (all_known deck Activity (λ (card : StatusCard). card.row) (λ card. card.activity) deck.statuses (λ fault h. none fault (listed (figure (status h)))) k d within)
 
 -- the network of a deck, from its parts
 pub network_of-is : (deck : Deck) (events start end : ℕ) (arcs : List Arc) → events ≡ length deck.events → start ≡ (network_of deck).start →
@@ -183,26 +186,23 @@ network_of-is deck events start end arcs same_events same_start same_end same_ar
 pub piece_activity-within : (deck : Deck) → HasNoMisfit deck → (i : ℕ) (d : PieceCard) → i < length deck.pieces → number_among (act_codes deck) (get_or deck.pieces i d).activity < length deck.acts
 piece_activity-within deck none i d within =
     act_number-within deck (get_or deck.pieces i d).activity
-    (known_unless (named_among (act_codes deck) (get_or deck.pieces i d).activity)
-    (λ n. none (told.unknown_activity (get_or deck.pieces i d).row (get_or deck.pieces i d).activity)
-    (listed (has.piece (Any-at (λ card. HasPieceCardFault deck card
-    (told.unknown_activity (get_or deck.pieces i d).row (get_or deck.pieces i d).activity)) deck.pieces i d within
-    (has.HasPieceCardFault.unknown_activity n refl))))))
+    (all_known deck Activity (λ (card : PieceCard). card.row) (λ card. card.activity) deck.pieces (λ fault h. none fault (listed (has.piece h))) i d within)
+
+-- what a load names is there
+pub load_activity : (deck : Deck) → HasNoMisfit deck → All (λ load. IsSome (named_among (act_codes deck) load.activity)) deck.loads
+load_activity deck none = λ i d within.
+    known_target deck Activity (get_or deck.loads i d).row (get_or deck.loads i d).activity
+    (λ fault is. none fault (listed (has.load (Any-at (λ card. HasLoadFault deck Activity card fault) deck.loads i d within (has.unknown_work is)))))
+
+pub load_resource : (deck : Deck) → HasNoMisfit deck → All (λ load. IsSome (named_among (resource_codes deck) load.resource)) deck.loads
+load_resource deck none = λ i d within.
+    known_target deck Resource (get_or deck.loads i d).row (get_or deck.loads i d).resource
+    (λ fault is. none fault (listed (has.load (Any-at (λ card. HasLoadFault deck Activity card fault) deck.loads i d within (has.unknown_resource is)))))
 
 -- the activity and the resource of a load are known
 pub load_known : (deck : Deck) → HasNoMisfit deck → (i : ℕ) (d : LoadCard) → i < length deck.loads →
     (number_among (act_codes deck) (get_or deck.loads i d).activity < length deck.acts)
     × (number_among (resource_codes deck) (get_or deck.loads i d).resource < length deck.resources)
 load_known deck none i d within =
-    let card = get_or deck.loads i d in (
-      act_number-within deck card.activity
-          (known_unless (named_among (act_codes deck) card.activity)
-          (λ n. none (told.unknown_activity card.row card.activity)
-          (listed (has.load (Any-at (λ c. HasLoadFault deck c (told.unknown_activity card.row card.activity)) deck.loads i d within
-          (has.HasLoadFault.unknown_activity n refl)))))),
-      resource_number-within deck card.resource
-          (known_unless (named_among (resource_codes deck) card.resource)
-          (λ n. none (told.unknown_resource card.row card.resource)
-          (listed (has.load (Any-at (λ c. HasLoadFault deck c (told.unknown_resource card.row card.resource)) deck.loads i d within
-          (has.HasLoadFault.unknown_resource n refl)))))),
-    )
+    let card = get_or deck.loads i d in
+    (act_number-within deck card.activity (load_activity deck none i d within), resource_number-within deck card.resource (load_resource deck none i d within))

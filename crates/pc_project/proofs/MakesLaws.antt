@@ -1,11 +1,13 @@
 -- The cards of a deck make a project exactly if no phase finds a fault.
 use Rattle.std.proofs.Common.{◌≡◌, ℕ, ◌+◌, ◌<◌, List, length, get_or, Option, Some, None, IsSome, refl, subst, inl, inr, arith}
 use Rattle.std.specs.Prelude.{All, ◌≤ℤ◌}
+use Rattle.std.specs.List.{Any}
 use Rattle.std.proofs.lemmas.Bool.{cases_lt}
 use Rattle.std.proofs.lemmas.Int.{ints}
 use Rattle.std.proofs.lemmas.List.{length-map}
 use Rattle.pc_crash.specs.Priced.{piece_at}
-use Rattle.pc_deck.specs.Deck.{Deck, account_codes, act_codes, item_codes, named_among, number_among, resource_codes}
+use Rattle.pc_deck.specs.Deck.{Deck, act_codes, item_codes, named_among, number_among, resource_codes}
+use Rattle.pc_deck.specs.Target.{IsUnknown, target_codes}
 use Rattle.pc_deck.specs.declared.kinds.acct.AcctCard.{AcctCard}
 use Rattle.pc_deck.specs.declared.kinds.act.ActCard.{ActCard}
 use Rattle.pc_deck.specs.declared.kinds.as_of.AsOfCard.{AsOfCard}
@@ -14,16 +16,16 @@ use Rattle.pc_deck.specs.declared.kinds.money.MoneyCard.{MoneyCard}
 use Rattle.pc_deck.specs.declared.kinds.piece.PieceCard.{PieceCard}
 use Rattle.pc_deck.specs.declared.kinds.status.StatusCard.{StatusCard}
 use Rattle.pc_deck.specs.declared.kinds.wbs.ItemCard.{ItemCard}
-use Rattle.pc_faults.specs.Faults as told
 use Rattle.pc_faults.specs.declared.fault.Fault.{Fault}
+use Rattle.pc_faults.specs.declared.target.Target.{Target}
+use Rattle.pc_faults.specs.declared.target.Target.TheVariants.{Item, Account, Activity}
 use Rattle.pc_model.specs.declared.limits.TheConstants.{MAX_PIECES_EACH}
 use Rattle.pc_model.specs.Pieces.{slope_in, units_of}
 use Rattle.pc_model.specs.Schedule.{term_at}
 use Rattle.pc_wbs.specs.Climb.{IsLeaf}
 use Rattle.pc_project.specs.DisorderFaults.{HasDisorder, of_as_of, of_status}
 use Rattle.pc_project.specs.Makes.{AreSoundCards, IsFlawless, IsSoundAct, MakesProject}
-use Rattle.pc_project.specs.Misfit.{HasAccountFault, HasActFault, HasFigureFault, HasItemFault, HasListedFault, HasLoadFault}
-use Rattle.pc_project.specs.Misfit.{HasMoneyFault, HasNoMisfit, HasPieceCardFault, HasProjectFault, HasStatusFault, listed, figure}
+use Rattle.pc_project.specs.Misfit.{HasActFault, HasFigureFault, HasItemFault, HasListedFault, HasLoadFault, HasNoMisfit, HasProjectFault, listed, figure}
 use Rattle.pc_project.specs.Misfit as has
 use Rattle.pc_project.specs.PackageFaults.{HasLeafFault, of_account, of_act}
 use Rattle.pc_project.specs.PieceFaults.{HasNoPieceFault, HasPieceFault, none_left, not_rising, one_too_many, pieces_before}
@@ -32,7 +34,7 @@ use Rattle.pc_project.specs.Refusal.{HasNoFault}
 use Rattle.pc_project.specs.TermsFaults.{HasTermsFault, bonus_above}
 use Rattle.pc_project.proofs.BranchLaws.{account_on_leaf, act_on_leaf}
 use Rattle.pc_project.proofs.DisorderLaws.{all_in_order, as_of-late}
-use Rattle.pc_project.proofs.FitLaws.{Any-at, all_fit, has_ends, known_unless}
+use Rattle.pc_project.proofs.FitLaws.{Any-at, all_fit, all_known, has_ends, known_target, load_activity, load_resource}
 
 -- ---- no fault is found, so each part is sound
 
@@ -40,45 +42,16 @@ sound_cards : (deck : Deck) → HasNoMisfit deck → AreSoundCards deck
 sound_cards deck none = record {
   ends = has_ends deck none;
   items = λ i d within code there.
-      let fault : Fault = told.unknown_item (get_or deck.items i d).row code in
-      known_unless (named_among (item_codes deck) code)
-      (λ n. none fault (listed (has.item (Any-at (λ (c : ItemCard). HasItemFault deck c fault) deck.items i d within (has.unknown_parent code there n refl)))));
+      known_target deck Item (get_or deck.items i d).row code
+      (λ fault is. none fault (listed (has.item (Any-at (λ card. HasItemFault deck card fault) deck.items i d within (has.unknown_parent code there is)))));
   acts = all_fit deck none;
-  pieces = λ i d within.
-      let card = get_or deck.pieces i d in
-      let fault : Fault = told.unknown_activity card.row card.activity in
-      known_unless (named_among (act_codes deck) card.activity)
-      (λ n. none fault (listed (has.piece (Any-at (λ (c : PieceCard). HasPieceCardFault deck c fault) deck.pieces i d within (has.HasPieceCardFault.unknown_activity n refl)))));
-  loads = λ i d within.
-      let card = get_or deck.loads i d in
-      let fault : Fault = told.unknown_activity card.row card.activity in
-      known_unless (named_among (act_codes deck) card.activity)
-      (λ n. none fault (listed (has.load (Any-at (λ (c : LoadCard). HasLoadFault deck c fault) deck.loads i d within (has.HasLoadFault.unknown_activity n refl)))));
-  resources = λ i d within.
-      let card = get_or deck.loads i d in
-      let fault : Fault = told.unknown_resource card.row card.resource in
-      known_unless (named_among (resource_codes deck) card.resource)
-      (λ n. none fault (listed (has.load (Any-at (λ (c : LoadCard). HasLoadFault deck c fault) deck.loads i d within (has.HasLoadFault.unknown_resource n refl)))));
-  accounts = λ i d within.
-      let card = get_or deck.accounts i d in
-      let fault : Fault = told.unknown_item card.row card.item in
-      known_unless (named_among (item_codes deck) card.item)
-      (λ n. none fault (listed (figure (has.account (Any-at (λ (c : AcctCard). HasAccountFault deck c fault) deck.accounts i d within (has.HasAccountFault.unknown_item n refl))))));
-  charges = λ i d within.
-      let card = get_or deck.charges i d in
-      let fault : Fault = told.unknown_account card.row card.account in
-      known_unless (named_among (account_codes deck) card.account)
-      (λ n. none fault (listed (figure (has.charge (Any-at (λ (c : MoneyCard). HasMoneyFault deck c fault) deck.charges i d within (has.unknown_account n refl))))));
-  togos = λ i d within.
-      let card = get_or deck.togos i d in
-      let fault : Fault = told.unknown_account card.row card.account in
-      known_unless (named_among (account_codes deck) card.account)
-      (λ n. none fault (listed (figure (has.togo (Any-at (λ (c : MoneyCard). HasMoneyFault deck c fault) deck.togos i d within (has.unknown_account n refl))))));
-  statuses = λ i d within.
-      let card = get_or deck.statuses i d in
-      let fault : Fault = told.unknown_activity card.row card.activity in
-      known_unless (named_among (act_codes deck) card.activity)
-      (λ n. none fault (listed (figure (has.status (Any-at (λ (c : StatusCard). HasStatusFault deck c fault) deck.statuses i d within (has.HasStatusFault.unknown_activity n refl))))));
+  pieces = all_known deck Activity (λ (card : PieceCard). card.row) (λ card. card.activity) deck.pieces (λ fault h. none fault (listed (has.piece h)));
+  loads = load_activity deck none;
+  resources = load_resource deck none;
+  accounts = all_known deck Item (λ (card : AcctCard). card.row) (λ card. card.item) deck.accounts (λ fault h. none fault (listed (figure (has.account h))));
+  charges = all_known deck Account (λ (card : MoneyCard). card.row) (λ card. card.account) deck.charges (λ fault h. none fault (listed (figure (has.charge h))));
+  togos = all_known deck Account (λ (card : MoneyCard). card.row) (λ card. card.account) deck.togos (λ fault h. none fault (listed (figure (has.togo h))));
+  statuses = all_known deck Activity (λ (card : StatusCard). card.row) (λ card. card.activity) deck.statuses (λ fault h. none fault (listed (figure (has.status h))));
 }
 
 -- no piece of a deck without faults of pieces has a flaw
@@ -123,40 +96,41 @@ at_each : {X : Type 0} (P : X → Type 0) (xs : List X) → All P xs → (k : �
 at_each P xs all k x within at = subst P at (all k x within)
 
 module _ (deck : Deck) (sound : AreSoundCards deck) where
+  -- what each card of a list names is there, so none has a fault by its name
+  all_there : {C : Type 0} (target : Target) (row : C → ℕ) (code : C → List ℕ) (cards : List C) → All (λ card. IsSome (named_among (target_codes deck target) (code card))) cards →
+      (fault : Fault) → Any (λ card. IsUnknown deck target (row card) (code card) fault) cards → ⊥
+  all_there target row code cards known fault (k, card, within, at, is) =
+      missing _ (at_each (λ c. IsSome (named_among (target_codes deck target) (code c))) cards known k card within at) is.missing
+
   no_project_fault : (fault : Fault) → HasProjectFault deck deck.project fault → ⊥
-  no_project_fault fault (has.unknown_start none is) = missing _ sound.ends.starts none
-  no_project_fault fault (has.unknown_end known none is) = missing _ sound.ends.ends none
+  no_project_fault fault (has.unknown_start is) = missing _ sound.ends.starts is.missing
+  no_project_fault fault (has.unknown_end known is) = missing _ sound.ends.ends is.missing
   no_project_fault fault (has.same_ends same is) = sound.ends.apart same
 
   no_act_fault : (card : ActCard) → IsSoundAct deck card → (fault : Fault) → HasActFault deck card fault → ⊥
-  no_act_fault card fit fault (has.unknown_from none is) = missing _ fit.begins none
-  no_act_fault card fit fault (has.unknown_to known none is) = missing _ fit.ends none
-  no_act_fault card fit fault (has.HasActFault.unknown_item none is) = missing _ fit.placed none
+  no_act_fault card fit fault (has.unknown_from is) = missing _ fit.begins is.missing
+  no_act_fault card fit fault (has.unknown_to known is) = missing _ fit.ends is.missing
+  no_act_fault card fit fault (has.unknown_item is) = missing _ fit.placed is.missing
   no_act_fault card fit fault (has.same_events same is) = fit.apart same
   no_act_fault card fit fault (has.unordered not is) = not fit.ordered
   no_act_fault card fit fault (has.crash_above above is) = omega (arith, above, fit.durations)
 
   no_load_fault : (card : LoadCard) → IsSome (named_among (act_codes deck) card.activity) → IsSome (named_among (resource_codes deck) card.resource)
-      → (fault : Fault) → HasLoadFault deck card fault → ⊥
-  no_load_fault card known there fault (has.HasLoadFault.unknown_activity none is) = missing _ known none
-  no_load_fault card known there fault (has.HasLoadFault.unknown_resource none is) = missing _ there none
+      → (fault : Fault) → HasLoadFault deck Activity card fault → ⊥
+  no_load_fault card known there fault (has.unknown_work is) = missing _ known is.missing
+  no_load_fault card known there fault (has.unknown_resource is) = missing _ there is.missing
 
   no_figure_fault : (fault : Fault) → HasFigureFault deck fault → ⊥
-  no_figure_fault fault (has.account (k, card, within, at, has.HasAccountFault.unknown_item none is)) =
-      missing _ (at_each (λ (c : AcctCard). IsSome (named_among (item_codes deck) c.item)) deck.accounts sound.accounts k card within at) none
-  no_figure_fault fault (has.charge (k, card, within, at, has.unknown_account none is)) =
-      missing _ (at_each (λ (c : MoneyCard). IsSome (named_among (account_codes deck) c.account)) deck.charges sound.charges k card within at) none
-  no_figure_fault fault (has.togo (k, card, within, at, has.unknown_account none is)) =
-      missing _ (at_each (λ (c : MoneyCard). IsSome (named_among (account_codes deck) c.account)) deck.togos sound.togos k card within at) none
-  no_figure_fault fault (has.status (k, card, within, at, has.HasStatusFault.unknown_activity none is)) =
-      missing _ (at_each (λ (c : StatusCard). IsSome (named_among (act_codes deck) c.activity)) deck.statuses sound.statuses k card within at) none
+  no_figure_fault fault (has.account any) = all_there Item (λ (card : AcctCard). card.row) (λ card. card.item) deck.accounts sound.accounts fault any
+  no_figure_fault fault (has.charge any) = all_there Account (λ (card : MoneyCard). card.row) (λ card. card.account) deck.charges sound.charges fault any
+  no_figure_fault fault (has.togo any) = all_there Account (λ (card : MoneyCard). card.row) (λ card. card.account) deck.togos sound.togos fault any
+  no_figure_fault fault (has.status any) = all_there Activity (λ (card : StatusCard). card.row) (λ card. card.activity) deck.statuses sound.statuses fault any
 
   no_listed_fault : (fault : Fault) → HasListedFault deck fault → ⊥
-  no_listed_fault fault (has.item (k, card, within, at, has.unknown_parent code there none is)) =
-      missing _ (at_each (λ (c : ItemCard). (code : List ℕ) → c.parent ≡ Some code → IsSome (named_among (item_codes deck) code)) deck.items sound.items k card within at code there) none
+  no_listed_fault fault (has.item (k, card, within, at, has.unknown_parent code there is)) =
+      missing _ (at_each (λ (c : ItemCard). (code : List ℕ) → c.parent ≡ Some code → IsSome (named_among (item_codes deck) code)) deck.items sound.items k card within at code there) is.missing
   no_listed_fault fault (has.act (k, card, within, at, here)) = no_act_fault card (at_each (IsSoundAct deck) deck.acts sound.acts k card within at) fault here
-  no_listed_fault fault (has.piece (k, card, within, at, has.HasPieceCardFault.unknown_activity none is)) =
-      missing _ (at_each (λ (c : PieceCard). IsSome (named_among (act_codes deck) c.activity)) deck.pieces sound.pieces k card within at) none
+  no_listed_fault fault (has.piece any) = all_there Activity (λ (card : PieceCard). card.row) (λ card. card.activity) deck.pieces sound.pieces fault any
   no_listed_fault fault (has.load (k, card, within, at, here)) =
       no_load_fault card (at_each (λ (c : LoadCard). IsSome (named_among (act_codes deck) c.activity)) deck.loads sound.loads k card within at)
       (at_each (λ (c : LoadCard). IsSome (named_among (resource_codes deck) c.resource)) deck.loads sound.resources k card within at) fault here

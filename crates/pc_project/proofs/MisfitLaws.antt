@@ -2,9 +2,11 @@
 use Rattle.std.proofs.Common.{◌≡◌, Option, inl, inr, ◌⊎◌}
 use Rattle.std.specs.List.{Any}
 use Rattle.pc_deck.specs.Deck.{Deck}
+use Rattle.pc_deck.specs.Target.{IsUnknown}
 use Rattle.pc_faults.specs.declared.fault.Fault.{Fault}
+use Rattle.pc_faults.specs.declared.target.Target.TheVariants.{Item, Account, Activity}
 use Rattle.pc_faults.specs.inside.First.{IsFirstIn, earliest}
-use Rattle.pc_project.specs.Misfit.{HasProjectFault, HasItemFault, HasActFault, HasAccountFault, HasMoneyFault, HasStatusFault, HasPieceCardFault, HasLoadFault}
+use Rattle.pc_project.specs.Misfit.{HasProjectFault, HasItemFault, HasActFault, HasLoadFault}
 use Rattle.pc_project.specs.Misfit.{HasFigureFault, HasListedFault, HasMisfit, account, charge, togo, status, project, listed, item, act, piece, load, figure}
 use Rattle.pc_faults.proofs.FirstLaws.{earliest-first, first_of_either, first_of_same}
 
@@ -16,22 +18,22 @@ module _ (deck : Deck) where
   OfActs fault = Any (λ card. HasActFault deck card fault) deck.acts
 
   abbrev pub OfPieces : Fault → Type 0
-  OfPieces fault = Any (λ card. HasPieceCardFault deck card fault) deck.pieces
+  OfPieces fault = Any (λ card. IsUnknown deck Activity card.row card.activity fault) deck.pieces
 
   abbrev pub OfLoads : Fault → Type 0
-  OfLoads fault = Any (λ card. HasLoadFault deck card fault) deck.loads
+  OfLoads fault = Any (λ card. HasLoadFault deck Activity card fault) deck.loads
 
   abbrev pub OfAccounts : Fault → Type 0
-  OfAccounts fault = Any (λ card. HasAccountFault deck card fault) deck.accounts
+  OfAccounts fault = Any (λ card. IsUnknown deck Item card.row card.item fault) deck.accounts
 
   abbrev pub OfCharges : Fault → Type 0
-  OfCharges fault = Any (λ card. HasMoneyFault deck card fault) deck.charges
+  OfCharges fault = Any (λ card. IsUnknown deck Account card.row card.account fault) deck.charges
 
   abbrev pub OfTogos : Fault → Type 0
-  OfTogos fault = Any (λ card. HasMoneyFault deck card fault) deck.togos
+  OfTogos fault = Any (λ card. IsUnknown deck Account card.row card.account fault) deck.togos
 
   abbrev pub OfStatuses : Fault → Type 0
-  OfStatuses fault = Any (λ card. HasStatusFault deck card fault) deck.statuses
+  OfStatuses fault = Any (λ card. IsUnknown deck Activity card.row card.activity fault) deck.statuses
 
   into_figures : (f : Fault) → HasFigureFault deck f → (OfAccounts f ⊎ OfCharges f) ⊎ (OfTogos f ⊎ OfStatuses f)
   into_figures f (account h) = inl (inl h)

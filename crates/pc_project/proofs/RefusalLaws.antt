@@ -1,5 +1,5 @@
 -- A deck is not both a project and refused, and each refusal can be told.
-use Rattle.std.proofs.Common.{◌≡◌, ◌≢◌, List, refl, sym, ◌∙◌, subst, ap}
+use Rattle.std.proofs.Common.{◌≡◌, ◌≢◌, ℕ, List, refl, sym, ◌∙◌, subst, ap}
 use Rattle.std.specs.Prelude.{Result, Ok, Err, IfErr, IsErrAnd}
 use Rattle.pc_wbs.specs.declared.error.TreeError.{TreeError}
 use Rattle.pc_wbs.specs.declared.error.TreeError.TheVariants as tree
@@ -9,15 +9,15 @@ use Rattle.pc_wbs.proofs.ExactLaws.{IsTree-not_refused}
 use Rattle.pc_net.specs.declared.refusal.NetError.{NetError}
 use Rattle.pc_net.specs.declared.refusal.NetError.TheVariants as net
 use Rattle.pc_net.proofs.RefusalLaws.{refused_is_not_sound}
-use Rattle.pc_deck.specs.declared.kinds.acct.AcctCard.{AcctCard}
 use Rattle.pc_deck.specs.declared.kinds.act.ActCard.{ActCard}
 use Rattle.pc_deck.specs.declared.kinds.wbs.ItemCard.{ItemCard}
 use Rattle.pc_deck.specs.declared.kinds.load.LoadCard.{LoadCard}
-use Rattle.pc_deck.specs.declared.kinds.money.MoneyCard.{MoneyCard}
-use Rattle.pc_deck.specs.declared.kinds.piece.PieceCard.{PieceCard}
 use Rattle.pc_deck.specs.declared.kinds.project.ProjectCard.{ProjectCard}
-use Rattle.pc_deck.specs.declared.kinds.status.StatusCard.{StatusCard}
 use Rattle.pc_deck.specs.Deck.{Deck}
+use Rattle.pc_deck.specs.Target.{IsUnknown}
+use Rattle.pc_faults.specs.Faults.{unknown_name}
+use Rattle.pc_faults.specs.declared.target.Target.{Target}
+use Rattle.pc_faults.specs.declared.target.Target.TheVariants.{Event, Item, Account, Activity, Task, Resource}
 use Rattle.pc_faults.specs.inside.FaultText.{IsTold}
 use Rattle.pc_faults.specs.First.{IsFirstFault}
 use Rattle.pc_faults.specs.inside.First.{Refuses}
@@ -25,8 +25,7 @@ use Rattle.pc_faults.specs.declared.fault.Fault.{Fault as ADeckFault}
 use Rattle.pc_faults.specs.declared.fault.DeckError.{DeckError}
 use Rattle.pc_faults.specs.declared.fault.DeckError.TheVariants.{Fault, OutOfMemory}
 use Rattle.pc_project.specs.Project.{network_of, rows_of}
-use Rattle.pc_project.specs.Misfit.{HasProjectFault, HasItemFault, HasActFault, HasAccountFault, HasMoneyFault, HasStatusFault}
-use Rattle.pc_project.specs.Misfit.{HasPieceCardFault, HasLoadFault, HasFigureFault, HasListedFault, HasMisfit, HasNoMisfit}
+use Rattle.pc_project.specs.Misfit.{HasProjectFault, HasItemFault, HasActFault, HasLoadFault, HasFigureFault, HasListedFault, HasMisfit, HasNoMisfit}
 use Rattle.pc_project.specs.Misfit as has
 use Rattle.pc_project.specs.DisorderFaults.{HasDisorder, HasNoDisorder, of_as_of, of_status}
 use Rattle.pc_project.specs.PackageFaults.{HasLeafFault, HasNoLeafFault, IsFirstUnevenFault, of_account, of_act}
@@ -73,49 +72,49 @@ makes_not_refused deck fault makes refused = faultless_not_refused deck fault (n
 pub told : (fault known : ADeckFault) → fault ≡ known → IsTold known → IsTold fault
 told fault known is can = subst IsTold (sym is) can
 
+-- that a card names what is not there can be told
+can_tell : (target : Target) (row : ℕ) (code : List ℕ) → IsTold (unknown_name target row code)
+can_tell Event row code = refl
+can_tell Item row code = refl
+can_tell Account row code = refl
+can_tell Activity row code = refl
+can_tell Task row code = refl
+can_tell Resource row code = refl
+
+pub told_of-unknown : (deck : Deck) (target : Target) (row : ℕ) (code : List ℕ) (fault : ADeckFault) → IsUnknown deck target row code fault → IsTold fault
+told_of-unknown deck target row code fault is = told fault _ is.told (can_tell target row code)
+
 told_of-project : (deck : Deck) (card : ProjectCard) (fault : ADeckFault) → HasProjectFault deck card fault → IsTold fault
-told_of-project deck card fault (has.unknown_start none is) = told fault _ is refl
-told_of-project deck card fault (has.unknown_end known none is) = told fault _ is refl
+told_of-project deck card fault (has.unknown_start is) = told_of-unknown deck Event _ _ fault is
+told_of-project deck card fault (has.unknown_end known is) = told_of-unknown deck Event _ _ fault is
 told_of-project deck card fault (has.same_ends same is) = told fault _ is refl
 
 pub told_of-item : (deck : Deck) (card : ItemCard) (fault : ADeckFault) → HasItemFault deck card fault → IsTold fault
-told_of-item deck card fault (has.unknown_parent code there none is) = told fault _ is refl
+told_of-item deck card fault (has.unknown_parent code there is) = told_of-unknown deck Item _ _ fault is
 
 told_of-act : (deck : Deck) (card : ActCard) (fault : ADeckFault) → HasActFault deck card fault → IsTold fault
-told_of-act deck card fault (has.unknown_from none is) = told fault _ is refl
-told_of-act deck card fault (has.unknown_to known none is) = told fault _ is refl
-told_of-act deck card fault (has.HasActFault.unknown_item none is) = told fault _ is refl
+told_of-act deck card fault (has.unknown_from is) = told_of-unknown deck Event _ _ fault is
+told_of-act deck card fault (has.unknown_to known is) = told_of-unknown deck Event _ _ fault is
+told_of-act deck card fault (has.unknown_item is) = told_of-unknown deck Item _ _ fault is
 told_of-act deck card fault (has.same_events same is) = told fault _ is refl
 told_of-act deck card fault (has.unordered not is) = told fault _ is refl
 told_of-act deck card fault (has.crash_above above is) = told fault _ is refl
 
-pub told_of-account : (deck : Deck) (card : AcctCard) (fault : ADeckFault) → HasAccountFault deck card fault → IsTold fault
-told_of-account deck card fault (has.HasAccountFault.unknown_item none is) = told fault _ is refl
-
-pub told_of-money : (deck : Deck) (card : MoneyCard) (fault : ADeckFault) → HasMoneyFault deck card fault → IsTold fault
-told_of-money deck card fault (has.unknown_account none is) = told fault _ is refl
-
-told_of-status : (deck : Deck) (card : StatusCard) (fault : ADeckFault) → HasStatusFault deck card fault → IsTold fault
-told_of-status deck card fault (has.HasStatusFault.unknown_activity none is) = told fault _ is refl
-
-told_of-piece_card : (deck : Deck) (card : PieceCard) (fault : ADeckFault) → HasPieceCardFault deck card fault → IsTold fault
-told_of-piece_card deck card fault (has.HasPieceCardFault.unknown_activity none is) = told fault _ is refl
-
-told_of-load : (deck : Deck) (card : LoadCard) (fault : ADeckFault) → HasLoadFault deck card fault → IsTold fault
-told_of-load deck card fault (has.HasLoadFault.unknown_activity none is) = told fault _ is refl
-told_of-load deck card fault (has.HasLoadFault.unknown_resource none is) = told fault _ is refl
+pub told_of-load : (deck : Deck) (work : Target) (card : LoadCard) (fault : ADeckFault) → HasLoadFault deck work card fault → IsTold fault
+told_of-load deck work card fault (has.unknown_work is) = told_of-unknown deck work _ _ fault is
+told_of-load deck work card fault (has.unknown_resource is) = told_of-unknown deck Resource _ _ fault is
 
 told_of-figure : (deck : Deck) (fault : ADeckFault) → HasFigureFault deck fault → IsTold fault
-told_of-figure deck fault (has.account (k, card, within, at, here)) = told_of-account deck card fault here
-told_of-figure deck fault (has.charge (k, card, within, at, here)) = told_of-money deck card fault here
-told_of-figure deck fault (has.togo (k, card, within, at, here)) = told_of-money deck card fault here
-told_of-figure deck fault (has.status (k, card, within, at, here)) = told_of-status deck card fault here
+told_of-figure deck fault (has.account (k, card, within, at, here)) = told_of-unknown deck Item _ _ fault here
+told_of-figure deck fault (has.charge (k, card, within, at, here)) = told_of-unknown deck Account _ _ fault here
+told_of-figure deck fault (has.togo (k, card, within, at, here)) = told_of-unknown deck Account _ _ fault here
+told_of-figure deck fault (has.status (k, card, within, at, here)) = told_of-unknown deck Activity _ _ fault here
 
 told_of-listed : (deck : Deck) (fault : ADeckFault) → HasListedFault deck fault → IsTold fault
 told_of-listed deck fault (has.item (k, card, within, at, here)) = told_of-item deck card fault here
 told_of-listed deck fault (has.act (k, card, within, at, here)) = told_of-act deck card fault here
-told_of-listed deck fault (has.piece (k, card, within, at, here)) = told_of-piece_card deck card fault here
-told_of-listed deck fault (has.load (k, card, within, at, here)) = told_of-load deck card fault here
+told_of-listed deck fault (has.piece (k, card, within, at, here)) = told_of-unknown deck Activity _ _ fault here
+told_of-listed deck fault (has.load (k, card, within, at, here)) = told_of-load deck Activity card fault here
 told_of-listed deck fault (has.figure here) = told_of-figure deck fault here
 
 told_of-misfit : (deck : Deck) (fault : ADeckFault) → HasMisfit deck fault → IsTold fault

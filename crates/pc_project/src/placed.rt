@@ -2,6 +2,8 @@
 ghost use Rattle.std.specs.Prelude.{◌≡◌, ◌↔◌, IsTrue, IfOk, IfErr, OnOk};
 ghost use Rattle.pc_faults.specs.First.{IsFirstFault};
 ghost use Rattle.pc_faults.specs.declared.fault.Fault.{Fault};
+ghost use Rattle.pc_faults.specs.declared.target.Target.TheVariants.{Item, Account, Activity};
+ghost use Rattle.pc_deck.specs.Target.{IsUnknown};
 ghost use Rattle.pc_project.specs.Project.{network_of};
 ghost use Rattle.pc_project.specs.Misfit.{HasProjectFault, HasOrderedEstimates};
 
@@ -9,7 +11,7 @@ use crate::refers::Refers;
 use pc_accounts::status::StatusRow;
 use pc_accounts::{AcctRow, MoneyRow};
 use pc_deck::{AcctCard, ActCard, Cards, ItemCard, LoadCard, MoneyCard, PieceCard, StatusCard};
-use pc_faults::Fault;
+use pc_faults::{Fault, Target};
 use pc_model::{Arc, PieceRow};
 use pc_wbs::ItemRow;
 
@@ -36,12 +38,8 @@ pub(crate) fn ends_of(cards: &Cards) -> Result<(u32, u32), Fault>
     ensures first { IfErr result (IsFirstFault (HasProjectFault cards.now cards.now.project)) }
 {
     let card = cards.project();
-    let Some(start) = cards.event_named(&card.start) else {
-        return Err(Fault::unknown_event(card.row, card.start));
-    };
-    let Some(end) = cards.event_named(&card.end) else {
-        return Err(Fault::unknown_event(card.row, card.end));
-    };
+    let start = cards.find(Target::Event, card.row, card.start)?;
+    let end = cards.find(Target::Event, card.row, card.end)?;
     if card.start == card.end {
         return Err(Fault::one_event(card.row, card.start));
     }
@@ -62,12 +60,10 @@ impl Refers for ItemCard {
         let Some(code) = self.parent else {
             return Ok(ItemRow { parent: None });
         };
-        match cards.item_named(&code) {
-            Some(parent) => Ok(ItemRow {
-                parent: Some(parent),
-            }),
-            None => Err(Fault::unknown_item(self.row, code)),
-        }
+        let parent = cards.find(Target::Item, self.row, code)?;
+        Ok(ItemRow {
+            parent: Some(parent),
+        })
     }
 }
 
@@ -88,15 +84,9 @@ impl Refers for ActCard {
     ghost HasFault = { HasActFault };
 
     fn look_up(&self, cards: &Cards) -> Result<Placement, Fault> {
-        let Some(from) = cards.event_named(&self.from) else {
-            return Err(Fault::unknown_event(self.row, self.from));
-        };
-        let Some(to) = cards.event_named(&self.to) else {
-            return Err(Fault::unknown_event(self.row, self.to));
-        };
-        let Some(item) = cards.item_named(&self.item) else {
-            return Err(Fault::unknown_item(self.row, self.item));
-        };
+        let from = cards.find(Target::Event, self.row, self.from)?;
+        let to = cards.find(Target::Event, self.row, self.to)?;
+        let item = cards.find(Target::Item, self.row, self.item)?;
         if self.from == self.to {
             return Err(Fault::one_event(self.row, self.from));
         }
@@ -115,88 +105,76 @@ impl Refers for ActCard {
 
 impl Refers for AcctCard {
     ghost use Rattle.pc_project.specs.Project.{account_of};
-    ghost use Rattle.pc_project.specs.Misfit.{HasAccountFault};
 
     type Found = AcctRow;
 
     ghost found_in = { account_of };
 
-    ghost HasFault = { HasAccountFault };
+    ghost HasFault = { λ deck card. IsUnknown deck Item card.row card.item };
 
     fn look_up(&self, cards: &Cards) -> Result<AcctRow, Fault> {
-        match cards.item_named(&self.item) {
-            Some(item) => Ok(AcctRow {
-                item,
-                budget: self.budget,
-            }),
-            None => Err(Fault::unknown_item(self.row, self.item)),
-        }
+        let item = cards.find(Target::Item, self.row, self.item)?;
+        Ok(AcctRow {
+            item,
+            budget: self.budget,
+        })
     }
 }
 
 impl Refers for MoneyCard {
     ghost use Rattle.pc_project.specs.Project.{money_of};
-    ghost use Rattle.pc_project.specs.Misfit.{HasMoneyFault};
 
     type Found = MoneyRow;
 
     ghost found_in = { money_of };
 
-    ghost HasFault = { HasMoneyFault };
+    ghost HasFault = { λ deck card. IsUnknown deck Account card.row card.account };
 
     fn look_up(&self, cards: &Cards) -> Result<MoneyRow, Fault> {
-        match cards.account_named(&self.account) {
-            Some(account) => Ok(MoneyRow {
-                account,
-                day: self.day,
-                amount: self.amount,
-            }),
-            None => Err(Fault::unknown_account(self.row, self.account)),
-        }
+        let account = cards.find(Target::Account, self.row, self.account)?;
+        Ok(MoneyRow {
+            account,
+            day: self.day,
+            amount: self.amount,
+        })
     }
 }
 
 impl Refers for StatusCard {
     ghost use Rattle.pc_project.specs.Project.{status_of};
-    ghost use Rattle.pc_project.specs.Misfit.{HasStatusFault};
 
     type Found = StatusRow;
 
     ghost found_in = { status_of };
 
-    ghost HasFault = { HasStatusFault };
+    ghost HasFault = { λ deck card. IsUnknown deck Activity card.row card.activity };
 
     fn look_up(&self, cards: &Cards) -> Result<StatusRow, Fault> {
-        match cards.act_named(&self.activity) {
-            Some(activity) => Ok(StatusRow {
-                activity,
-                finished: self.finished,
-                day: self.day,
-            }),
-            None => Err(Fault::unknown_activity(self.row, self.activity)),
-        }
+        let activity = cards.find(Target::Activity, self.row, self.activity)?;
+        Ok(StatusRow {
+            activity,
+            finished: self.finished,
+            day: self.day,
+        })
     }
 }
 
 impl Refers for PieceCard {
     ghost use Rattle.pc_project.specs.Project.{piece_of};
-    ghost use Rattle.pc_project.specs.Misfit.{HasPieceCardFault};
 
     type Found = PieceRow;
 
     ghost found_in = { piece_of };
 
-    ghost HasFault = { HasPieceCardFault };
+    ghost HasFault = { λ deck card. IsUnknown deck Activity card.row card.activity };
 
     fn look_up(&self, cards: &Cards) -> Result<PieceRow, Fault> {
-        match cards.act_named(&self.activity) {
-            Some(activity) => Ok(PieceRow {
-                activity,
-                units: self.units,
-                slope: self.slope,
-            }),
-            None => Err(Fault::unknown_activity(self.row, self.activity)),
-        }
+        let activity = cards.find(Target::Activity, self.row, self.activity)?;
+        Ok(PieceRow {
+            activity,
+            units: self.units,
+            slope: self.slope,
+        })
     }
 }
 
@@ -208,15 +186,11 @@ impl Refers for LoadCard {
 
     ghost found_in = { load_of };
 
-    ghost HasFault = { HasLoadFault };
+    ghost HasFault = { λ deck card. HasLoadFault deck Activity card };
 
     fn look_up(&self, cards: &Cards) -> Result<LoadItem, Fault> {
-        let Some(activity) = cards.act_named(&self.activity) else {
-            return Err(Fault::unknown_activity(self.row, self.activity));
-        };
-        let Some(resource) = cards.resource_named(&self.resource) else {
-            return Err(Fault::unknown_resource(self.row, self.resource));
-        };
+        let activity = cards.find(Target::Activity, self.row, self.activity)?;
+        let resource = cards.find(Target::Resource, self.row, self.resource)?;
         Ok(LoadItem {
             activity,
             resource,

@@ -1,17 +1,18 @@
 -- Of a deck of tasks without faults of single cards, arrows can be drawn, and its items are within their range.
 use Rattle.std.proofs.Common.{ℕ, ◌<◌, length, get_or, refl}
 use Rattle.pc_cards.specs.declared.sort.Sort.TheVariants.{Tasks}
-use Rattle.pc_deck.specs.Deck.{Deck, named_among, task_codes}
+use Rattle.pc_deck.specs.Deck.{Deck}
 use Rattle.pc_deck.specs.Within.{IsWithin}
 use Rattle.pc_deck.specs.declared.kinds.after.AfterCard.{AfterCard}
 use Rattle.pc_deck.specs.declared.kinds.piece.PieceCard.{PieceCard}
 use Rattle.pc_faults.specs.Faults as told
 use Rattle.pc_faults.specs.declared.fault.Fault.{Fault}
+use Rattle.pc_faults.specs.declared.target.Target.TheVariants.{Task}
 use Rattle.pc_project.specs.Project.{rows_of}
-use Rattle.pc_project.proofs.FitLaws.{Any-at, items-in_range, known_unless}
+use Rattle.pc_project.proofs.FitLaws.{Any-at, all_known, items-in_range, known_target}
 use Rattle.pc_wbs.specs.Climb.{AreInRange}
 use Rattle.pc_tasks.specs.Known.{CanBeDrawn, IsKnownAfter, IsKnownPiece}
-use Rattle.pc_tasks.specs.Misfit.{HasAfterFault, HasNameFault, HasNoTaskMisfit, after, ends, item, piece}
+use Rattle.pc_tasks.specs.Misfit.{HasAfterFault, HasNoTaskMisfit, after, ends, item, piece}
 use Rattle.pc_tasks.specs.Misfit as has
 use Rattle.pc_tasks.proofs.WithinLemmas.{ends-given, few-tasks, starts-given}
 
@@ -20,18 +21,14 @@ module _ (deck : Deck) (none : HasNoTaskMisfit deck) where
   known_after k d inside =
       let card = get_or deck.afters k d in
       let out = λ (fault : Fault) (h : HasAfterFault deck card fault). none fault (after (Any-at (λ card. HasAfterFault deck card fault) deck.afters k d inside h)) in
-      let task = known_unless (named_among (task_codes deck) card.task) (λ n. out (told.unknown_activity card.row card.task) (has.HasAfterFault.unknown_task n refl)) in
+      let task = known_target deck Task card.row card.task (λ fault is. out fault (has.unknown_task is)) in
       record {
         task = task;
-        before = known_unless (named_among (task_codes deck) card.before) (λ n. out (told.unknown_activity card.row card.before) (has.HasAfterFault.unknown_before task n refl));
+        before = known_target deck Task card.row card.before (λ fault is. out fault (has.unknown_before task is));
       }
 
   known_piece : (k : ℕ) (d : PieceCard) → k < length deck.pieces → IsKnownPiece deck (get_or deck.pieces k d)
-  known_piece k d inside =
-      let card = get_or deck.pieces k d in
-      let fault : Fault = told.unknown_activity card.row card.activity in
-      known_unless (named_among (task_codes deck) card.activity)
-      (λ n. none fault (piece (Any-at (λ (card : PieceCard). HasNameFault deck card.row card.activity fault) deck.pieces k d inside (has.HasNameFault.unknown_task n refl))))
+  known_piece k d inside = all_known deck Task (λ (card : PieceCard). card.row) (λ card. card.activity) deck.pieces (λ fault h. none fault (piece h)) k d inside
 
   pub can_be_drawn : IsWithin Tasks deck → CanBeDrawn deck
   can_be_drawn within = record {

@@ -2,17 +2,18 @@
 use Rattle.std.proofs.Common.{◌≡◌, Option, Some, None, inl, inr, ◌⊎◌, refl}
 use Rattle.std.specs.List.{Any}
 use Rattle.pc_deck.specs.Deck.{Deck}
+use Rattle.pc_deck.specs.Target.{IsUnknown}
 use Rattle.pc_faults.specs.declared.fault.Fault.{Fault}
+use Rattle.pc_faults.specs.declared.target.Target.TheVariants.{Task}
 use Rattle.pc_faults.specs.inside.First.{IsFirstIn}
 use Rattle.pc_faults.proofs.FirstLaws.{first_of_same}
 use Rattle.pc_project.proofs.MisfitLaws.{OfAccounts, OfCharges, OfItems, OfTogos}
+use Rattle.pc_project.specs.Misfit.{HasLoadFault}
 use Rattle.pc_tasks.specs.Misfit.{
   HasAfterFault,
   HasEndsFault,
-  HasTaskLoadFault,
   HasTaskMisfit,
   HasNoTaskMisfit,
-  HasNameFault,
   HasTaskFault,
   account,
   after,
@@ -34,13 +35,13 @@ module _ (deck : Deck) where
   OfAfters fault = Any (λ card. HasAfterFault deck card fault) deck.afters
 
   abbrev pub OfPieces : Fault → Type 0
-  OfPieces fault = Any (λ card. HasNameFault deck card.row card.activity fault) deck.pieces
+  OfPieces fault = Any (λ card. IsUnknown deck Task card.row card.activity fault) deck.pieces
 
   abbrev pub OfLoads : Fault → Type 0
-  OfLoads fault = Any (λ card. HasTaskLoadFault deck card fault) deck.loads
+  OfLoads fault = Any (λ card. HasLoadFault deck Task card fault) deck.loads
 
   abbrev pub OfStatuses : Fault → Type 0
-  OfStatuses fault = Any (λ card. HasNameFault deck card.row card.activity fault) deck.statuses
+  OfStatuses fault = Any (λ card. IsUnknown deck Task card.row card.activity fault) deck.statuses
 
   abbrev pub Plan : Fault → Type 0
   Plan f = (HasEndsFault deck f ⊎ OfItems deck f) ⊎ (OfTasks f ⊎ OfAfters f)

@@ -10,6 +10,7 @@ use Rattle.pc_tasks.specs.declared.network.AfterRow.{AfterRow}
 use Rattle.pc_cards.specs.declared.sort.Sort.TheVariants.{Tasks}
 use Rattle.pc_faults.specs.declared.kind.Kind.TheVariants.{Wbs}
 use Rattle.pc_deck.specs.Deck.{Deck, act_codes, event_codes, item_codes, named_among, number_among, task_codes}
+use Rattle.pc_deck.specs.Target.{IsUnknown}
 use Rattle.pc_deck.specs.Within.{IsWithin}
 use Rattle.pc_deck.specs.declared.kinds.acct.AcctCard.{AcctCard}
 use Rattle.pc_deck.specs.declared.kinds.act.ActCard.{ActCard}
@@ -19,27 +20,23 @@ use Rattle.pc_deck.specs.declared.kinds.piece.PieceCard.{PieceCard}
 use Rattle.pc_deck.specs.declared.kinds.status.StatusCard.{StatusCard}
 use Rattle.pc_deck.specs.declared.kinds.task.TaskCard.{TaskCard}
 use Rattle.pc_deck.specs.declared.kinds.wbs.ItemCard.{ItemCard}
-use Rattle.pc_faults.specs.Faults as told
 use Rattle.pc_faults.specs.declared.fault.Fault.{Fault}
+use Rattle.pc_faults.specs.declared.target.Target.TheVariants.{Item, Account, Activity, Task}
 use Rattle.pc_model.specs.Codes.{IsNamedOnce, text_at}
 use Rattle.pc_model.specs.Network.{IsSound}
 use Rattle.pc_project.specs.Misfit as plan
 use Rattle.pc_project.specs.Misfit.{
-  HasAccountFault,
   HasActFault,
   HasFigureFault,
   HasItemFault,
   HasListedFault,
   HasLoadFault,
-  HasMoneyFault,
-  HasPieceCardFault,
   HasProjectFault,
-  HasStatusFault,
   HasOrderedEstimates,
 }
 use Rattle.pc_project.specs.Project.{row_of, rows_of}
 use Rattle.pc_project.specs.Refusal.{HasSoundPlan}
-use Rattle.pc_project.proofs.FitLaws.{known_unless}
+use Rattle.pc_project.proofs.FitLaws.{known_target}
 use Rattle.pc_tasks.specs.Codes.{begin_code, end_code, links_code}
 use Rattle.pc_tasks.specs.Drawn.{after_links, code_of_top, arrows_deck, first_link, last_link, link, links_item, links_of, task_act, task_acts, top_code}
 use Rattle.pc_tasks.specs.Known.{CanBeDrawn}
@@ -137,15 +134,15 @@ module _ (deck : Deck) (within : IsWithin Tasks deck) (none : HasNoTaskMisfit de
   -- the items that cards name are items
   parent-known : (item : ItemCard) (k : ℕ) → k < length deck.items → get_or deck.items k item ≡ item → (code : List ℕ) → item.parent ≡ Some code → IsSome (named_among items code)
   parent-known item k inside at code is =
-      known_unless (named_among items code) (λ lacks. none (told.unknown_item item.row code) (has.item (k, item, inside, at, plan.unknown_parent code is lacks refl)))
+      known_target deck Item item.row code (λ fault unknown. none fault (has.item (k, item, inside, at, plan.unknown_parent code is unknown)))
 
   -- an activity that is drawn has no fault
   act-sound : (act : ActCard) → IsSome (named_among (event_codes (arrows_deck deck)) act.from) → IsSome (named_among (event_codes (arrows_deck deck)) act.to)
       → IsSome (named_among (item_codes (arrows_deck deck)) act.item) → act.from ≢ act.to → HasOrderedEstimates act → act.crash ≤ act.normal
       → (fault : Fault) → HasActFault (arrows_deck deck) act fault → ⊥
-  act-sound act from to item apart ordered fits fault (plan.unknown_from lacks is) = never _ from lacks
-  act-sound act from to item apart ordered fits fault (plan.unknown_to known lacks is) = never _ to lacks
-  act-sound act from to item apart ordered fits fault (plan.HasActFault.unknown_item lacks is) = never _ item lacks
+  act-sound act from to item apart ordered fits fault (plan.unknown_from is) = never _ from is.missing
+  act-sound act from to item apart ordered fits fault (plan.unknown_to known is) = never _ to is.missing
+  act-sound act from to item apart ordered fits fault (plan.unknown_item is) = never _ item is.missing
   act-sound act from to item apart ordered fits fault (plan.same_events same is) = apart same
   act-sound act from to item apart ordered fits fault (plan.unordered not is) = not ordered
   act-sound act from to item apart ordered fits fault (plan.crash_above above is) = omega (arith, above, fits)
@@ -166,7 +163,7 @@ module _ (deck : Deck) (within : IsWithin Tasks deck) (none : HasNoTaskMisfit de
   task-sound i task inside faultless =
       act-sound (task_act i task)
       (found _ _ (events.named-begin deck can i inside)) (found _ _ (events.named-end deck can i inside))
-      (item-found task.item (known_unless (named_among items task.item) (λ m. faultless _ (has.HasTaskFault.unknown_item m refl))))
+      (item-found task.item (known_target deck Item task.row task.item (λ fault is. faultless fault (has.unknown_item is))))
       (λ same. omega (arith, drawn_code-letter 98 101 i i same))
       (record { optimistic = order.0; pessimistic = order.1 })
       (not_below task.normal task.crash (λ above. faultless _ (has.HasTaskFault.crash_above above refl)))
@@ -238,48 +235,36 @@ module _ (deck : Deck) (within : IsWithin Tasks deck) (none : HasNoTaskMisfit de
   -- ---- the other cards
 
   project-sound : (fault : Fault) → HasProjectFault (arrows_deck deck) (arrows_deck deck).project fault → ⊥
-  project-sound fault (plan.unknown_start m is) = never _ (found _ _ (events.named-start deck can)) m
-  project-sound fault (plan.unknown_end known m is) = never _ (found _ _ (events.named-last deck can)) m
+  project-sound fault (plan.unknown_start is) = never _ (found _ _ (events.named-start deck can)) is.missing
+  project-sound fault (plan.unknown_end known is) = never _ (found _ _ (events.named-last deck can)) is.missing
   project-sound fault (plan.same_ends same is) = can.apart same
 
   figure-sound : (fault : Fault) → HasFigureFault (arrows_deck deck) fault → ⊥
   figure-sound fault (plan.account any) =
-      none fault (has.account (any_of (λ (card : AcctCard). HasAccountFault (arrows_deck deck) card fault) (λ card. HasAccountFault deck card fault) deck.accounts (λ card h. over card h) any))
-    where
-      over : (card : AcctCard) → HasAccountFault (arrows_deck deck) card fault → HasAccountFault deck card fault
-      over card (plan.HasAccountFault.unknown_item m is) = plan.HasAccountFault.unknown_item (item-missing card.item m) is
+      none fault (has.account (any_of (λ (card : AcctCard). IsUnknown (arrows_deck deck) Item card.row card.item fault) (λ card. IsUnknown deck Item card.row card.item fault) deck.accounts
+      (λ card is. record { missing = item-missing card.item is.missing; told = is.told }) any))
   figure-sound fault (plan.charge any) =
-      none fault (has.charge (any_of (λ (card : MoneyCard). HasMoneyFault (arrows_deck deck) card fault) (λ card. HasMoneyFault deck card fault) deck.charges (λ card h. over card h) any))
-    where
-      over : (card : MoneyCard) → HasMoneyFault (arrows_deck deck) card fault → HasMoneyFault deck card fault
-      over card (plan.unknown_account m is) = plan.unknown_account m is
+      none fault (has.charge (any_of (λ (card : MoneyCard). IsUnknown (arrows_deck deck) Account card.row card.account fault) (λ card. IsUnknown deck Account card.row card.account fault) deck.charges
+      (λ card is. record { missing = is.missing; told = is.told }) any))
   figure-sound fault (plan.togo any) =
-      none fault (has.togo (any_of (λ (card : MoneyCard). HasMoneyFault (arrows_deck deck) card fault) (λ card. HasMoneyFault deck card fault) deck.togos (λ card h. over card h) any))
-    where
-      over : (card : MoneyCard) → HasMoneyFault (arrows_deck deck) card fault → HasMoneyFault deck card fault
-      over card (plan.unknown_account m is) = plan.unknown_account m is
+      none fault (has.togo (any_of (λ (card : MoneyCard). IsUnknown (arrows_deck deck) Account card.row card.account fault) (λ card. IsUnknown deck Account card.row card.account fault) deck.togos
+      (λ card is. record { missing = is.missing; told = is.told }) any))
   figure-sound fault (plan.status any) =
-      none fault (has.status (any_of (λ (card : StatusCard). HasStatusFault (arrows_deck deck) card fault)
-      (λ card. has.HasNameFault deck card.row card.activity fault) deck.statuses (λ card h. over card h) any))
-    where
-      over : (card : StatusCard) → HasStatusFault (arrows_deck deck) card fault → has.HasNameFault deck card.row card.activity fault
-      over card (plan.HasStatusFault.unknown_activity m is) = has.HasNameFault.unknown_task (act-missing card.activity m) is
+      none fault (has.status (any_of (λ (card : StatusCard). IsUnknown (arrows_deck deck) Activity card.row card.activity fault) (λ card. IsUnknown deck Task card.row card.activity fault) deck.statuses
+      (λ card is. record { missing = act-missing card.activity is.missing; told = is.told }) any))
 
   listed-sound : (fault : Fault) → (Any (λ card. HasItemFault (arrows_deck deck) card fault) (arrows_deck deck).items → ⊥) → HasListedFault (arrows_deck deck) fault → ⊥
   listed-sound fault items_sound (plan.item any) = items_sound any
   listed-sound fault items_sound (plan.act any) = none_of (λ (act : ActCard). HasActFault (arrows_deck deck) act fault) (arrows_deck deck).acts (λ k d inside h. acts-sound k d inside fault h) any
   listed-sound fault items_sound (plan.piece any) =
-      none fault (has.piece (any_of (λ (card : PieceCard). HasPieceCardFault (arrows_deck deck) card fault)
-      (λ card. has.HasNameFault deck card.row card.activity fault) deck.pieces (λ card h. over card h) any))
-    where
-      over : (card : PieceCard) → HasPieceCardFault (arrows_deck deck) card fault → has.HasNameFault deck card.row card.activity fault
-      over card (plan.HasPieceCardFault.unknown_activity m is) = has.HasNameFault.unknown_task (act-missing card.activity m) is
+      none fault (has.piece (any_of (λ (card : PieceCard). IsUnknown (arrows_deck deck) Activity card.row card.activity fault) (λ card. IsUnknown deck Task card.row card.activity fault) deck.pieces
+      (λ card is. record { missing = act-missing card.activity is.missing; told = is.told }) any))
   listed-sound fault items_sound (plan.load any) =
-      none fault (has.load (any_of (λ (card : LoadCard). HasLoadFault (arrows_deck deck) card fault) (λ card. has.HasTaskLoadFault deck card fault) deck.loads (λ card h. over card h) any))
+      none fault (has.load (any_of (λ (card : LoadCard). HasLoadFault (arrows_deck deck) Activity card fault) (λ card. HasLoadFault deck Task card fault) deck.loads (λ card h. over card h) any))
     where
-      over : (card : LoadCard) → HasLoadFault (arrows_deck deck) card fault → has.HasTaskLoadFault deck card fault
-      over card (plan.HasLoadFault.unknown_activity m is) = has.HasTaskLoadFault.unknown_task (act-missing card.activity m) is
-      over card (plan.unknown_resource m is) = has.HasTaskLoadFault.unknown_resource m is
+      over : (card : LoadCard) → HasLoadFault (arrows_deck deck) Activity card fault → HasLoadFault deck Task card fault
+      over card (plan.unknown_work is) = plan.unknown_work (record { missing = act-missing card.activity is.missing; told = is.told })
+      over card (plan.unknown_resource is) = plan.unknown_resource (record { missing = is.missing; told = is.told })
   listed-sound fault items_sound (plan.figure h) = figure-sound fault h
 
   -- ---- the items
@@ -322,7 +307,7 @@ module _ (deck : Deck) (within : IsWithin Tasks deck) (none : HasNoTaskMisfit de
 
     -- no item has a parent that is none
     item-sound : (fault : Fault) (item : ItemCard) → ((code : List ℕ) → item.parent ≡ Some code → IsSome (named_among items code)) → HasItemFault (arrows_deck deck) item fault → ⊥
-    item-sound fault item known (plan.unknown_parent code is m told) = never _ (item-found code (known code is)) m
+    item-sound fault item known (plan.unknown_parent code is unknown) = never _ (item-found code (known code is)) unknown.missing
 
     links-parent : (code : List ℕ) → (links_item deck).parent ≡ Some code → IsSome (named_among items code)
     links-parent code is =

@@ -1,17 +1,17 @@
 -- A deck of tasks does not both make arrows and be refused, it makes one project, and each refusal can be told.
-use Rattle.std.proofs.Common.{◌≡◌, ℕ, List, length, refl, ap, arith}
+use Rattle.std.proofs.Common.{◌≡◌, length, refl, ap, arith}
 use Rattle.pc_deck.specs.Deck.{Deck}
 use Rattle.pc_deck.specs.declared.kinds.after.AfterCard.{AfterCard}
-use Rattle.pc_deck.specs.declared.kinds.load.LoadCard.{LoadCard}
 use Rattle.pc_deck.specs.declared.kinds.task.TaskCard.{TaskCard}
 use Rattle.pc_faults.specs.inside.FaultText.{IsTold}
 use Rattle.pc_faults.specs.declared.fault.Fault.{Fault as ADeckFault}
+use Rattle.pc_faults.specs.declared.target.Target.TheVariants.{Item, Account, Task}
 use Rattle.pc_project.specs.Project.{Project, rows_of}
 use Rattle.pc_project.proofs.OneProjectLaws.{one_project_of}
-use Rattle.pc_project.proofs.RefusalLaws.{makes_not_refused, no_tree, told, told_of-account, told_of-item, told_of-money, told_of-refused, told_of-tree}
+use Rattle.pc_project.proofs.RefusalLaws.{makes_not_refused, no_tree, told, told_of-item, told_of-load, told_of-refused, told_of-tree, told_of-unknown}
 use Rattle.pc_tasks.specs.Drawn.{arrows_deck}
 use Rattle.pc_tasks.specs.Misfit as has
-use Rattle.pc_tasks.specs.Misfit.{HasAfterFault, HasTaskLoadFault, HasTaskMisfit, HasNameFault, HasTaskFault}
+use Rattle.pc_tasks.specs.Misfit.{HasAfterFault, HasTaskMisfit, HasTaskFault}
 use Rattle.pc_tasks.specs.Refusal.{IsTasksRefusedWith, MakesArrows, of_cards, of_cycle, of_none, of_plan, of_top, of_tree}
 use Rattle.pc_tasks.specs.Text.{IsDrawnProject}
 
@@ -29,33 +29,26 @@ pub one_drawn_project : (deck : Deck) (project other : Project) → IsDrawnProje
 one_drawn_project deck project other is also = one_project_of (arrows_deck deck) is.makes.plan.once project other is.is also.is
 
 told_of-task : (deck : Deck) (card : TaskCard) (fault : ADeckFault) → HasTaskFault deck card fault → IsTold fault
-told_of-task deck card fault (has.unknown_item none is) = told fault _ is refl
+told_of-task deck card fault (has.unknown_item is) = told_of-unknown deck Item _ _ fault is
 told_of-task deck card fault (has.unordered not is) = told fault _ is refl
 told_of-task deck card fault (has.crash_above above is) = told fault _ is refl
 
 told_of-after : (deck : Deck) (card : AfterCard) (fault : ADeckFault) → HasAfterFault deck card fault → IsTold fault
-told_of-after deck card fault (has.HasAfterFault.unknown_task none is) = told fault _ is refl
-told_of-after deck card fault (has.unknown_before known none is) = told fault _ is refl
+told_of-after deck card fault (has.unknown_task is) = told_of-unknown deck Task _ _ fault is
+told_of-after deck card fault (has.unknown_before known is) = told_of-unknown deck Task _ _ fault is
 told_of-after deck card fault (has.same_task same is) = told fault _ is refl
-
-told_of-name : (deck : Deck) (row : ℕ) (code : List ℕ) (fault : ADeckFault) → HasNameFault deck row code fault → IsTold fault
-told_of-name deck row code fault (has.HasNameFault.unknown_task none is) = told fault _ is refl
-
-told_of-load : (deck : Deck) (card : LoadCard) (fault : ADeckFault) → HasTaskLoadFault deck card fault → IsTold fault
-told_of-load deck card fault (has.HasTaskLoadFault.unknown_task none is) = told fault _ is refl
-told_of-load deck card fault (has.unknown_resource none is) = told fault _ is refl
 
 told_of-misfit : (deck : Deck) (fault : ADeckFault) → HasTaskMisfit deck fault → IsTold fault
 told_of-misfit deck fault (has.ends here) = told fault _ here.1 refl
 told_of-misfit deck fault (has.item (k, card, within, at, here)) = told_of-item deck card fault here
 told_of-misfit deck fault (has.task (k, card, within, at, here)) = told_of-task deck card fault here
 told_of-misfit deck fault (has.after (k, card, within, at, here)) = told_of-after deck card fault here
-told_of-misfit deck fault (has.piece (k, card, within, at, here)) = told_of-name deck card.row card.activity fault here
-told_of-misfit deck fault (has.account (k, card, within, at, here)) = told_of-account deck card fault here
-told_of-misfit deck fault (has.charge (k, card, within, at, here)) = told_of-money deck card fault here
-told_of-misfit deck fault (has.togo (k, card, within, at, here)) = told_of-money deck card fault here
-told_of-misfit deck fault (has.status (k, card, within, at, here)) = told_of-name deck card.row card.activity fault here
-told_of-misfit deck fault (has.load (k, card, within, at, here)) = told_of-load deck card fault here
+told_of-misfit deck fault (has.piece (k, card, within, at, here)) = told_of-unknown deck Task _ _ fault here
+told_of-misfit deck fault (has.account (k, card, within, at, here)) = told_of-unknown deck Item _ _ fault here
+told_of-misfit deck fault (has.charge (k, card, within, at, here)) = told_of-unknown deck Account _ _ fault here
+told_of-misfit deck fault (has.togo (k, card, within, at, here)) = told_of-unknown deck Account _ _ fault here
+told_of-misfit deck fault (has.status (k, card, within, at, here)) = told_of-unknown deck Task _ _ fault here
+told_of-misfit deck fault (has.load (k, card, within, at, here)) = told_of-load deck Task card fault here
 
 -- the fault with which a deck of tasks is refused has a line
 pub told_of-refused_tasks : (deck : Deck) (fault : ADeckFault) → IsTasksRefusedWith deck fault → IsTold fault

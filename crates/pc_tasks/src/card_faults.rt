@@ -2,14 +2,15 @@
 ghost use Rattle.std.specs.Prelude.{◌≡◌, ◌↔◌, None, IsTrue, IfOk, IfErr, OnOk};
 ghost use Rattle.std.specs.List.{Any};
 ghost use Rattle.pc_deck.specs.Deck.{Deck};
+ghost use Rattle.pc_deck.specs.Target.{IsUnknown};
 ghost use Rattle.pc_faults.specs.First.{IsFirstFault};
 ghost use Rattle.pc_faults.specs.declared.fault.Fault.{Fault};
+ghost use Rattle.pc_faults.specs.declared.target.Target.TheVariants.{Item, Account, Task};
 ghost use Rattle.pc_faults.specs.inside.First.{IsFirstIn, Refuses};
 ghost use Rattle.pc_tasks.specs.Lists.{after_row, afters_in};
 ghost use Rattle.pc_tasks.specs.Misfit.{
   HasAfterFault,
   HasEndsFault,
-  HasNameFault,
   HasNoTaskMisfit,
   HasOrderedTaskEstimates,
   HasTaskMisfit,
@@ -19,7 +20,7 @@ use crate::network::AfterRow;
 use pc_deck::{
     AcctCard, AfterCard, ItemCard, LoadCard, MoneyCard, PieceCard, StatusCard, TaskCard, TaskCards,
 };
-use pc_faults::{DeckError, Fault, earliest};
+use pc_faults::{DeckError, Fault, Target, earliest};
 use pc_text::Code;
 use std::alloc::{AllocError, Global};
 
@@ -95,12 +96,8 @@ fn after_row(cards: &TaskCards, card: &AfterCard) -> Result<AfterRow, Fault>
     ensures faultless { OnOk result ((fault : Fault) → HasAfterFault cards.now card.now fault → ⊥) }
     ensures first { IfErr result (IsFirstFault (HasAfterFault cards.now card.now)) }
 {
-    let Some(task) = cards.task_named(&card.task) else {
-        return Err(Fault::unknown_activity(card.row, card.task));
-    };
-    let Some(before) = cards.task_named(&card.before) else {
-        return Err(Fault::unknown_activity(card.row, card.before));
-    };
+    let task = cards.find(Target::Task, card.row, card.task)?;
+    let before = cards.find(Target::Task, card.row, card.before)?;
     if card.task == card.before {
         return Err(Fault::one_event(card.row, card.task));
     }
@@ -139,13 +136,13 @@ fn ends_fault(cards: &TaskCards) -> Option<Fault>
     }
 }
 
-/// Returns the fault of a card that names a task, if there is no such task.
-fn name_fault(cards: &TaskCards, row: u32, code: Code) -> Option<Fault>
-    ensures { IsFirstIn (HasNameFault cards.now row code) result }
+/// Returns the fault of a card that names what is not there.
+fn unknown_fault(cards: &TaskCards, target: Target, row: u32, code: Code) -> Option<Fault>
+    ensures { IsFirstIn (IsUnknown cards.now target row code) result }
 {
-    match cards.task_named(&code) {
-        Some(_) => None,
-        None => Some(Fault::unknown_activity(row, code)),
+    match cards.find(target, row, code) {
+        Ok(_) => None,
+        Err(fault) => Some(fault),
     }
 }
 
@@ -158,10 +155,7 @@ impl Faulty for ItemCard {
         let Some(code) = self.parent else {
             return None;
         };
-        match cards.item_named(&code) {
-            Some(_) => None,
-            None => Some(Fault::unknown_item(self.row, code)),
-        }
+        unknown_fault(cards, Target::Item, self.row, code)
     }
 }
 
@@ -171,9 +165,9 @@ impl Faulty for TaskCard {
     ghost HasFault = { HasTaskFault };
 
     fn fault(&self, cards: &TaskCards) -> Option<Fault> {
-        let Some(_) = cards.item_named(&self.item) else {
-            return Some(Fault::unknown_item(self.row, self.item));
-        };
+        if let Err(fault) = cards.find(Target::Item, self.row, self.item) {
+            return Some(fault);
+        }
         if !is_in_order(self) {
             return Some(Fault::estimates_disorder(self.row));
         }
@@ -185,60 +179,47 @@ impl Faulty for TaskCard {
 }
 
 impl Faulty for PieceCard {
-    ghost HasFault = { λ deck card. HasNameFault deck card.row card.activity };
+    ghost HasFault = { λ deck card. IsUnknown deck Task card.row card.activity };
 
     fn fault(&self, cards: &TaskCards) -> Option<Fault> {
-        name_fault(cards, self.row, self.activity)
+        unknown_fault(cards, Target::Task, self.row, self.activity)
     }
 }
 
 impl Faulty for StatusCard {
-    ghost HasFault = { λ deck card. HasNameFault deck card.row card.activity };
+    ghost HasFault = { λ deck card. IsUnknown deck Task card.row card.activity };
 
     fn fault(&self, cards: &TaskCards) -> Option<Fault> {
-        name_fault(cards, self.row, self.activity)
+        unknown_fault(cards, Target::Task, self.row, self.activity)
     }
 }
 
 impl Faulty for AcctCard {
-    ghost use Rattle.pc_project.specs.Misfit.{HasAccountFault};
-
-    ghost HasFault = { HasAccountFault };
+    ghost HasFault = { λ deck card. IsUnknown deck Item card.row card.item };
 
     fn fault(&self, cards: &TaskCards) -> Option<Fault> {
-        match cards.item_named(&self.item) {
-            Some(_) => None,
-            None => Some(Fault::unknown_item(self.row, self.item)),
-        }
+        unknown_fault(cards, Target::Item, self.row, self.item)
     }
 }
 
 impl Faulty for MoneyCard {
-    ghost use Rattle.pc_project.specs.Misfit.{HasMoneyFault};
-
-    ghost HasFault = { HasMoneyFault };
+    ghost HasFault = { λ deck card. IsUnknown deck Account card.row card.account };
 
     fn fault(&self, cards: &TaskCards) -> Option<Fault> {
-        match cards.account_named(&self.account) {
-            Some(_) => None,
-            None => Some(Fault::unknown_account(self.row, self.account)),
-        }
+        unknown_fault(cards, Target::Account, self.row, self.account)
     }
 }
 
 impl Faulty for LoadCard {
-    ghost use Rattle.pc_tasks.specs.Misfit.{HasTaskLoadFault};
+    ghost use Rattle.pc_project.specs.Misfit.{HasLoadFault};
 
-    ghost HasFault = { HasTaskLoadFault };
+    ghost HasFault = { λ deck card. HasLoadFault deck Task card };
 
     fn fault(&self, cards: &TaskCards) -> Option<Fault> {
-        let Some(_) = cards.task_named(&self.activity) else {
-            return Some(Fault::unknown_activity(self.row, self.activity));
-        };
-        let Some(_) = cards.resource_named(&self.resource) else {
-            return Some(Fault::unknown_resource(self.row, self.resource));
-        };
-        None
+        if let Err(fault) = cards.find(Target::Task, self.row, self.activity) {
+            return Some(fault);
+        }
+        unknown_fault(cards, Target::Resource, self.row, self.resource)
     }
 }
 

@@ -9,7 +9,7 @@ ghost use Rattle.pc_cards.specs.declared.sort.Sort.TheVariants.{Tasks};
 ghost use Rattle.pc_deck.specs.Within.{IsWithin};
 
 use pc_deck::{ItemCard, TaskCards};
-use pc_faults::DeckError;
+use pc_faults::{DeckError, Target};
 use pc_project::tree_between;
 use pc_wbs::{ItemRow, Tree};
 use std::alloc::{AllocError, Global};
@@ -46,7 +46,7 @@ fn item_row(cards: &TaskCards, item: &ItemCard) -> ItemRow
     let Some(code) = item.parent else {
         return ItemRow { parent: None };
     };
-    let parent = match cards.item_named(&code) {
+    let parent = match cards.named(Target::Item, &code) {
         Some(number) => number,
         None => cards.items().len() as u32,
     };

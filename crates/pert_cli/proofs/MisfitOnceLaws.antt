@@ -5,14 +5,16 @@ use Rattle.pc_cards.specs.Cards.{Numbered}
 use Rattle.pc_deck.specs.Deck.{Deck, event_codes, list_of, named_among, task_codes}
 use Rattle.pc_deck.specs.Kinds.{CardOf, card_of}
 use Rattle.pc_deck.specs.Says.{Says}
+use Rattle.pc_deck.specs.Target.{IsUnknown}
 use Rattle.pc_faults.specs.Faults as fault
 use Rattle.pc_faults.specs.declared.fault.Detail.{Detail}
 use Rattle.pc_faults.specs.declared.fault.Detail.TheVariants.{Name, Plain}
 use Rattle.pc_faults.specs.declared.fault.Fault.{Fault}
 use Rattle.pc_faults.specs.declared.kind.Kind.{Kind}
 use Rattle.pc_faults.specs.declared.kind.Kind.TheVariants.{Project, Wbs, Act, Task, After, Piece, Acct, Charge, ToGo, Status, Load}
+use Rattle.pc_faults.specs.declared.target.Target.TheVariants as target
 use Rattle.pc_project.specs.Misfit as plan
-use Rattle.pc_project.specs.Misfit.{HasAccountFault, HasActFault, HasItemFault, HasLoadFault, HasMoneyFault, HasPieceCardFault, HasProjectFault, HasStatusFault}
+use Rattle.pc_project.specs.Misfit.{HasActFault, HasItemFault, HasLoadFault, HasProjectFault}
 use Rattle.pc_project.specs.PackageFaults.{HasLeafFault, StandsOnBranch, of_account, of_act}
 use Rattle.pc_tasks.specs.Misfit as tasks
 use Rattle.pert_cli.proofs.CardOnceLaws.{Rises}
@@ -45,12 +47,12 @@ abbrev Faulty : Deck → (kind : Kind) → CardOf kind → Fault → Type 0
 Faulty deck Project card f = HasProjectFault deck card f
 Faulty deck Wbs card f = HasItemFault deck card f
 Faulty deck Act card f = HasActFault deck card f
-Faulty deck Piece card f = HasPieceCardFault deck card f
-Faulty deck Load card f = HasLoadFault deck card f
-Faulty deck Acct card f = HasAccountFault deck card f
-Faulty deck Charge card f = HasMoneyFault deck card f
-Faulty deck ToGo card f = HasMoneyFault deck card f
-Faulty deck Status card f = HasStatusFault deck card f
+Faulty deck Piece card f = IsUnknown deck target.Activity card.row card.activity f
+Faulty deck Load card f = HasLoadFault deck target.Activity card f
+Faulty deck Acct card f = IsUnknown deck target.Item card.row card.item f
+Faulty deck Charge card f = IsUnknown deck target.Account card.row card.account f
+Faulty deck ToGo card f = IsUnknown deck target.Account card.row card.account f
+Faulty deck Status card f = IsUnknown deck target.Activity card.row card.activity f
 Faulty deck other card f = ⊥
 
 -- the detail of each, by its number
@@ -75,28 +77,28 @@ abbrev told : Deck → Kind → Numbered → ℕ → Fault
 told deck kind c n = at_row c.0 (detail_of deck kind (card_of kind c.0 c.1)) n
 
 told_is : (deck : Deck) (kind : Kind) (c : Numbered) (f : Fault) → Faulty deck kind (card_of kind c.0 c.1) f → f ≡ told deck kind c f.number
-told_is deck Project c f (plan.unknown_start none is) =
-    told_by c.0 (detail_of deck Project (card_of Project c.0 c.1)) f _ is (ap (λ (code : List ℕ). fault.unknown_event c.0 code) (first_unknown _ _ _ none))
-told_is deck Project c f (plan.unknown_end known none is) =
-    told_by c.0 (detail_of deck Project (card_of Project c.0 c.1)) f _ is (ap (λ (code : List ℕ). fault.unknown_event c.0 code) (second_unknown _ _ _ known))
+told_is deck Project c f (plan.unknown_start is) =
+    told_by c.0 (detail_of deck Project (card_of Project c.0 c.1)) f _ is.told (ap (λ (code : List ℕ). fault.unknown_name target.Event c.0 code) (first_unknown _ _ _ is.missing))
+told_is deck Project c f (plan.unknown_end known is) =
+    told_by c.0 (detail_of deck Project (card_of Project c.0 c.1)) f _ is.told (ap (λ (code : List ℕ). fault.unknown_name target.Event c.0 code) (second_unknown _ _ _ known))
 told_is deck Project c f (plan.same_ends same is) = told_by c.0 (detail_of deck Project (card_of Project c.0 c.1)) f _ is refl
-told_is deck Wbs c f (plan.unknown_parent code there none is) =
-    told_by c.0 (detail_of deck Wbs (card_of Wbs c.0 c.1)) f _ is (ap (λ (o : Option (List ℕ)). fault.unknown_item c.0 (unwrap_or o [])) (sym there))
-told_is deck Act c f (plan.unknown_from none is) =
-    told_by c.0 (detail_of deck Act (card_of Act c.0 c.1)) f _ is (ap (λ (code : List ℕ). fault.unknown_event c.0 code) (first_unknown _ _ _ none))
-told_is deck Act c f (plan.unknown_to known none is) =
-    told_by c.0 (detail_of deck Act (card_of Act c.0 c.1)) f _ is (ap (λ (code : List ℕ). fault.unknown_event c.0 code) (second_unknown _ _ _ known))
-told_is deck Act c f (plan.HasActFault.unknown_item none is) = told_by c.0 (detail_of deck Act (card_of Act c.0 c.1)) f _ is refl
+told_is deck Wbs c f (plan.unknown_parent code there is) =
+    told_by c.0 (detail_of deck Wbs (card_of Wbs c.0 c.1)) f _ is.told (ap (λ (o : Option (List ℕ)). fault.unknown_name target.Item c.0 (unwrap_or o [])) (sym there))
+told_is deck Act c f (plan.unknown_from is) =
+    told_by c.0 (detail_of deck Act (card_of Act c.0 c.1)) f _ is.told (ap (λ (code : List ℕ). fault.unknown_name target.Event c.0 code) (first_unknown _ _ _ is.missing))
+told_is deck Act c f (plan.unknown_to known is) =
+    told_by c.0 (detail_of deck Act (card_of Act c.0 c.1)) f _ is.told (ap (λ (code : List ℕ). fault.unknown_name target.Event c.0 code) (second_unknown _ _ _ known))
+told_is deck Act c f (plan.unknown_item is) = told_by c.0 (detail_of deck Act (card_of Act c.0 c.1)) f _ is.told refl
 told_is deck Act c f (plan.same_events same is) = told_by c.0 (detail_of deck Act (card_of Act c.0 c.1)) f _ is refl
 told_is deck Act c f (plan.unordered not is) = told_by c.0 (detail_of deck Act (card_of Act c.0 c.1)) f _ is refl
 told_is deck Act c f (plan.crash_above above is) = told_by c.0 (detail_of deck Act (card_of Act c.0 c.1)) f _ is refl
-told_is deck Piece c f (plan.HasPieceCardFault.unknown_activity none is) = told_by c.0 (detail_of deck Piece (card_of Piece c.0 c.1)) f _ is refl
-told_is deck Load c f (plan.HasLoadFault.unknown_activity none is) = told_by c.0 (detail_of deck Load (card_of Load c.0 c.1)) f _ is refl
-told_is deck Load c f (plan.HasLoadFault.unknown_resource none is) = told_by c.0 (detail_of deck Load (card_of Load c.0 c.1)) f _ is refl
-told_is deck Acct c f (plan.HasAccountFault.unknown_item none is) = told_by c.0 (detail_of deck Acct (card_of Acct c.0 c.1)) f _ is refl
-told_is deck Charge c f (plan.unknown_account none is) = told_by c.0 (detail_of deck Charge (card_of Charge c.0 c.1)) f _ is refl
-told_is deck ToGo c f (plan.unknown_account none is) = told_by c.0 (detail_of deck ToGo (card_of ToGo c.0 c.1)) f _ is refl
-told_is deck Status c f (plan.HasStatusFault.unknown_activity none is) = told_by c.0 (detail_of deck Status (card_of Status c.0 c.1)) f _ is refl
+told_is deck Piece c f is = told_by c.0 (detail_of deck Piece (card_of Piece c.0 c.1)) f _ is.told refl
+told_is deck Load c f (plan.unknown_work is) = told_by c.0 (detail_of deck Load (card_of Load c.0 c.1)) f _ is.told refl
+told_is deck Load c f (plan.unknown_resource is) = told_by c.0 (detail_of deck Load (card_of Load c.0 c.1)) f _ is.told refl
+told_is deck Acct c f is = told_by c.0 (detail_of deck Acct (card_of Acct c.0 c.1)) f _ is.told refl
+told_is deck Charge c f is = told_by c.0 (detail_of deck Charge (card_of Charge c.0 c.1)) f _ is.told refl
+told_is deck ToGo c f is = told_by c.0 (detail_of deck ToGo (card_of ToGo c.0 c.1)) f _ is.told refl
+told_is deck Status c f is = told_by c.0 (detail_of deck Status (card_of Status c.0 c.1)) f _ is.told refl
 told_is deck other c f h = absurd (let h' = h in h')
 
 at_own_row : (deck : Deck) (kind : Kind) (c : Numbered) (f : Fault) → Faulty deck kind (card_of kind c.0 c.1) f → f.row ≡ c.0
@@ -131,12 +133,12 @@ TaskFaulty deck Project card f = (card.start ≡ card.end) × (f ≡ fault.one_e
 TaskFaulty deck Wbs card f = HasItemFault deck card f
 TaskFaulty deck Task card f = tasks.HasTaskFault deck card f
 TaskFaulty deck After card f = tasks.HasAfterFault deck card f
-TaskFaulty deck Piece card f = tasks.HasNameFault deck card.row card.activity f
-TaskFaulty deck Load card f = tasks.HasTaskLoadFault deck card f
-TaskFaulty deck Acct card f = HasAccountFault deck card f
-TaskFaulty deck Charge card f = HasMoneyFault deck card f
-TaskFaulty deck ToGo card f = HasMoneyFault deck card f
-TaskFaulty deck Status card f = tasks.HasNameFault deck card.row card.activity f
+TaskFaulty deck Piece card f = IsUnknown deck target.Task card.row card.activity f
+TaskFaulty deck Load card f = HasLoadFault deck target.Task card f
+TaskFaulty deck Acct card f = IsUnknown deck target.Item card.row card.item f
+TaskFaulty deck Charge card f = IsUnknown deck target.Account card.row card.account f
+TaskFaulty deck ToGo card f = IsUnknown deck target.Account card.row card.account f
+TaskFaulty deck Status card f = IsUnknown deck target.Task card.row card.activity f
 TaskFaulty deck other card f = ⊥
 
 abbrev task_detail : Deck → (kind : Kind) → CardOf kind → ℕ → Detail
@@ -158,23 +160,23 @@ task_told deck kind c n = at_row c.0 (task_detail deck kind (card_of kind c.0 c.
 
 task_is : (deck : Deck) (kind : Kind) (c : Numbered) (f : Fault) → TaskFaulty deck kind (card_of kind c.0 c.1) f → f ≡ task_told deck kind c f.number
 task_is deck Project c f h = told_by c.0 (task_detail deck Project (card_of Project c.0 c.1)) f _ h.1 refl
-task_is deck Wbs c f (plan.unknown_parent code there none is) =
-    told_by c.0 (task_detail deck Wbs (card_of Wbs c.0 c.1)) f _ is (ap (λ (o : Option (List ℕ)). fault.unknown_item c.0 (unwrap_or o [])) (sym there))
-task_is deck Task c f (tasks.HasTaskFault.unknown_item none is) = told_by c.0 (task_detail deck Task (card_of Task c.0 c.1)) f _ is refl
+task_is deck Wbs c f (plan.unknown_parent code there is) =
+    told_by c.0 (task_detail deck Wbs (card_of Wbs c.0 c.1)) f _ is.told (ap (λ (o : Option (List ℕ)). fault.unknown_name target.Item c.0 (unwrap_or o [])) (sym there))
+task_is deck Task c f (tasks.unknown_item is) = told_by c.0 (task_detail deck Task (card_of Task c.0 c.1)) f _ is.told refl
 task_is deck Task c f (tasks.HasTaskFault.unordered not is) = told_by c.0 (task_detail deck Task (card_of Task c.0 c.1)) f _ is refl
 task_is deck Task c f (tasks.HasTaskFault.crash_above above is) = told_by c.0 (task_detail deck Task (card_of Task c.0 c.1)) f _ is refl
-task_is deck After c f (tasks.HasAfterFault.unknown_task none is) =
-    told_by c.0 (task_detail deck After (card_of After c.0 c.1)) f _ is (ap (λ (code : List ℕ). fault.unknown_activity c.0 code) (first_unknown _ _ _ none))
-task_is deck After c f (tasks.HasAfterFault.unknown_before known none is) =
-    told_by c.0 (task_detail deck After (card_of After c.0 c.1)) f _ is (ap (λ (code : List ℕ). fault.unknown_activity c.0 code) (second_unknown _ _ _ known))
+task_is deck After c f (tasks.unknown_task is) =
+    told_by c.0 (task_detail deck After (card_of After c.0 c.1)) f _ is.told (ap (λ (code : List ℕ). fault.unknown_name target.Task c.0 code) (first_unknown _ _ _ is.missing))
+task_is deck After c f (tasks.unknown_before known is) =
+    told_by c.0 (task_detail deck After (card_of After c.0 c.1)) f _ is.told (ap (λ (code : List ℕ). fault.unknown_name target.Task c.0 code) (second_unknown _ _ _ known))
 task_is deck After c f (tasks.HasAfterFault.same_task same is) = told_by c.0 (task_detail deck After (card_of After c.0 c.1)) f _ is refl
-task_is deck Piece c f (tasks.HasNameFault.unknown_task none is) = told_by c.0 (task_detail deck Piece (card_of Piece c.0 c.1)) f _ is refl
-task_is deck Load c f (tasks.HasTaskLoadFault.unknown_task none is) = told_by c.0 (task_detail deck Load (card_of Load c.0 c.1)) f _ is refl
-task_is deck Load c f (tasks.HasTaskLoadFault.unknown_resource none is) = told_by c.0 (task_detail deck Load (card_of Load c.0 c.1)) f _ is refl
-task_is deck Acct c f (plan.HasAccountFault.unknown_item none is) = told_by c.0 (task_detail deck Acct (card_of Acct c.0 c.1)) f _ is refl
-task_is deck Charge c f (plan.unknown_account none is) = told_by c.0 (task_detail deck Charge (card_of Charge c.0 c.1)) f _ is refl
-task_is deck ToGo c f (plan.unknown_account none is) = told_by c.0 (task_detail deck ToGo (card_of ToGo c.0 c.1)) f _ is refl
-task_is deck Status c f (tasks.HasNameFault.unknown_task none is) = told_by c.0 (task_detail deck Status (card_of Status c.0 c.1)) f _ is refl
+task_is deck Piece c f is = told_by c.0 (task_detail deck Piece (card_of Piece c.0 c.1)) f _ is.told refl
+task_is deck Load c f (plan.unknown_work is) = told_by c.0 (task_detail deck Load (card_of Load c.0 c.1)) f _ is.told refl
+task_is deck Load c f (plan.unknown_resource is) = told_by c.0 (task_detail deck Load (card_of Load c.0 c.1)) f _ is.told refl
+task_is deck Acct c f is = told_by c.0 (task_detail deck Acct (card_of Acct c.0 c.1)) f _ is.told refl
+task_is deck Charge c f is = told_by c.0 (task_detail deck Charge (card_of Charge c.0 c.1)) f _ is.told refl
+task_is deck ToGo c f is = told_by c.0 (task_detail deck ToGo (card_of ToGo c.0 c.1)) f _ is.told refl
+task_is deck Status c f is = told_by c.0 (task_detail deck Status (card_of Status c.0 c.1)) f _ is.told refl
 task_is deck other c f h = absurd (let h' = h in h')
 
 task_row : (deck : Deck) (kind : Kind) (c : Numbered) (f : Fault) → TaskFaulty deck kind (card_of kind c.0 c.1) f → f.row ≡ c.0

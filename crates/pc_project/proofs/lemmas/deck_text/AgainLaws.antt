@@ -11,7 +11,10 @@ use Rattle.pc_model.specs.declared.PieceRow.{PieceRow}
 use Rattle.pc_model.specs.declared.Term.{Term}
 use Rattle.pc_accounts.specs.status.Statuses.{IsReason}
 use Rattle.pc_wbs.specs.Climb.{IsLeaf, IsTree}
+use Rattle.pc_faults.specs.Faults.{unknown_name}
 use Rattle.pc_faults.specs.declared.fault.Fault.{Fault}
+use Rattle.pc_faults.specs.declared.target.Target.{Target}
+use Rattle.pc_faults.specs.declared.target.Target.TheVariants.{Event, Item, Account, Activity, Resource}
 use Rattle.pc_deck.specs.declared.kinds.acct.AcctCard.{AcctCard}
 use Rattle.pc_deck.specs.declared.kinds.act.ActCard.{ActCard}
 use Rattle.pc_deck.specs.declared.kinds.as_of.AsOfCard.{AsOfCard}
@@ -21,10 +24,10 @@ use Rattle.pc_deck.specs.declared.kinds.piece.PieceCard.{PieceCard}
 use Rattle.pc_deck.specs.declared.kinds.status.StatusCard.{StatusCard}
 use Rattle.pc_deck.specs.declared.kinds.terms.TermsCard.{TermsCard}
 use Rattle.pc_deck.specs.declared.kinds.wbs.ItemCard.{ItemCard}
-use Rattle.pc_deck.specs.Deck.{Deck, account_codes, act_codes, event_codes, item_codes, named_among, number_among, resource_codes}
+use Rattle.pc_deck.specs.Deck.{Deck, event_codes, item_codes, named_among, number_among}
+use Rattle.pc_deck.specs.Target.{IsUnknown, target_codes}
 use Rattle.pc_project.specs.DisorderFaults.{HasDisorder, IsDisorderAt, IsEarlyAsOf, as_of_in, of_as_of, of_status}
-use Rattle.pc_project.specs.Misfit.{HasAccountFault, HasActFault, HasFigureFault, HasItemFault, HasListedFault, HasLoadFault, HasMisfit}
-use Rattle.pc_project.specs.Misfit.{HasMoneyFault, HasPieceCardFault, HasProjectFault, HasStatusFault}
+use Rattle.pc_project.specs.Misfit.{HasActFault, HasFigureFault, HasItemFault, HasListedFault, HasLoadFault, HasMisfit, HasProjectFault}
 use Rattle.pc_project.specs.Misfit as has
 use Rattle.pc_project.specs.PackageFaults.{HasLeafFault, StandsOnBranch, of_account, of_act}
 use Rattle.pc_project.specs.PieceFaults.{HasFlaw, HasFlawAt, HasPieceFault, none_left, not_rising, one_too_many}
@@ -56,40 +59,36 @@ Any-fault Has xs (k, x, within, at, (fault, holds)) = (fault, (k, x, within, at,
 
 -- the lists of the first deck are those of the second
 module _ (a b : Deck) (same : SayTheSame a b) where
-  -- a code that is unknown in one deck is unknown in the other
-  no_event : (c d : List ℕ) → c ≡ d → named_among (event_codes a) c ≡ None → named_among (event_codes b) d ≡ None
-  no_event c d is none = (λ i. sym (same_events a b same) i d) ∙ ap (named_among (event_codes a)) (sym is) ∙ none
+  -- a name that is unknown in one deck is unknown in the other, if they find the same by it
+  unknown_again : (target : Target) → named_among (target_codes a target) ≡ named_among (target_codes b target) → (row other : ℕ) (c d : List ℕ) → c ≡ d → (fault : Fault) →
+      IsUnknown a target row c fault → IsUnknown b target other d (unknown_name target other d)
+  unknown_again target finds row other c d is fault unknown =
+      record { missing = (λ i. sym finds i d) ∙ ap (named_among (target_codes a target)) (sym is) ∙ unknown.missing; told = refl }
 
   an_event : (c d : List ℕ) → c ≡ d → IsSome (named_among (event_codes a) c) → IsSome (named_among (event_codes b) d)
   an_event c d is known = subst IsSome ((λ i. same_events a b same i c) ∙ ap (named_among (event_codes b)) is) known
 
-  no_item : (c d : List ℕ) → c ≡ d → named_among (item_codes a) c ≡ None → named_among (item_codes b) d ≡ None
-  no_item c d is none = (λ i. sym (same_items a b same) i d) ∙ ap (named_among (item_codes a)) (sym is) ∙ none
-
-  no_act : (c d : List ℕ) → c ≡ d → named_among (act_codes a) c ≡ None → named_among (act_codes b) d ≡ None
-  no_act c d is none = (λ i. sym (same_acts a b same) i d) ∙ ap (named_among (act_codes a)) (sym is) ∙ none
-
-  no_account : (c d : List ℕ) → c ≡ d → named_among (account_codes a) c ≡ None → named_among (account_codes b) d ≡ None
-  no_account c d is none = (λ i. sym (same_accounts a b same) i d) ∙ ap (named_among (account_codes a)) (sym is) ∙ none
-
-  no_resource : (c d : List ℕ) → c ≡ d → named_among (resource_codes a) c ≡ None → named_among (resource_codes b) d ≡ None
-  no_resource c d is none = (λ i. sym (same_resources a b same) i d) ∙ ap (named_among (resource_codes a)) (sym is) ∙ none
-
   project_fault : (fault : Fault) → HasProjectFault a a.project fault → Some-fault (HasProjectFault b b.project)
-  project_fault fault (has.unknown_start none is) = (_, has.unknown_start (no_event _ _ (ap (λ card. card.start) same.project) none) refl)
-  project_fault fault (has.unknown_end known none is) =
-      (_, has.unknown_end (an_event _ _ (ap (λ card. card.start) same.project) known) (no_event _ _ (ap (λ card. card.end) same.project) none) refl)
+  project_fault fault (has.unknown_start is) = (_, has.unknown_start (unknown_again Event (same_events a b same) _ _ _ _ (ap (λ card. card.start) same.project) fault is))
+  project_fault fault (has.unknown_end known is) = (
+    _,
+    has.unknown_end (an_event _ _ (ap (λ card. card.start) same.project) known)
+        (unknown_again Event (same_events a b same) _ _ _ _ (ap (λ card. card.end) same.project) fault is),
+  )
   project_fault fault (has.same_ends one is) = (_, has.same_ends (sym (ap (λ card. card.start) same.project) ∙ one ∙ ap (λ card. card.end) same.project) refl)
 
   item_fault : (x y : ItemCard) → item_said x ≡ item_said y → Some-fault (HasItemFault a x) → Some-fault (HasItemFault b y)
-  item_fault x y said (fault, has.unknown_parent code at none is) =
-      (_, has.unknown_parent code (sym (ap (λ card. card.parent) said) ∙ at) (no_item code code refl none) refl)
+  item_fault x y said (fault, has.unknown_parent code at is) =
+      (_, has.unknown_parent code (sym (ap (λ card. card.parent) said) ∙ at) (unknown_again Item (same_items a b same) _ _ _ _ refl fault is))
 
   act_fault : (x y : ActCard) → act_said x ≡ act_said y → Some-fault (HasActFault a x) → Some-fault (HasActFault b y)
-  act_fault x y said (fault, has.unknown_from none is) = (_, has.unknown_from (no_event _ _ (ap (λ card. card.from) said) none) refl)
-  act_fault x y said (fault, has.unknown_to known none is) =
-      (_, has.unknown_to (an_event _ _ (ap (λ card. card.from) said) known) (no_event _ _ (ap (λ card. card.to) said) none) refl)
-  act_fault x y said (fault, has.HasActFault.unknown_item none is) = (_, has.HasActFault.unknown_item (no_item _ _ (ap (λ card. card.item) said) none) refl)
+  act_fault x y said (fault, has.unknown_from is) = (_, has.unknown_from (unknown_again Event (same_events a b same) _ _ _ _ (ap (λ card. card.from) said) fault is))
+  act_fault x y said (fault, has.unknown_to known is) = (
+    _,
+    has.unknown_to (an_event _ _ (ap (λ card. card.from) said) known)
+        (unknown_again Event (same_events a b same) _ _ _ _ (ap (λ card. card.to) said) fault is),
+  )
+  act_fault x y said (fault, has.unknown_item is) = (_, has.unknown_item (unknown_again Item (same_items a b same) _ _ _ _ (ap (λ card. card.item) said) fault is))
   act_fault x y said (fault, has.same_events one is) = (_, has.same_events (sym (ap (λ card. card.from) said) ∙ one ∙ ap (λ card. card.to) said) refl)
   act_fault x y said (fault, has.unordered not is) = (
     _,
@@ -101,26 +100,10 @@ module _ (a b : Deck) (same : SayTheSame a b) where
   act_fault x y said (fault, has.crash_above above is) =
       (_, has.crash_above (omega (arith, above, ap (λ card. card.normal) said, ap (λ card. card.crash) said)) refl)
 
-  account_fault : (x y : AcctCard) → account_said x ≡ account_said y → Some-fault (HasAccountFault a x) → Some-fault (HasAccountFault b y)
-  account_fault x y said (fault, has.HasAccountFault.unknown_item none is) =
-      (_, has.HasAccountFault.unknown_item (no_item _ _ (ap (λ card. card.item) said) none) refl)
-
-  money_fault : (x y : MoneyCard) → money_said x ≡ money_said y → Some-fault (HasMoneyFault a x) → Some-fault (HasMoneyFault b y)
-  money_fault x y said (fault, has.unknown_account none is) = (_, has.unknown_account (no_account _ _ (ap (λ card. card.account) said) none) refl)
-
-  status_fault : (x y : StatusCard) → status_said x ≡ status_said y → Some-fault (HasStatusFault a x) → Some-fault (HasStatusFault b y)
-  status_fault x y said (fault, has.HasStatusFault.unknown_activity none is) =
-      (_, has.HasStatusFault.unknown_activity (no_act _ _ (ap (λ card. card.activity) said) none) refl)
-
-  piece_fault : (x y : PieceCard) → piece_said x ≡ piece_said y → Some-fault (HasPieceCardFault a x) → Some-fault (HasPieceCardFault b y)
-  piece_fault x y said (fault, has.HasPieceCardFault.unknown_activity none is) =
-      (_, has.HasPieceCardFault.unknown_activity (no_act _ _ (ap (λ card. card.activity) said) none) refl)
-
-  load_fault : (x y : LoadCard) → load_said x ≡ load_said y → Some-fault (HasLoadFault a x) → Some-fault (HasLoadFault b y)
-  load_fault x y said (fault, has.HasLoadFault.unknown_activity none is) =
-      (_, has.HasLoadFault.unknown_activity (no_act _ _ (ap (λ card. card.activity) said) none) refl)
-  load_fault x y said (fault, has.unknown_resource none is) =
-      (_, has.unknown_resource (no_resource _ _ (ap (λ card. card.resource) said) none) refl)
+  load_fault : (x y : LoadCard) → load_said x ≡ load_said y → Some-fault (HasLoadFault a Activity x) → Some-fault (HasLoadFault b Activity y)
+  load_fault x y said (fault, has.unknown_work is) = (_, has.unknown_work (unknown_again Activity (same_acts a b same) _ _ _ _ (ap (λ card. card.activity) said) fault is))
+  load_fault x y said (fault, has.unknown_resource is) =
+      (_, has.unknown_resource (unknown_again Resource (same_resources a b same) _ _ _ _ (ap (λ card. card.resource) said) fault is))
 
   -- a fault of some card of one list is one of the card at its place in the other
   list_fault : {X : Type 0} (said : X → X) (Has Other : X → Fault → Type 0) (xs ys : List X) → map said xs ≡ map said ys →
@@ -128,15 +111,31 @@ module _ (a b : Deck) (same : SayTheSame a b) where
   list_fault said Has Other xs ys one over fault any =
       Any-fault Other ys (Any-said said (λ x. Has x fault) (λ y. Some-fault (Other y)) xs ys one (λ x y is h. over x y is (fault, h)) any)
 
+  -- the same of cards that only name something
+  list_unknown : {X : Type 0} (said : X → X) (target : Target) → named_among (target_codes a target) ≡ named_among (target_codes b target) →
+      (row : X → ℕ) (code : X → List ℕ) (xs ys : List X) → map said xs ≡ map said ys → ((x y : X) → said x ≡ said y → code x ≡ code y) → (fault : Fault) →
+      Any (λ x. IsUnknown a target (row x) (code x) fault) xs → (told : Fault) × Any (λ y. IsUnknown b target (row y) (code y) told) ys
+  list_unknown said target finds row code xs ys one names fault any =
+      list_fault said (λ x. IsUnknown a target (row x) (code x)) (λ y. IsUnknown b target (row y) (code y)) xs ys one
+      (λ x y is h. (_, unknown_again target finds (row x) (row y) (code x) (code y) (names x y is) h.0 h.1)) fault any
+
   figure_fault : (fault : Fault) → HasFigureFault a fault → Some-fault (HasFigureFault b)
   figure_fault fault (has.account any) =
-      let (told, there) = list_fault account_said (HasAccountFault a) (HasAccountFault b) a.accounts b.accounts same.accounts account_fault fault any in (told, has.account there)
+      let (told, there) = list_unknown account_said Item (same_items a b same) (λ (card : AcctCard). card.row) (λ card. card.item) a.accounts b.accounts same.accounts
+      (λ x y is. ap (λ card. card.item) is) fault any in
+      (told, has.account there)
   figure_fault fault (has.charge any) =
-      let (told, there) = list_fault money_said (HasMoneyFault a) (HasMoneyFault b) a.charges b.charges same.charges money_fault fault any in (told, has.charge there)
+      let (told, there) = list_unknown money_said Account (same_accounts a b same) (λ (card : MoneyCard). card.row) (λ card. card.account) a.charges b.charges same.charges
+      (λ x y is. ap (λ card. card.account) is) fault any in
+      (told, has.charge there)
   figure_fault fault (has.togo any) =
-      let (told, there) = list_fault money_said (HasMoneyFault a) (HasMoneyFault b) a.togos b.togos same.togos money_fault fault any in (told, has.togo there)
+      let (told, there) = list_unknown money_said Account (same_accounts a b same) (λ (card : MoneyCard). card.row) (λ card. card.account) a.togos b.togos same.togos
+      (λ x y is. ap (λ card. card.account) is) fault any in
+      (told, has.togo there)
   figure_fault fault (has.status any) =
-      let (told, there) = list_fault status_said (HasStatusFault a) (HasStatusFault b) a.statuses b.statuses same.statuses status_fault fault any in (told, has.status there)
+      let (told, there) = list_unknown status_said Activity (same_acts a b same) (λ (card : StatusCard). card.row) (λ card. card.activity) a.statuses b.statuses same.statuses
+      (λ x y is. ap (λ card. card.activity) is) fault any in
+      (told, has.status there)
 
   listed_fault : (fault : Fault) → HasListedFault a fault → Some-fault (HasListedFault b)
   listed_fault fault (has.item any) =
@@ -144,9 +143,11 @@ module _ (a b : Deck) (same : SayTheSame a b) where
   listed_fault fault (has.act any) =
       let (told, there) = list_fault act_said (HasActFault a) (HasActFault b) a.acts b.acts same.acts act_fault fault any in (told, has.act there)
   listed_fault fault (has.piece any) =
-      let (told, there) = list_fault piece_said (HasPieceCardFault a) (HasPieceCardFault b) a.pieces b.pieces same.pieces piece_fault fault any in (told, has.piece there)
+      let (told, there) = list_unknown piece_said Activity (same_acts a b same) (λ (card : PieceCard). card.row) (λ card. card.activity) a.pieces b.pieces same.pieces
+      (λ x y is. ap (λ card. card.activity) is) fault any in
+      (told, has.piece there)
   listed_fault fault (has.load any) =
-      let (told, there) = list_fault load_said (HasLoadFault a) (HasLoadFault b) a.loads b.loads same.loads load_fault fault any in (told, has.load there)
+      let (told, there) = list_fault load_said (HasLoadFault a Activity) (HasLoadFault b Activity) a.loads b.loads same.loads load_fault fault any in (told, has.load there)
   listed_fault fault (has.figure h) = let (told, there) = figure_fault fault h in (told, has.figure there)
 
   misfit : (fault : Fault) → HasMisfit a fault → Some-fault (HasMisfit b)

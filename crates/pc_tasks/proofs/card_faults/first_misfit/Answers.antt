@@ -1,8 +1,10 @@
 use Rattle.std.proofs.Common.{subst, ◌⊎◌}
 use Rattle.std.specs.List.{Any}
+use Rattle.pc_deck.specs.Target.{IsUnknown}
 use Rattle.pc_faults.specs.inside.First.{IsFirstIn}
-use Rattle.pc_project.specs.Misfit.{HasAccountFault, HasItemFault, HasMoneyFault}
-use Rattle.pc_tasks.specs.Misfit.{HasEndsFault, HasTaskLoadFault, HasNameFault, HasTaskFault}
+use Rattle.pc_faults.specs.declared.target.Target.TheVariants.{Item, Account, Task}
+use Rattle.pc_project.specs.Misfit.{HasItemFault, HasLoadFault}
+use Rattle.pc_tasks.specs.Misfit.{HasEndsFault, HasTaskFault}
 use Rattle.pc_faults.proofs.FirstLaws.{first_of_either}
 use Rattle.pc_project.proofs.MisfitLaws.{OfAccounts, OfCharges, OfItems, OfTogos}
 use Rattle.pc_tasks.proofs.MisfitLemmas.{Figures, OfAfters, OfLoads, OfPieces, OfStatuses, OfTasks, Plan, first_of_all_cards}
@@ -14,16 +16,16 @@ returns c =
     let items = subst (λ cards. IsFirstIn (λ fault. Any (λ card. HasItemFault deck card fault) cards) c.first_fault-of_items.result) c.items.ensures.cards c.first_fault-of_items.ensures in
     let tasks = subst (λ cards. IsFirstIn (λ fault. Any (λ card. HasTaskFault deck card fault) cards) c.first_fault-of_tasks.result) c.tasks.ensures.cards c.first_fault-of_tasks.ensures in
     let pieces = subst (λ cards. IsFirstIn
-    (λ fault. Any (λ card. HasNameFault deck card.row card.activity fault) cards) c.first_fault-of_pieces.result) c.pieces.ensures.cards
+    (λ fault. Any (λ card. IsUnknown deck Task card.row card.activity fault) cards) c.first_fault-of_pieces.result) c.pieces.ensures.cards
     c.first_fault-of_pieces.ensures in
-    let loads = subst (λ cards. IsFirstIn (λ fault. Any (λ card. HasTaskLoadFault deck card fault) cards) c.first_fault-of_loads.result) c.loads.ensures.cards c.first_fault-of_loads.ensures in
+    let loads = subst (λ cards. IsFirstIn (λ fault. Any (λ card. HasLoadFault deck Task card fault) cards) c.first_fault-of_loads.result) c.loads.ensures.cards c.first_fault-of_loads.ensures in
     let accounts = subst (λ cards. IsFirstIn
-    (λ fault. Any (λ card. HasAccountFault deck card fault) cards) c.first_fault-of_accounts.result) c.accounts.ensures.cards
+    (λ fault. Any (λ card. IsUnknown deck Item card.row card.item fault) cards) c.first_fault-of_accounts.result) c.accounts.ensures.cards
     c.first_fault-of_accounts.ensures in
-    let charges = subst (λ cards. IsFirstIn (λ fault. Any (λ card. HasMoneyFault deck card fault) cards) c.first_fault-of_charges.result) c.charges.ensures.cards c.first_fault-of_charges.ensures in
-    let togos = subst (λ cards. IsFirstIn (λ fault. Any (λ card. HasMoneyFault deck card fault) cards) c.first_fault-of_togos.result) c.togos.ensures.cards c.first_fault-of_togos.ensures in
+    let charges = subst (λ cards. IsFirstIn (λ fault. Any (λ card. IsUnknown deck Account card.row card.account fault) cards) c.first_fault-of_charges.result) c.charges.ensures.cards c.first_fault-of_charges.ensures in
+    let togos = subst (λ cards. IsFirstIn (λ fault. Any (λ card. IsUnknown deck Account card.row card.account fault) cards) c.first_fault-of_togos.result) c.togos.ensures.cards c.first_fault-of_togos.ensures in
     let statuses = subst (λ cards. IsFirstIn
-    (λ fault. Any (λ card. HasNameFault deck card.row card.activity fault) cards) c.first_fault-of_statuses.result)
+    (λ fault. Any (λ card. IsUnknown deck Task card.row card.activity fault) cards) c.first_fault-of_statuses.result)
     c.statuses.ensures.cards c.first_fault-of_statuses.ensures in
     let frame = first_of_either (HasEndsFault deck)
     (OfItems deck) c.ends_fault-of_ends.result c.first_fault-of_items.result c.earliest-frame.result c.earliest-frame.ensures

@@ -1,7 +1,9 @@
 use Rattle.std.proofs.Common.{◌∙◌, ap, map, sym, subst}
 use Rattle.std.specs.List.{Any}
+use Rattle.pc_deck.specs.Target.{IsUnknown}
 use Rattle.pc_faults.specs.inside.First.{IsFirstIn}
-use Rattle.pc_project.specs.Misfit.{HasItemFault, HasActFault, HasPieceCardFault, HasLoadFault, HasAccountFault, HasMoneyFault, HasStatusFault}
+use Rattle.pc_faults.specs.declared.target.Target.TheVariants.{Item, Account, Activity}
+use Rattle.pc_project.specs.Misfit.{HasItemFault, HasActFault, HasLoadFault}
 use Rattle.pc_project.specs.Project.{account_of, load_of, money_of, piece_of, row_of, status_of}
 use Rattle.pc_project.specs.inside.Project.{placement_of}
 use Rattle.pc_faults.proofs.FirstLaws.{earliest-none}
@@ -13,17 +15,17 @@ returns-clause-first c =
     let deck = c.args.cards.now in
     let figures = first_of_figures deck c.in_ok-account.account c.in_ok-charge.charge c.in_ok-togo.togo c.in_ok-status.status
     c.earliest-of_spent.result c.earliest-of_rest.result c.earliest-of_figures.result c.earliest-of_spent.ensures c.earliest-of_rest.ensures c.earliest-of_figures.ensures
-    (subst (λ cards. IsFirstIn (λ fault. Any (λ card. HasAccountFault deck card fault) cards) c.in_ok-account.account) c.accounts.ensures.cards c.in_ok-account.ensures.first)
-    (subst (λ cards. IsFirstIn (λ fault. Any (λ card. HasMoneyFault deck card fault) cards) c.in_ok-charge.charge) c.charges.ensures.cards c.in_ok-charge.ensures.first)
-    (subst (λ cards. IsFirstIn (λ fault. Any (λ card. HasMoneyFault deck card fault) cards) c.in_ok-togo.togo) c.togos.ensures.cards c.in_ok-togo.ensures.first)
-    (subst (λ cards. IsFirstIn (λ fault. Any (λ card. HasStatusFault deck card fault) cards) c.in_ok-status.status) c.statuses.ensures.cards c.in_ok-status.ensures.first) in
+    (subst (λ cards. IsFirstIn (λ fault. Any (λ card. IsUnknown deck Item card.row card.item fault) cards) c.in_ok-account.account) c.accounts.ensures.cards c.in_ok-account.ensures.first)
+    (subst (λ cards. IsFirstIn (λ fault. Any (λ card. IsUnknown deck Account card.row card.account fault) cards) c.in_ok-charge.charge) c.charges.ensures.cards c.in_ok-charge.ensures.first)
+    (subst (λ cards. IsFirstIn (λ fault. Any (λ card. IsUnknown deck Account card.row card.account fault) cards) c.in_ok-togo.togo) c.togos.ensures.cards c.in_ok-togo.ensures.first)
+    (subst (λ cards. IsFirstIn (λ fault. Any (λ card. IsUnknown deck Activity card.row card.activity fault) cards) c.in_ok-status.status) c.statuses.ensures.cards c.in_ok-status.ensures.first) in
     first_of_listed deck c.in_ok-item.item c.in_ok-act.act c.in_ok-piece.piece c.in_ok-load.load c.earliest-of_figures.result
     c.earliest-of_acts.result c.earliest-of_parts.result c.earliest-of_plan.result c.earliest.result
     c.earliest-of_acts.ensures c.earliest-of_parts.ensures c.earliest-of_plan.ensures c.earliest.ensures
     (subst (λ cards. IsFirstIn (λ fault. Any (λ card. HasItemFault deck card fault) cards) c.in_ok-item.item) c.items.ensures.cards c.in_ok-item.ensures.first)
     (subst (λ cards. IsFirstIn (λ fault. Any (λ card. HasActFault deck card fault) cards) c.in_ok-act.act) c.acts.ensures.cards c.in_ok-act.ensures.first)
-    (subst (λ cards. IsFirstIn (λ fault. Any (λ card. HasPieceCardFault deck card fault) cards) c.in_ok-piece.piece) c.pieces.ensures.cards c.in_ok-piece.ensures.first)
-    (subst (λ cards. IsFirstIn (λ fault. Any (λ card. HasLoadFault deck card fault) cards) c.in_ok-load.load) c.loads.ensures.cards c.in_ok-load.ensures.first)
+    (subst (λ cards. IsFirstIn (λ fault. Any (λ card. IsUnknown deck Activity card.row card.activity fault) cards) c.in_ok-piece.piece) c.pieces.ensures.cards c.in_ok-piece.ensures.first)
+    (subst (λ cards. IsFirstIn (λ fault. Any (λ card. HasLoadFault deck Activity card fault) cards) c.in_ok-load.load) c.loads.ensures.cards c.in_ok-load.ensures.first)
     figures
 
 pub returns-clause-lists : goal.returns-clause-lists

@@ -1,10 +1,14 @@
-use Rattle.std.proofs.Common.{sym, ◌∙◌, subst}
+use Rattle.std.proofs.Common.{Some}
 use Rattle.pc_faults.specs.First.{IsFirstFault}
 use Rattle.pc_project.specs.Misfit.{HasItemFault}
-use Rattle.pc_project.proofs.CardLaws.{first_unknown_parent}
+use Rattle.pc_project.proofs.CardLaws.{first_of_parent}
+use Rattle.pc_project.proofs.RefusalLaws.{handed_on}
 use Rattle.pc_project.proofs.placed.ItemCardRefers.look_up.Goals as goal
 
-pub returns-in-None-clause-first : goal.returns-in-None-clause-first
-returns-in-None-clause-first c =
-    subst (IsFirstFault (HasItemFault c.args.cards.now c.args.self.now)) (sym c.unknown_item.ensures)
-    (first_unknown_parent c.args.cards.now c.args.self.now c.in-Some.code c.in-Some.is (sym c.item_named.ensures ∙ c.in-None.is))
+pub returns-in_err-parent-clause-first : goal.returns-in_err-parent-clause-first
+returns-in_err-parent-clause-first c =
+    let deck = c.args.cards.now in
+    let card = c.args.self.now in
+    let fault = c.in_err-parent.field-0.0 in
+    handed_on (IsFirstFault (HasItemFault deck card)) c.from_residual.result fault c.from_residual.ensures.1
+    (first_of_parent deck card c.in-Some.code (Some fault) c.in-Some.is c.in_err-parent.ensures.first)

@@ -1,10 +1,5 @@
-use Rattle.std.proofs.Common.{sym, ◌∙◌, subst}
-use Rattle.pc_faults.specs.First.{IsFirstFault}
-use Rattle.pc_project.specs.Misfit.{HasItemFault}
-use Rattle.pc_project.proofs.CardLaws.{first_unknown_parent}
+use Rattle.pc_project.proofs.CardLaws.{first_of_parent}
 use Rattle.pc_tasks.proofs.card_faults.ItemCardFaulty.fault.Goals as goal
 
-pub returns-in-None : goal.returns-in-None
-returns-in-None c =
-    subst (IsFirstFault (HasItemFault c.args.cards.now c.args.self.now)) (sym c.unknown_item.ensures)
-    (first_unknown_parent c.args.cards.now c.args.self.now c.in-Some.code c.in-Some.is (sym c.item_named.ensures ∙ c.in-None.is))
+pub returns : goal.returns
+returns c = first_of_parent c.args.cards.now c.args.self.now c.in-Some.code c.unknown_fault.result c.in-Some.is c.unknown_fault.ensures
