@@ -46,7 +46,7 @@ pub fn written_is_certified(net: &CrashNet<'_>)
 {
     // No more events than a project may have, in an order: so no number of a segment is too large.
     net.facts();
-    let _order = net.net().order();
+    net.net().facts();
 }
 
 /// States that an audit of a certified text finds that it is certified, with as many segments.

@@ -129,7 +129,7 @@ impl<'n> Solver<'n> {
     {
         net.facts();
         // The order of the events says that no activity has more flow than its value.
-        let _order = net.net().order();
+        net.net().facts();
         let opening = open_board(region, net);
         Solver {
             net,

@@ -98,6 +98,7 @@ impl Net {
         ensures activities { length self.now.arcs ≤ MAX_ACTIVITIES }
         ensures sound { IsSound self.now }
         ensures in_range { IsInRange self.now }
+        ensures ordered { (order : List ℕ) × IsOrder self.now order }
     {
         self.graph.facts();
     }

@@ -101,9 +101,8 @@ pub fn critical_path_into(
     ensures picked { IsPickedWalk net.now lengths.now (take result path.new) }
     ensures short { result < net.now.events }
 {
-    // The bound on events and the order say that no walk is longer than the slice.
+    // The bound on events and their order say that no walk is longer than the slice.
     net.facts();
-    let _order = net.order();
     let mut event = net.start();
     let mut count = 0;
     while let Some(a) = first_without_slack(net, lengths, times, tails, event) {

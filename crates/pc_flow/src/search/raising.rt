@@ -28,7 +28,7 @@ impl Board {
         net.facts();
         let shape = net.net();
         // With an order of the events, no activity has more flow than the value.
-        let _order = shape.order();
+        shape.facts();
         let end = shape.end();
         self.measure_back(net, end);
         let raised = self.raise(end);

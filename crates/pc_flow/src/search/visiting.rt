@@ -93,7 +93,7 @@ impl Board {
         ensures counted { steps.new ≤ steps.old + 1 }
         ensures visited { IsVisited net.now self.old self.new a }
     {
-        let _look = net.look(a, steps);
+        net.look(a, steps);
         if self.rank(far) == 0 && self.can_flow(a, way) {
             self.cross(net, a, near, far, way);
         }
@@ -121,7 +121,7 @@ impl Board {
         ensures labelled { IsTrue result ↔ (0 < rank_of self.new far) }
         ensures visited { IsVisited net.now self.old self.new a }
     {
-        let _look = net.look(a, steps);
+        net.look(a, steps);
         if self.rank(near) == 0 || !self.can_flow(a, way) {
             return false;
         }

@@ -14,8 +14,8 @@ returns c =
       pieces = known.pieces;
       piece_limits = known.piece_limits;
       few = known.events;
-      order = c.order-order.result.now;
-      ordered = subst (λ (n : Network). IsOrder n c.order-order.result.now) c.net.ensures.network c.order-order.ensures.order;
+      order = c.facts-2.ensures.ordered.0;
+      ordered = subst (λ (n : Network). IsOrder n c.facts-2.ensures.ordered.0) c.net.ensures.network c.facts-2.ensures.ordered.1;
     } in
     record {
       certified = certified net sized known.activity_names;

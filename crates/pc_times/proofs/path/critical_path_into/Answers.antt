@@ -23,18 +23,18 @@ put_next net lengths times tails path count event a put next walks early late pl
 
 pub loop-a-init : goal.loop-a-init
 loop-a-init c =
-    let order = c.order-order.ensures in
-    let walks = has_bounded_walks c.args.net.now c.order-order.result.now c.args.lengths.now order.in_range order.sound order.order (omega arith) c.requires.lengths in
+    let net = c.facts.ensures in
+    let walks = has_bounded_walks c.args.net.now net.ordered.0 c.args.lengths.now net.in_range net.sound net.ordered.1 (omega arith) c.requires.lengths in
     record {
       places = c.requires.places;
-      within = omega (arith, order.in_range.start_in, c.requires.places);
+      within = omega (arith, net.in_range.start_in, c.requires.places);
       picked = rw c.start-event.ensures.start (picked_to_start _ _ _ _ walks.ranged c.requires.times c.requires.tails walks.sound);
     }
 
 pub first_without_slack-requires-clause-walks : goal.first_without_slack-requires-clause-walks
 first_without_slack-requires-clause-walks c =
-    let order = c.order-order.ensures in
-    has_bounded_walks c.args.net.now c.order-order.result.now c.args.lengths.now order.in_range order.sound order.order (omega arith) c.requires.lengths
+    let net = c.facts.ensures in
+    has_bounded_walks c.args.net.now net.ordered.0 c.args.lengths.now net.in_range net.sound net.ordered.1 (omega arith) c.requires.lengths
 
 pub bounds-path-count : goal.bounds-path-count
 bounds-path-count c = c.loop-a.invariant.within
@@ -44,8 +44,8 @@ loop-a-smaller c = omega (arith, c.loop-a.invariant.within, c.loop-a.invariant.p
 
 pub loop-a-preserved : goal.loop-a-preserved
 loop-a-preserved c =
-    let order = c.order-order.ensures in
-    let walks = has_bounded_walks c.args.net.now c.order-order.result.now c.args.lengths.now order.in_range order.sound order.order (omega arith) c.requires.lengths in
+    let net = c.facts.ensures in
+    let walks = has_bounded_walks c.args.net.now net.ordered.0 c.args.lengths.now net.in_range net.sound net.ordered.1 (omega arith) c.requires.lengths in
     let next =
     put_next c.args.net.now c.args.lengths.now c.args.times.now c.args.tails.now c.loop-a.path c.loop-a.count c.loop-a.event c.in-Some.a
     c.from.result c.to-event.result walks c.requires.times c.requires.tails
@@ -58,7 +58,7 @@ loop-a-preserved c =
 
 pub returns-clause-picked : goal.returns-clause-picked
 returns-clause-picked c =
-    let range = c.order-order.ensures.in_range in
+    let range = c.facts.ensures.in_range in
     let at_end = end_when_none_without_slack _ _ _ _ range c.requires.times c.requires.tails _ _ c.loop-a.invariant.picked c.in_default.ensures.none in
     picked_at_end _ _ _ _ range c.requires.times c.requires.tails _ _ c.loop-a.invariant.picked at_end
 

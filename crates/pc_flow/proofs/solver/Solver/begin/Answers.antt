@@ -5,11 +5,11 @@ pub invariant_of-result : goal.invariant_of-result
 invariant_of-result c =
     let shape = c.facts.ensures in
     let opening = c.open_board-opening.ensures in
-    let order = rw c.net.ensures.network at c.order-order.ensures.order in
+    let order = rw c.net.ensures.network at c.facts-2.ensures.ordered in
     record {
       on_course =
           opening-on_course c.args.net.now c.args.region c.open_board-opening.result.board opening.opened shape.priced shape.limits shape.pieces
-          shape.piece_limits _ _ _ opening.longest c.normal_cost.ensures c.order-order.result.now order opening.shortest;
+          shape.piece_limits _ _ _ opening.longest c.normal_cost.ensures order.0 order.1 opening.shortest;
     }
 
 pub returns-clause-level : goal.returns-clause-level

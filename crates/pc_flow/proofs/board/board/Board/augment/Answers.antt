@@ -111,10 +111,10 @@ renew_back-requires-clause-stairs c =
       pieces = c.facts.ensures.pieces;
       piece_limits = c.facts.ensures.piece_limits;
     } in
-    let ordered = rw c.net-shape.ensures.network at c.order-order.ensures.order in
+    let order = rw c.net-shape.ensures.network at c.facts-2.ensures.ordered in
     let raised : IsRaised m c.raise-raised.new.self net.network.end c.raise-raised.result.by =
     subst (λ e. IsRaised m c.raise-raised.new.self e c.raise-raised.result.by) end c.raise-raised.ensures.raised in
-    stairs-raised net known c.order-order.result.now ordered m c.raise-raised.new.self c.raise-raised.result.by raised.0
+    stairs-raised net known order.0 order.1 m c.raise-raised.new.self c.raise-raised.result.by raised.0
     (between-measured net s m on c.requires.between) (above-measured net s m on c.requires.above) raised.1
 
 pub renew_back-requires-clause-level : goal.renew_back-requires-clause-level
@@ -142,13 +142,13 @@ returns-clause-raised c =
       pieces = c.facts.ensures.pieces;
       piece_limits = c.facts.ensures.piece_limits;
     } in
-    let ordered = rw c.net-shape.ensures.network at c.order-order.ensures.order in
+    let order = rw c.net-shape.ensures.network at c.facts-2.ensures.ordered in
     let between : IsBetween net m = between-measured net s m on c.requires.between in
     let raised : IsRaised m t net.network.end by = subst (λ e. IsRaised m t e by) end c.raise-raised.ensures.raised in
     let renewed : IsRenewedBack net t u net.network.end = subst (λ e. IsRenewedBack net t u e) end c.renew_back.ensures in
     let now : IsRaisedBy m u net.network.end by raised.0 = raised-renewed m t u renewed.rest net.network.end by raised.0 raised.1 in
     let whole : HasRaised net m u by =
-    has_raised net known c.order-order.result.now ordered m u by raised.0 between (above-measured net s m on c.requires.above) now
+    has_raised net known order.0 order.1 m u by raised.0 between (above-measured net s m on c.requires.above) now
     (lengths-renewed net m t u net.network.end by raised.0 between.search.lengths raised.1 c.raise-raised.ensures.lengths renewed)
     (settled-measured net s m on c.requires.settled) in
     raised-measured net s m on u by whole
