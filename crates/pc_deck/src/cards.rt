@@ -184,14 +184,6 @@ impl<S: DeckSort> CardsOf<S> {
         self.deck.lists.items.codes()
     }
 
-    /// Returns the number of the item with a code: its index in card order, from 0.
-    pub fn item_named(&self, code: &Code) -> Option<u32>
-        ensures { result ≡ named_among (item_codes self.now) code.now }
-    {
-        let number = self.deck.lists.items.place_of(code)?;
-        Some(number as u32)
-    }
-
     /// Returns the code of each account, in card order.
     pub fn account_codes(&self) -> &[Code]
         ensures codes { result.now ≡ account_codes self.now }
@@ -200,28 +192,12 @@ impl<S: DeckSort> CardsOf<S> {
         self.deck.lists.accounts.codes()
     }
 
-    /// Returns the number of the account with a code: its index in card order, from 0.
-    pub fn account_named(&self, code: &Code) -> Option<u32>
-        ensures { result ≡ named_among (account_codes self.now) code.now }
-    {
-        let number = self.deck.lists.accounts.place_of(code)?;
-        Some(number as u32)
-    }
-
     /// Returns the code of each resource, in card order.
     pub fn resource_codes(&self) -> &[Code]
         ensures codes { result.now ≡ resource_codes self.now }
         ensures apart { IsNamedOnce result.now }
     {
         self.deck.lists.resources.codes()
-    }
-
-    /// Returns the number of the resource with a code: its index in card order, from 0.
-    pub fn resource_named(&self, code: &Code) -> Option<u32>
-        ensures { result ≡ named_among (resource_codes self.now) code.now }
-    {
-        let number = self.deck.lists.resources.place_of(code)?;
-        Some(number as u32)
     }
 
     /// Returns the codes of what cards name, in card order, with the index that finds them.
@@ -292,14 +268,6 @@ impl Cards {
         self.deck.lists.events.codes()
     }
 
-    /// Returns the number of the event with a code: its index in card order, from 0.
-    pub fn event_named(&self, code: &Code) -> Option<u32>
-        ensures { result ≡ named_among (event_codes self.now) code.now }
-    {
-        let number = self.deck.lists.events.place_of(code)?;
-        Some(number as u32)
-    }
-
     /// Returns the code of each activity, in card order.
     pub fn act_codes(&self) -> &[Code]
         ensures codes { result.now ≡ act_codes self.now }
@@ -313,14 +281,6 @@ impl Cards {
         ensures codes { result.now ≡ act_codes self.now }
     {
         self.deck.lists.acts.names()
-    }
-
-    /// Returns the number of the activity with a code: its index in card order, from 0.
-    pub fn act_named(&self, code: &Code) -> Option<u32>
-        ensures { result ≡ named_among (act_codes self.now) code.now }
-    {
-        let number = self.deck.lists.acts.place_of(code)?;
-        Some(number as u32)
     }
 }
 
@@ -348,14 +308,6 @@ impl TaskCards {
         ensures apart { IsNamedOnce result.now }
     {
         self.deck.lists.tasks.codes()
-    }
-
-    /// Returns the number of the task with a code: its index in card order, from 0.
-    pub fn task_named(&self, code: &Code) -> Option<u32>
-        ensures { result ≡ named_among (task_codes self.now) code.now }
-    {
-        let number = self.deck.lists.tasks.place_of(code)?;
-        Some(number as u32)
     }
 }
 

@@ -68,22 +68,6 @@ unknown_number Resource = 41
 abbrev pub unknown_name : Target → ℕ → List ℕ → Fault
 unknown_name target row code = record { row = row; number = unknown_number target; detail = Name code }
 
--- F13: no EVENT card has the code
-abbrev pub unknown_event : ℕ → List ℕ → Fault
-unknown_event row code = record { row = row; number = 13; detail = Name code }
-
--- F14: no WBS card has the code
-abbrev pub unknown_item : ℕ → List ℕ → Fault
-unknown_item row code = record { row = row; number = 14; detail = Name code }
-
--- F15: no ACCT card has the code
-abbrev pub unknown_account : ℕ → List ℕ → Fault
-unknown_account row code = record { row = row; number = 15; detail = Name code }
-
--- F16: no ACT card has the code
-abbrev pub unknown_activity : ℕ → List ℕ → Fault
-unknown_activity row code = record { row = row; number = 16; detail = Name code }
-
 -- F17: what begins at the event ends there too
 abbrev pub one_event : ℕ → List ℕ → Fault
 one_event row code = record { row = row; number = 17; detail = Name code }
@@ -179,7 +163,3 @@ no_task = record { row = 0; number = 39; detail = Plain }
 -- F40: more periods than a report of loads may have
 abbrev pub too_many_periods : ℕ → Fault
 too_many_periods have = record { row = 0; number = 40; detail = Periods have }
-
--- F41: no RES card has the code
-abbrev pub unknown_resource : ℕ → List ℕ → Fault
-unknown_resource row code = record { row = row; number = 41; detail = Name code }

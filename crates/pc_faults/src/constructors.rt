@@ -14,10 +14,6 @@ ghost use Rattle.pc_faults.specs.Faults.{
   behind_end,
   no_end,
   unknown_name,
-  unknown_event,
-  unknown_item,
-  unknown_account,
-  unknown_activity,
   one_event,
   estimates_disorder,
   crash_above_normal,
@@ -42,7 +38,6 @@ ghost use Rattle.pc_faults.specs.Faults.{
   task_cycle,
   no_task,
   too_many_periods,
-  unknown_resource,
 };
 
 use crate::fault::{Detail, Fault, StatusFault};
@@ -137,34 +132,6 @@ impl Fault {
         ensures { result ≡ unknown_name target row code }
     {
         Fault::new(row, target.unknown_number(), Detail::Name(code))
-    }
-
-    /// Returns F13: no EVENT card has the code.
-    pub fn unknown_event(row: u32, code: Code) -> Fault
-        ensures { result ≡ unknown_event row code }
-    {
-        Fault::new(row, 13, Detail::Name(code))
-    }
-
-    /// Returns F14: no WBS card has the code.
-    pub fn unknown_item(row: u32, code: Code) -> Fault
-        ensures { result ≡ unknown_item row code }
-    {
-        Fault::new(row, 14, Detail::Name(code))
-    }
-
-    /// Returns F15: no ACCT card has the code.
-    pub fn unknown_account(row: u32, code: Code) -> Fault
-        ensures { result ≡ unknown_account row code }
-    {
-        Fault::new(row, 15, Detail::Name(code))
-    }
-
-    /// Returns F16: no ACT card has the code.
-    pub fn unknown_activity(row: u32, code: Code) -> Fault
-        ensures { result ≡ unknown_activity row code }
-    {
-        Fault::new(row, 16, Detail::Name(code))
     }
 
     /// Returns F17: an activity or the project begins and ends at the event.
@@ -356,12 +323,5 @@ impl Fault {
         ensures { result ≡ too_many_periods have }
     {
         Fault::new(0, 40, Detail::Periods { have })
-    }
-
-    /// Returns F41: no RES card has the code.
-    pub fn unknown_resource(row: u32, code: Code) -> Fault
-        ensures { result ≡ unknown_resource row code }
-    {
-        Fault::new(row, 41, Detail::Name(code))
     }
 }

@@ -4,7 +4,7 @@ ghost use Rattle.pc_faults.specs.inside.FaultText.{IsTold};
 
 use crate::cases::expect_none;
 use pc_days::{Day, read_day};
-use pc_faults::{Fault, Kind, NOT_UTF8, StatusFault, TOO_LONG, fault_line};
+use pc_faults::{Fault, Kind, NOT_UTF8, StatusFault, TOO_LONG, Target, fault_line};
 use pc_text::{Code, Codes};
 use std::alloc::Global;
 
@@ -353,10 +353,10 @@ fn code_fault(row: u32, number: u8, code: Code) -> Option<Fault>
 {
     Some(match number {
         9 => Fault::repeated_code(row, code),
-        13 => Fault::unknown_event(row, code),
-        14 => Fault::unknown_item(row, code),
-        15 => Fault::unknown_account(row, code),
-        16 => Fault::unknown_activity(row, code),
+        13 => Fault::unknown_name(Target::Event, row, code),
+        14 => Fault::unknown_name(Target::Item, row, code),
+        15 => Fault::unknown_name(Target::Account, row, code),
+        16 => Fault::unknown_name(Target::Activity, row, code),
         17 => Fault::one_event(row, code),
         21 => Fault::second_top(row, code),
         24 => Fault::enters_start(row, code),
@@ -365,7 +365,7 @@ fn code_fault(row: u32, number: u8, code: Code) -> Option<Fault>
         33 => Fault::too_many_pieces(row, code),
         34 => Fault::slope_not_rising(row, code),
         35 => Fault::nothing_left(row, code),
-        41 => Fault::unknown_resource(row, code),
+        41 => Fault::unknown_name(Target::Resource, row, code),
         _ => return None,
     })
 }

@@ -70,7 +70,7 @@ module _ (deck : Deck) where
   from_listed f (inl (inr (inr h))) = load h
   from_listed f (inr h) = figure h
 
-  -- the first fault of the cards that stand in lists
+  -- the first fault of all cards but the PROJECT card
   pub first_of_listed : (items acts pieces loads figures of_acts of_parts of_both found : Option Fault) →
       of_acts ≡ earliest items acts → of_parts ≡ earliest pieces loads → of_both ≡ earliest of_acts of_parts → found ≡ earliest of_both figures →
       IsFirstIn OfItems items → IsFirstIn OfActs acts → IsFirstIn OfPieces pieces → IsFirstIn OfLoads loads → IsFirstIn (HasFigureFault deck) figures → IsFirstIn (HasListedFault deck) found

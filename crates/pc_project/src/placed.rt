@@ -4,8 +4,15 @@ ghost use Rattle.pc_faults.specs.First.{IsFirstFault};
 ghost use Rattle.pc_faults.specs.declared.fault.Fault.{Fault};
 ghost use Rattle.pc_faults.specs.declared.target.Target.TheVariants.{Item, Account, Activity};
 ghost use Rattle.pc_deck.specs.Target.{IsUnknown};
-ghost use Rattle.pc_project.specs.Project.{network_of};
-ghost use Rattle.pc_project.specs.Misfit.{HasProjectFault, HasOrderedEstimates};
+ghost use Rattle.pc_project.specs.Project.{account_of, load_of, money_of, network_of, piece_of, row_of, status_of};
+ghost use Rattle.pc_project.specs.inside.Project.{placement_of};
+ghost use Rattle.pc_project.specs.Misfit.{
+  HasActFault,
+  HasItemFault,
+  HasLoadFault,
+  HasProjectFault,
+  HasOrderedEstimates,
+};
 
 use crate::refers::Refers;
 use pc_accounts::status::StatusRow;
@@ -47,9 +54,6 @@ pub(crate) fn ends_of(cards: &Cards) -> Result<(u32, u32), Fault>
 }
 
 impl Refers for ItemCard {
-    ghost use Rattle.pc_project.specs.Project.{row_of};
-    ghost use Rattle.pc_project.specs.Misfit.{HasItemFault};
-
     type Found = ItemRow;
 
     ghost found_in = { row_of };
@@ -74,9 +78,6 @@ fn is_in_order(act: &ActCard) -> bool
 }
 
 impl Refers for ActCard {
-    ghost use Rattle.pc_project.specs.inside.Project.{placement_of};
-    ghost use Rattle.pc_project.specs.Misfit.{HasActFault};
-
     type Found = Placement;
 
     ghost found_in = { placement_of };
@@ -104,8 +105,6 @@ impl Refers for ActCard {
 }
 
 impl Refers for AcctCard {
-    ghost use Rattle.pc_project.specs.Project.{account_of};
-
     type Found = AcctRow;
 
     ghost found_in = { account_of };
@@ -122,8 +121,6 @@ impl Refers for AcctCard {
 }
 
 impl Refers for MoneyCard {
-    ghost use Rattle.pc_project.specs.Project.{money_of};
-
     type Found = MoneyRow;
 
     ghost found_in = { money_of };
@@ -141,8 +138,6 @@ impl Refers for MoneyCard {
 }
 
 impl Refers for StatusCard {
-    ghost use Rattle.pc_project.specs.Project.{status_of};
-
     type Found = StatusRow;
 
     ghost found_in = { status_of };
@@ -160,8 +155,6 @@ impl Refers for StatusCard {
 }
 
 impl Refers for PieceCard {
-    ghost use Rattle.pc_project.specs.Project.{piece_of};
-
     type Found = PieceRow;
 
     ghost found_in = { piece_of };
@@ -179,9 +172,6 @@ impl Refers for PieceCard {
 }
 
 impl Refers for LoadCard {
-    ghost use Rattle.pc_project.specs.Project.{load_of};
-    ghost use Rattle.pc_project.specs.Misfit.{HasLoadFault};
-
     type Found = LoadItem;
 
     ghost found_in = { load_of };

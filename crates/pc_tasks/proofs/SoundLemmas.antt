@@ -250,7 +250,8 @@ module _ (deck : Deck) (within : IsWithin Tasks deck) (none : HasNoTaskMisfit de
       none fault (has.togo (any_of (λ (card : MoneyCard). IsUnknown (arrows_deck deck) Account card.row card.account fault) (λ card. IsUnknown deck Account card.row card.account fault) deck.togos
       (λ card is. record { missing = is.missing; told = is.told }) any))
   figure-sound fault (plan.status any) =
-      none fault (has.status (any_of (λ (card : StatusCard). IsUnknown (arrows_deck deck) Activity card.row card.activity fault) (λ card. IsUnknown deck Task card.row card.activity fault) deck.statuses
+      none fault (has.status (any_of (λ (card : StatusCard). IsUnknown (arrows_deck deck) Activity card.row card.activity fault)
+      (λ card. IsUnknown deck Task card.row card.activity fault) deck.statuses
       (λ card is. record { missing = act-missing card.activity is.missing; told = is.told }) any))
 
   listed-sound : (fault : Fault) → (Any (λ card. HasItemFault (arrows_deck deck) card fault) (arrows_deck deck).items → ⊥) → HasListedFault (arrows_deck deck) fault → ⊥

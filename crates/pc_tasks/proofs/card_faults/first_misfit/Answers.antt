@@ -22,8 +22,12 @@ returns c =
     let accounts = subst (λ cards. IsFirstIn
     (λ fault. Any (λ card. IsUnknown deck Item card.row card.item fault) cards) c.first_fault-of_accounts.result) c.accounts.ensures.cards
     c.first_fault-of_accounts.ensures in
-    let charges = subst (λ cards. IsFirstIn (λ fault. Any (λ card. IsUnknown deck Account card.row card.account fault) cards) c.first_fault-of_charges.result) c.charges.ensures.cards c.first_fault-of_charges.ensures in
-    let togos = subst (λ cards. IsFirstIn (λ fault. Any (λ card. IsUnknown deck Account card.row card.account fault) cards) c.first_fault-of_togos.result) c.togos.ensures.cards c.first_fault-of_togos.ensures in
+    let charges = subst (λ cards. IsFirstIn
+    (λ fault. Any (λ card. IsUnknown deck Account card.row card.account fault) cards) c.first_fault-of_charges.result) c.charges.ensures.cards
+    c.first_fault-of_charges.ensures in
+    let togos = subst (λ cards. IsFirstIn
+    (λ fault. Any (λ card. IsUnknown deck Account card.row card.account fault) cards) c.first_fault-of_togos.result) c.togos.ensures.cards
+    c.first_fault-of_togos.ensures in
     let statuses = subst (λ cards. IsFirstIn
     (λ fault. Any (λ card. IsUnknown deck Task card.row card.activity fault) cards) c.first_fault-of_statuses.result)
     c.statuses.ensures.cards c.first_fault-of_statuses.ensures in

@@ -1,8 +1,0 @@
-use Rattle.std.proofs.Common.{◌≤◌, length, arith}
-use Rattle.std.proofs.lemmas.Grind.{common_steps}
-use Rattle.pc_model.specs.declared.limits.TheConstants.{MAX_ACTIVITIES}
-use Rattle.pc_faults.specs.declared.kind.Kind.TheVariants.{Act}
-use Rattle.pc_deck.proofs.cards.Cards.act_named.Goals as goal
-
-pub overflow_cast-result : goal.overflow_cast-result
-overflow_cast-result c = let few : length c.self.inside.deck.lists.acts ≤ MAX_ACTIVITIES = (c.self.invariant Act).few in grind (arith, common_steps)

@@ -1,8 +1,0 @@
-use Rattle.std.proofs.Common.{◌≤◌, length, arith}
-use Rattle.std.proofs.lemmas.Grind.{common_steps}
-use Rattle.pc_model.specs.declared.limits.TheConstants.{MAX_RESOURCES}
-use Rattle.pc_faults.specs.declared.kind.Kind.TheVariants.{Res}
-use Rattle.pc_deck.proofs.cards.CardsOf.resource_named.Goals as goal
-
-pub overflow_cast-result : goal.overflow_cast-result
-overflow_cast-result g c = let few : length c.self.inside.deck.lists.resources ≤ MAX_RESOURCES = (c.self.invariant Res).few in grind (arith, common_steps)
