@@ -20,7 +20,7 @@ import csv
 import io
 from collections.abc import Iterator, Mapping
 from dataclasses import dataclass, replace
-from datetime import date, datetime
+from datetime import date, datetime, timedelta
 from enum import Enum
 from fractions import Fraction
 
@@ -40,6 +40,7 @@ from pert_companion.model.moments import midnight
 from pert_companion.model.sidefile import SideFile, SideTask
 
 WorkCard = ActivityCard | TaskCard
+ONE_DAY = timedelta(days=1)
 MOST_UNITS = 100_000
 """The longest duration that a card may have."""
 
@@ -393,8 +394,23 @@ class _Maker:
             return None
         return replace(logic, begin=datetime.combine(self.deck.as_of_day, logic.begin.time()))
 
+    def dated(self, task: SideTask) -> SideTask:
+        """Returns the entry of a real task, with the dates of its STATUS cards where it has none.
+
+        A card of a finish has the morning after the last day of work.
+        """
+        starts = [self.started[part] for part in task.parts if part in self.started]
+        ends = [self.finished[part] for part in task.parts if part in self.finished]
+        start, finish = task.actual_start, task.actual_finish
+        if start is None and starts:
+            start = min(starts)
+        if finish is None and len(ends) == len(task.parts):
+            finish = max(ends) - ONE_DAY
+        return replace(task, actual_start=start, actual_finish=finish)
+
     def side_task(self, task: SideTask, lefts: Mapping[str, Left]) -> SideTask:
         """Returns the entry of a real task, with what is left of it as its duration."""
+        task = self.dated(task)
         normal = sum(lefts[part].normal for part in task.parts)
         minutes = normal * self.side.unit_minutes
         own, start = self.own_time(task), task.own
