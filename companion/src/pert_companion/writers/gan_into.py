@@ -141,6 +141,7 @@ class _Change:
         least = task.shortest_minutes
         if decimal(element.get(PERCENT, "")):
             least = shortest_of_begun(task, lasting, self.side.unit_minutes)
+            least -= least % self.calendar.day_minutes
             self.set(shortest, VALUE, duration_like(shortest.get(VALUE, ""), least, self.calendar))
         total = self.value(element, COST_NAMES)
         if total is None or self.value(element, SLOPE_NAMES) is not None:

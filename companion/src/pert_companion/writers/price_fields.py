@@ -6,6 +6,7 @@ complete task, from which what is left is computed by its share. A task with a c
 has its times in minutes of that.
 """
 
+import math
 import re
 from fractions import Fraction
 
@@ -21,10 +22,12 @@ def shortest_of_begun(task: ScheduledTask, lasting: int, unit_minutes: int) -> i
     """Returns the shortest duration of work under way that lasts so many minutes in all.
 
     What is left of it can be as short as it was: its share of what is left, rounded up to units,
-    and shorter by no more than the complete task can become.
+    and shorter by no more than the complete task can become. Of a task with a calendar of its own,
+    whose units are not those of the plan, it is a multiple of a time of which the others are.
     """
     if task.calendar:
-        return task.shortest_minutes * lasting // max(1, task.left_minutes)
+        share = task.shortest_minutes * lasting // max(1, task.left_minutes)
+        return share - share % max(1, math.gcd(lasting, task.shortest_minutes))
     units = -(-lasting // unit_minutes)
     left = task.left_minutes // unit_minutes
     shortest = task.shortest_minutes // unit_minutes
