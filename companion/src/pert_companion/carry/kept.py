@@ -36,7 +36,7 @@ def side_file(
         if node.task is None:
             own = {wait.code for wait in network.waits.values()}
             waits.extend(card.code for card in made.cards if card.code not in own)
-    maker = _SideTasks(plan, network)
+    maker = _SideTasks(plan, network, unit_minutes)
     return SideFile(
         deck_sha256="",
         deck_name="",
@@ -55,8 +55,9 @@ def side_file(
 class _SideTasks:
     """Makes the entries of real tasks."""
 
-    def __init__(self, plan: Plan, network: Network) -> None:
+    def __init__(self, plan: Plan, network: Network, unit_minutes: int) -> None:
         self._network = network
+        self._unit_minutes = unit_minutes
         self._groups = {group.uid: group for group in plan.groups()}
         self._has_data_date = plan.data_date is not None
 
@@ -77,7 +78,7 @@ class _SideTasks:
             normal=node.normal,
             minutes=task.minutes,
             percent=progress.percent,
-            remaining=remaining_minutes(task) if self._has_data_date else progress.remaining,
+            remaining=self._remaining(task) if self._has_data_date else progress.remaining,
             actual_start=progress.actual_start,
             actual_finish=progress.actual_finish,
             listed_start=task.listed_start,
@@ -87,6 +88,17 @@ class _SideTasks:
             baselines=task.baselines,
             own=None if own is None else _own(task, node, own),
         )
+
+    def _remaining(self, task: Task) -> int:
+        """Returns the remaining duration of a task in minutes of its own calendar.
+
+        What a percentage leaves of a task with a calendar of its own is rounded up to units, as it
+        is of others in their cards.
+        """
+        minutes = remaining_minutes(task)
+        if task.calendar is None or task.progress.remaining is not None:
+            return minutes
+        return min(task.minutes, -(-minutes // self._unit_minutes) * self._unit_minutes)
 
 
 def _own(task: Task, node: Node, own: OwnTime) -> SideOwn:
