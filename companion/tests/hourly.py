@@ -138,9 +138,10 @@ def _bound(link: HourLink, found: Found) -> int:
     hour = start if link.kind[0] == "S" else finish
     if link.lag > 0:
         return link.calendar.end_of(hour, link.lag)
-    if link.lag < 0:
-        return link.calendar.next_work(link.calendar.begin_of(hour, -link.lag))
-    return hour
+    if link.lag == 0:
+        return hour
+    begin = link.calendar.begin_of(hour, -link.lag)
+    return begin if link.kind[1] == "S" else _evening(link.calendar, begin)
 
 
 def _placed(task: HourTask, least: int, finishes: list[int]) -> tuple[int, int]:

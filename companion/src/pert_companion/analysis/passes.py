@@ -14,8 +14,8 @@ duration or a lag by the clock, lasts in these units what it spans at its dates:
    these dates and solves it again, until the units stay.
 
 Moments are minutes. A task starts on a morning and ends on an evening; a milestone is at the moment
-for which it waits. A lag ends on an evening, a lead on a morning. Late dates are the latest that
-keep the end of the project.
+for which it waits. A lag ends on an evening, a lead of a start on a morning. Late dates are the
+latest that keep the end of the project.
 """
 
 from collections.abc import Callable, Collection, Iterable, Mapping
@@ -203,7 +203,7 @@ class Passes:
             return source
         calendar = self._calendar(tie.calendar)
         position = calendar.position(source) + tie.lag
-        return calendar.end_at(position) if tie.lag > 0 else calendar.at(position)
+        return calendar.end_at(position) if _ends_on_evening(tie) else calendar.at(position)
 
     def _reached(self, tie: LogicTie) -> datetime:
         """Returns the first moment at which the tie alone lets the end of its task be."""
@@ -247,7 +247,7 @@ class Passes:
         if not tie.lag:
             return latest
         calendar = self._calendar(tie.calendar)
-        if tie.lag > 0:
+        if _ends_on_evening(tie):
             return calendar.at(calendar.position(latest) - tie.lag)
         return calendar.at(_last_start(calendar, latest) - tie.lag)
 
@@ -258,6 +258,14 @@ def _by(ties: Iterable[LogicTie], code: Callable[[LogicTie], str]) -> dict[str, 
     for tie in ties:
         found.setdefault(code(tie), []).append(tie)
     return found
+
+
+def _ends_on_evening(tie: LogicTie) -> bool:
+    """Says whether the moment of a tie is an evening, not the morning after it.
+
+    It is one after a lag, and where a task has to have ended.
+    """
+    return tie.lag > 0 or not tie.is_to_start
 
 
 def _end_after(calendar: Calendar, position: int, least: datetime) -> datetime:
