@@ -28,6 +28,7 @@ from pert_companion.model.calendar import Calendar
 from pert_companion.model.errors import InputError
 from pert_companion.model.logic import Lasting, Logic, LogicTie, Recount, Spans, TieWait
 from pert_companion.model.sidefile import SideFile, SideTask
+from pert_companion.state.remaining import Remaining
 
 
 @dataclass(frozen=True)
@@ -288,6 +289,33 @@ def spans(plan: Calendar, logic: Logic, tasks: Iterable[Lasting]) -> Spans:
     passes = Passes(plan, logic, tasks)
     starts = {code: moments.start for code, moments in passes.early.items()}
     return Spans(starts, tuple(passes.lag_minutes(tie) for tie in logic.ties))
+
+
+def spans_of_rest(rest: Remaining, planned: Spans) -> Spans:
+    """Returns when tasks begin in what is left at normal durations, and what each tie waits.
+
+    What has begun, and ties to what has happened or to a day, are as `planned`.
+    """
+    side = rest.side
+    assert side.logic is not None
+    passes = passes_at(side, {card.code: card.normal for card in rest.deck.work})
+    actual = actual_of(side)
+    happened = {*actual.finished, *actual.begun}
+    starts = {code: each.start for code, each in passes.early.items() if code not in happened}
+    lags = []
+    for tie, minutes in zip(side.logic.ties, planned.lags, strict=True):
+        is_planned = tie.day is not None or tie.task in happened or tie.before in happened
+        lags.append(minutes if is_planned else passes.lag_minutes(tie))
+    return Spans({**planned.starts, **starts}, tuple(lags))
+
+
+def from_mornings(starts: Mapping[str, datetime], side: SideFile) -> dict[str, datetime]:
+    """Returns the first moments of work of the days on which tasks begin, by code."""
+    calendars = {task.code: side.calendar_of(task) for task in side.tasks}
+    return {
+        code: calendars.get(code, side.calendar).morning(start.date())
+        for code, start in starts.items()
+    }
 
 
 def passes_at(side: SideFile, durations: Mapping[str, int], end: datetime | None = None) -> Passes:

@@ -6,7 +6,7 @@ from decimal import Decimal
 from pathlib import Path
 
 from pert_companion import readers
-from pert_companion.analysis.passes import spans
+from pert_companion.analysis.passes import from_mornings, spans, spans_of_rest
 from pert_companion.analysis.real_dates import calendars_text
 from pert_companion.analysis.schedule import ScheduledTask
 from pert_companion.analysis.scheduling import (
@@ -28,6 +28,7 @@ from pert_companion.model.amounts import measure_of
 from pert_companion.model.errors import InputError
 from pert_companion.model.figures import money_text
 from pert_companion.model.ledger import find_ledger, ledger_path
+from pert_companion.model.logic import Spans
 from pert_companion.model.losses import Loss, LossKind
 from pert_companion.model.plan import Plan
 from pert_companion.model.sidefile import SideFile, card_codes
@@ -35,6 +36,7 @@ from pert_companion.model.source import Source, read_bytes
 from pert_companion.programs.client import Programs
 from pert_companion.readers.base import ReaderOptions
 from pert_companion.state.project import ProjectState
+from pert_companion.state.remaining import remaining
 
 MAX_BYTES = 512 * 1024 * 1024
 """A longer file is not read."""
@@ -119,14 +121,34 @@ def carried_by_dates(
 ) -> Carried:
     """Returns the deck of a plan in which each task lasts what it spans at its normal dates.
 
-    Errors are those of `carry`.
+    Of a running plan these are the dates of what is left. Errors are those of `carry`.
     """
     logic = logic_of(plan, options)
     if logic is None:
         return carry(plan, options, deck_name)
-    carried = carry(plan, options, deck_name, spans(plan.calendar, *logic))
+    counted = spans(plan.calendar, *logic)
+    carried = carry(plan, options, deck_name, counted)
+    if carried.deck.statuses:
+        carried = _counted_in_rest(plan, options, carried, counted)
     text = calendars_text(carried.side)
     return replace(carried, notes=(*carried.notes, text)) if text else carried
+
+
+def _counted_in_rest(
+    plan: Plan, options: CarryOptions, carried: Carried, planned: Spans
+) -> Carried:
+    """Returns the deck of a running plan in which each task lasts what it spans in what is left.
+
+    Where what is left of a task is no whole unit, those after it begin within a day: they are
+    counted from its morning then. The deck stays as it is if that takes another unit too.
+    """
+    exact = spans_of_rest(remaining(carried.deck, carried.side), planned)
+    for counted in (exact, replace(exact, starts=from_mornings(exact.starts, carried.side))):
+        made = carry(plan, options, carried.side.deck_name, counted)
+        is_same_unit = made.side.unit_minutes == carried.side.unit_minutes
+        if is_same_unit and made.losses == carried.losses:
+            return made
+    return carried
 
 
 def _with_tables(carried: Carried, path: Path | None) -> Carried:
