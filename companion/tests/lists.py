@@ -6,7 +6,7 @@ a test compares all the rest.
 
 import csv
 import io
-from collections.abc import Sequence
+from collections.abc import Mapping, Sequence
 from dataclasses import dataclass, replace
 from datetime import date
 from decimal import Decimal
@@ -54,6 +54,7 @@ _HEADINGS = (
     ("Actual Finish", "Aktuelles Ende"),
     ("Remaining Duration", "Verbleibende Dauer"),
     ("Actual Cost", "Aktuelle Kosten"),
+    ("Remaining Cost", "Verbleibende Kosten"),
     ("Constraint Type", "Einschränkungsart"),
     ("Constraint Date", "Einschränkungstermin"),
     ("Deadline", "Stichtag"),
@@ -164,6 +165,7 @@ class Writer:
             self.day(progress.actual_finish),
             self.minutes(progress.remaining),
             self.money(progress.actual_cost),
+            self.money(progress.remaining_cost),
             CONSTRAINTS[constraint.kind][-1 if self.form.german else 0] if constraint else None,
             self.day(constraint.day if constraint else None),
             self.day(task.deadline),
@@ -208,7 +210,7 @@ def rows_of(plan: Plan, form: Form, typed: bool) -> list[list[Value]]:
         cells += [levels[entry.uid], codes[entry.uid], indent + entry.name]
         if isinstance(entry, Group):
             links = [link for link in plan.links if link.successor == entry.uid]
-            cells += [None] * 8 + [writer.links(links)] + [None] * 15
+            cells += [None] * 8 + [writer.links(links)] + [None] * 16
         else:
             cells += writer.task_cells(entry, plan)
         rows.append(cells)
@@ -217,6 +219,21 @@ def rows_of(plan: Plan, form: Form, typed: bool) -> list[list[Value]]:
     if form.outline != "level":
         rows = [row[:1] + row[2:] for row in rows]
     return rows
+
+
+def coded_rows(plan: Plan, typed: bool, names: Mapping[str, str]) -> list[list[Value]]:
+    """Returns the rows of a list with columns of codes and calendars.
+
+    `names` has other words for the names of calendars.
+    """
+    tasks = {task.uid: task for task in plan.tasks()}
+    rows = rows_of(plan, US, typed)
+    found: list[list[Value]] = [["Code", "Calendar", *rows[0]]]
+    for row in rows[1:]:
+        task = tasks.get(str(row[0]))
+        code, calendar = (None, None) if task is None else (f"T{task.uid}", task.calendar)
+        found.append([code, names.get(calendar or "", calendar), *row])
+    return found
 
 
 def csv_bytes(plan: Plan, form: Form, encoding: str = "utf-8") -> bytes:

@@ -12,6 +12,7 @@ from xml.sax.saxutils import escape, quoteattr
 
 from pert_companion.model.calendar import Calendar, Shift
 from pert_companion.model.plan import (
+    Baseline,
     ConstraintKind,
     Group,
     Lag,
@@ -191,7 +192,12 @@ def _finish_in_day(day: date, minutes: int) -> str:
     return f"{day}T{clock(480 + minutes + lunch)}"
 
 
-def _mspdi_task(task: Task) -> str:
+def _reached(task: Task, day: date, start: date) -> str:
+    """Returns when a task ended on a day: a milestone of the first day in its morning."""
+    return morning(day) if task.is_milestone and day == start else evening(day)
+
+
+def _mspdi_task(task: Task, start: date) -> str:
     progress, crash, constraint = task.progress, task.crash, task.constraint
     parts = [tag("Duration", iso_duration(task.minutes)), tag("DurationFormat", 7)]
     if task.listed_start is not None:
@@ -203,10 +209,11 @@ def _mspdi_task(task: Task) -> str:
     if progress.actual_start is not None:
         parts.append(tag("ActualStart", morning(progress.actual_start)))
     if progress.actual_finish is not None:
-        parts.append(tag("ActualFinish", evening(progress.actual_finish)))
+        parts.append(tag("ActualFinish", _reached(task, progress.actual_finish, start)))
     if progress.remaining is not None:
         parts.append(tag("RemainingDuration", iso_duration(progress.remaining)))
     parts.append(tag("ActualCost", cents(progress.actual_cost)))
+    parts.append(tag("RemainingCost", cents(progress.remaining_cost)))
     if constraint is not None:
         parts.append(tag("ConstraintType", MSPDI_CONSTRAINTS[constraint.kind]))
         if constraint.day is not None:
@@ -268,7 +275,7 @@ def mspdi_bytes(plan: Plan) -> bytes:
         body = tag("Summary", 1)
         if isinstance(entry, Task):
             number = calendar_number(plan, entry, 1) if entry.calendar else -1
-            body = _mspdi_task(entry) + tag("CalendarUID", number)
+            body = _mspdi_task(entry, plan.start) + tag("CalendarUID", number)
         tasks += (
             f"<Task><UID>{entry.uid}</UID><ID>{entry.uid}</ID>{tag('Name', entry.name)}"
             f"<OutlineLevel>{level[entry.uid]}</OutlineLevel>{body}{_mspdi_links(links)}</Task>"
@@ -363,9 +370,9 @@ def _p6_task(task: Task, codes: bool, plan: Plan) -> dict[str, object]:
         "remain_drtn_hr_cnt": _hours(task.minutes),
     }
     if task.listed_start is not None and task.listed_finish is not None:
-        finish = morning if task.is_milestone else evening
+        moment = morning if task.is_milestone else evening
         row["early_start_date"] = _p6_moment(morning(task.listed_start))
-        row["early_end_date"] = _p6_moment(finish(task.listed_finish))
+        row["early_end_date"] = _p6_moment(moment(task.listed_finish))
     if progress.percent is not None:
         row["status_code"] = "TK_Active" if progress.percent < 100 else "TK_Complete"
         row["phys_complete_pct"] = progress.percent
@@ -373,12 +380,16 @@ def _p6_task(task: Task, codes: bool, plan: Plan) -> dict[str, object]:
     if progress.actual_start is not None:
         row["act_start_date"] = _p6_moment(morning(progress.actual_start))
     if progress.actual_finish is not None:
-        row["act_end_date"] = _p6_moment(evening(progress.actual_finish))
+        finish = _reached(task, progress.actual_finish, plan.start)
+        row["act_end_date"] = _p6_moment(finish)
     if constraint is not None:
         row["cstr_type"] = P6_CONSTRAINTS[constraint.kind][0]
         if constraint.day is not None:
             moment = evening if constraint.kind in FINISH_KINDS else morning
             row["cstr_date"] = _p6_moment(moment(constraint.day))
+        if task.deadline is not None:
+            row["cstr_type2"] = P6_CONSTRAINTS[ConstraintKind.FINISH_NO_LATER][0]
+            row["cstr_date2"] = _p6_moment(evening(task.deadline))
     return row
 
 
@@ -395,11 +406,12 @@ def _p6_resources(plan: Plan) -> list[dict[str, object]]:
 
 
 def _p6_rates(plan: Plan) -> list[dict[str, object]]:
-    """Returns how much of each resource there is, of those that are limited."""
+    """Returns what resources cost, and how much of them there is."""
     found: list[dict[str, object]] = []
     for number, resource in enumerate(plan.resources, 100):
-        if resource.capacity is not None:
+        if resource.capacity is not None or resource.rate is not None:
             row = {"rsrc_id": number, "max_qty_per_hr": resource.capacity}
+            row["cost_per_qty"] = resource.rate
             found.append({**row, "start_date": "2026-01-01 00:00"})
     return found
 
@@ -475,6 +487,7 @@ def xer_bytes(plan: Plan, codes: bool = False, encoding: str = "utf-8") -> bytes
             "task_id": task.uid,
             "target_cost": task.cost,
             "act_cost": task.progress.actual_cost,
+            "remain_cost": task.progress.remaining_cost,
         }
         for task in tasks
         if task.cost is not None
@@ -614,6 +627,10 @@ def _pmxml_task(task: Task, codes: bool, plan: Plan) -> str:
     if constraint is not None:
         parts.append(tag("PrimaryConstraintType", P6_CONSTRAINTS[constraint.kind][1]))
         parts.append(tag("PrimaryConstraintDate", row.get("cstr_date")))
+    if "cstr_date2" in row:
+        latest = P6_CONSTRAINTS[ConstraintKind.FINISH_NO_LATER][1]
+        parts.append(tag("SecondaryConstraintType", latest))
+        parts.append(tag("SecondaryConstraintDate", row["cstr_date2"]))
     return f"<Activity>{''.join(parts)}</Activity>"
 
 
@@ -629,6 +646,7 @@ def _pmxml_resources(plan: Plan) -> str:
         found += (
             f"<ResourceRate>{tag('ResourceObjectId', rate['rsrc_id'])}"
             f"{tag('MaxUnitsPerTime', rate['max_qty_per_hr'])}"
+            f"{tag('PricePerUnit', rate['cost_per_qty'])}"
             f"{tag('EffectiveDate', '2026-01-01T00:00:00')}</ResourceRate>"
         )
     units = {resource.unit for resource in plan.resources if resource.unit != "h"}
@@ -667,7 +685,7 @@ def pmxml_bytes(plan: Plan, codes: bool = False) -> bytes:
             parts += (
                 f"<ActivityExpense>{tag('ActivityObjectId', task.uid)}"
                 f"{tag('PlannedCost', task.cost)}{tag('ActualCost', task.progress.actual_cost)}"
-                "</ActivityExpense>"
+                f"{tag('RemainingCost', task.progress.remaining_cost)}</ActivityExpense>"
             )
     types = "".join(
         f"<UDFType>{tag('ObjectId', n)}{tag('Title', name)}<SubjectArea>Activity</SubjectArea>"
@@ -687,8 +705,33 @@ def pmxml_bytes(plan: Plan, codes: bool = False) -> bytes:
         f"<Project><ObjectId>1</ObjectId><Id>P1</Id>{tag('Name', plan.name)}"
         f"{tag('PlannedStartDate', morning(plan.start))}{tag('DataDate', status)}"
         f"{tag('MustFinishByDate', evening(plan.must_finish)) if plan.must_finish else ''}"
-        f"{options}{groups}{tasks}{links}{parts}</Project></APIBusinessObjects>"
+        f"{options}{groups}{tasks}{links}{parts}</Project>{_pmxml_baselines(plan, codes)}"
+        "</APIBusinessObjects>"
     ).encode()
+
+
+def _pmxml_baselines(plan: Plan, codes: bool) -> str:
+    """Returns a project for each baseline, with the activities that it has, by their codes."""
+    text = ""
+    numbers = {saved.number for task in plan.tasks() for saved in task.baselines}
+    for number in sorted(numbers):
+        text += f"<BaselineProject>{tag('OriginalProjectObjectId', 1)}"
+        for task in plan.tasks():
+            for saved in task.baselines:
+                if saved.number == number:
+                    code = _p6_task(task, codes, plan)["task_code"]
+                    text += f"<Activity>{tag('Id', code)}{_pmxml_baseline(saved)}</Activity>"
+        text += "</BaselineProject>"
+    return text
+
+
+def _pmxml_baseline(saved: Baseline) -> str:
+    assert saved.start is not None and saved.finish is not None and saved.minutes is not None
+    return (
+        f"{tag('PlannedStartDate', morning(saved.start))}"
+        f"{tag('PlannedFinishDate', evening(saved.finish))}"
+        f"{tag('PlannedDuration', _hours(saved.minutes))}{tag('PlannedExpenseCost', saved.cost)}"
+    )
 
 
 # GanttProject and GNOME Planner
@@ -716,6 +759,60 @@ def _nested(plan: Plan, opening: dict[str, str], inside: dict[str, str]) -> str:
     return text + "</task>" * len(waiting)
 
 
+GAN_COLUMNS = (*((number, name) for number, name, _ in USER_FIELDS), (4, "Calendar"))
+"""The custom columns."""
+
+
+def _gan_task(task: Task, plan: Plan) -> str:
+    """Returns the attributes of a task: GanttProject has its start, and how much of it is done."""
+    start = task.progress.actual_start or task.listed_start or plan.start
+    values = _attributes(id=task.uid, name=task.name)
+    values += _attributes(meeting="true" if task.is_milestone else "false", start=start)
+    values += _attributes(duration=task.minutes // 480, complete=task.progress.percent or 0)
+    constraint = task.constraint
+    if constraint is not None and constraint.kind is ConstraintKind.START_NO_EARLIER:
+        values += f' thirdDate="{constraint.day}" thirdDate-constraint="1"'
+    values += _attributes(cost_manual_value=task.cost)
+    return values + _attributes(cost_calculated=None if task.cost is None else "false")
+
+
+def _gan_columns(task: Task) -> str:
+    """Returns the custom columns of a task; its shortest duration is in days."""
+    values: dict[int, object] = dict(_p6_user_values(task))
+    if task.crash is not None:
+        values[1] = task.crash.minutes // 480
+    if task.calendar is not None:
+        values[4] = task.calendar
+    return "".join(
+        f'<customproperty taskproperty-id="tpc{number}" value={quoteattr(str(value))}/>'
+        for number, value in values.items()
+    )
+
+
+def _gan_baselines(plan: Plan) -> str:
+    """Returns the saved baselines, with the start and the duration of each task that they have."""
+    text = ""
+    numbers = {saved.number for task in plan.tasks() for saved in task.baselines}
+    for number in sorted(numbers):
+        tasks = ""
+        for task in plan.tasks():
+            for saved in task.baselines:
+                if saved.number == number and saved.minutes is not None:
+                    values = _attributes(id=task.uid, start=saved.start)
+                    values += _attributes(duration=saved.minutes // 480, meeting="false")
+                    tasks += f'<previous-task{values} super="false"/>'
+        text += f'<previous-tasks name="Baseline {number}">{tasks}</previous-tasks>'
+    return f"<previous>{text}</previous>" if text else ""
+
+
+def _gan_resource(resource: Resource, number: int) -> str:
+    """Returns a resource, whose rate is that of a day."""
+    rate = ""
+    if resource.rate is not None:
+        rate = f'<rate name="standard" value="{resource.rate * 8:f}"/>'
+    return f"<resource{_attributes(id=number, name=resource.name)}>{rate}</resource>"
+
+
 def gan_bytes(plan: Plan) -> bytes:
     """Returns a plan of whole days as a file of GanttProject."""
     opening, inside = {}, {}
@@ -728,16 +825,8 @@ def gan_bytes(plan: Plan) -> bytes:
         )
         values = _attributes(id=entry.uid, name=entry.name, start=plan.start)
         if isinstance(entry, Task):
-            start = entry.listed_start or plan.start
-            values = _attributes(id=entry.uid, name=entry.name)
-            values += _attributes(meeting="true" if entry.is_milestone else "false", start=start)
-            values += _attributes(duration=entry.minutes // 480, complete=0)
-            values += _attributes(cost_manual_value=entry.cost)
-            values += _attributes(cost_calculated=None if entry.cost is None else "false")
-            for kind, value in _p6_user_values(entry):
-                shown = str(value).removesuffix(" min")
-                shown = str(int(shown) // 480) if kind == 1 else shown
-                links += f'<customproperty taskproperty-id="tpc{kind}" value="{shown}"/>'
+            values = _gan_task(entry, plan)
+            links += _gan_columns(entry)
         opening[entry.uid], inside[entry.uid] = values, links
     week = {name[:3].lower(): int(not s) for name, s in zip(WEEKDAYS, plan.calendar.week)}
     dates = "".join(
@@ -747,11 +836,9 @@ def gan_bytes(plan: Plan) -> bytes:
     )
     columns = "".join(
         f'<taskproperty id="tpc{n}" name="{name}" type="custom" valuetype="text"/>'
-        for n, name, _ in USER_FIELDS
+        for n, name in GAN_COLUMNS
     )
-    resources = "".join(
-        f"<resource{_attributes(id=n, name=r.name)}/>" for n, r in enumerate(crews(plan))
-    )
+    resources = "".join(_gan_resource(each, number) for number, each in enumerate(crews(plan)))
     return (
         f'<?xml version="1.0" encoding="UTF-8"?><project{_attributes(name=plan.name)}'
         f' view-date="{plan.start}" view-index="0" version="3.2.3247"><calendars>'
@@ -759,7 +846,7 @@ def gan_bytes(plan: Plan) -> bytes:
         f'/></day-types>{dates}</calendars><tasks empty-milestones="true">'
         f"<taskproperties>{columns}</taskproperties>{_nested(plan, opening, inside)}</tasks>"
         f"<resources>{resources}</resources><allocations>{_loads(plan, 'load')}</allocations>"
-        "</project>"
+        f"{_gan_baselines(plan)}</project>"
     ).encode()
 
 

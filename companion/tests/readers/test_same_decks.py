@@ -1,145 +1,166 @@
-"""One plan of 60 tasks in each format becomes the same deck, byte for byte."""
+"""One plan in each format becomes the same deck, byte for byte, and the same side file.
 
-from collections.abc import Callable
+The plan has everything that planners' files say. Where a format has no place for a fact, its files
+are compared with those of the others without that fact.
+"""
+
+from collections.abc import Callable, Mapping
 from dataclasses import replace
-from datetime import date
-from decimal import Decimal
+from datetime import timedelta
+from functools import cache
+from itertools import combinations
 from pathlib import Path
 
 import pytest
 
-from lists import US, csv_bytes, xlsx_bytes
+from every_format import FORMATS, Fact, Format, without
 from pert_companion import readers
-from pert_companion.carry import carry
-from pert_companion.model.plan import (
-    Assignment,
-    Constraint,
-    ConstraintKind,
-    Group,
-    Plan,
-    Progress,
-    Resource,
-    Task,
-)
+from pert_companion.carry import CarryOptions, carry
+from pert_companion.importing.conversion import Capacities, Imported, import_plan
+from pert_companion.model.calendar import Calendar
+from pert_companion.model.plan import ConstraintKind, LinkKind, Plan
+from pert_companion.model.sidefile import SideFile, SideTask
 from pert_companion.model.source import Source
 from pert_companion.readers.base import ReaderOptions
-from planner_files import gan_bytes, mspdi_bytes, planner_bytes, pmxml_bytes, xer_bytes
-from sample_plan import DAY, FIRST_DAY, sample_plan
+from planner_files import mspdi_bytes, planner_bytes, xer_bytes
+from sample_plan import sample_plan
+from two_months import DAY, NOW, START, changed, dated, running, station
 
-CODES = {task.uid: f"T{task.uid}" for task in sample_plan().tasks()}
-LIST = ReaderOptions(name="House by the lake", start=FIRST_DAY, decimal=".", day_first=False)
+PAIRS = list(combinations(FORMATS, 2))
+STATES = ("planned", "running")
+DAYS = [START + timedelta(days=number) for number in range(420)]
 
 
-def deck_of(data: bytes, options: ReaderOptions = ReaderOptions()) -> bytes:
+@cache
+def plan_of(state: str) -> Plan:
+    """Returns the plan as it was planned, or in its second month."""
+    planned = dated(station())
+    return running(planned) if state == "running" else planned
+
+
+@cache
+def imported(name: str, state: str, facts: frozenset[Fact]) -> Imported:
+    """Returns the import of a file of a format, of the plan without some facts; nothing is lost."""
+    form, plan = FORMATS[name], without(plan_of(state), facts)
+    said = {}
+    if form.is_told_days_and_capacities:
+        said = {each.name: each.capacity for each in plan.resources if each.capacity is not None}
+    source, deck = Source(Path(f"plan{form.ending}"), form.write(plan)), Path("none/plan.csv")
+    given, capacities = options_of(form, plan), Capacities(said)
+    found = import_plan(source, given, CarryOptions(), deck, capacities=capacities)
+    assert (found.format, found.losses) == ("table" if name == "csv" else name, ())
+    return found
+
+
+def options_of(form: Format, plan: Plan) -> ReaderOptions:
+    """Returns what the import of a file is told."""
+    options = ReaderOptions()
+    if form.is_list:
+        options = ReaderOptions(name=plan.name, start=START, decimal=".", day_first=False)
+    if form.is_told_days_and_capacities:
+        options = replace(options, holidays=plan.calendar.exceptions)
+    return options if form.has_status_date else replace(options, data_date=plan.data_date)
+
+
+def worked(calendar: Calendar) -> tuple[object, ...]:
+    """Returns the shifts of each day of more than a year, and how long days and weeks are."""
+    shifts = tuple(calendar.shifts_on(day) for day in DAYS)
+    return shifts, calendar.day_minutes, calendar.week_minutes, calendar.month_days
+
+
+def side_facts(side: SideFile, facts: frozenset[Fact]) -> dict[str, object]:
+    """Returns what a side file says, without what formats call their calendars and groups."""
+    assert side.logic is not None
+    days = {each.name: worked(each) for each in side.logic.calendars}
+    ties = [(replace(tie, calendar=""), days.get(tie.calendar)) for tie in side.logic.ties]
+    return {
+        "start": side.start,
+        "data date": side.data_date,
+        "unit": (side.unit_minutes, side.money_scale),
+        "calendar": worked(side.calendar),
+        "tasks": [_task_facts(task, days, facts) for task in side.tasks],
+        "groups": [(group.code, group.name) for group in side.groups],
+        "waits": side.waits,
+        "cards": side.cards,
+        "capacities": [replace(each, is_said=False) for each in side.capacities],
+        "begin": side.logic.begin,
+        "ties": sorted(ties, key=str),
+    }
+
+
+def _task_facts(task: SideTask, days: Mapping[str, object], facts: frozenset[Fact]) -> object:
+    """Returns what a side file says of a task, with the days of its own calendar.
+
+    GanttProject has no actual dates, counts the finish by the calendar of the plan, and has whole
+    percentages, so that what is left is compared in days.
+    """
+    plain = replace(task, row=None, uid=task.uid.removeprefix("T"))
+    if Fact.ACTUAL_DATES in facts:
+        days_left = None if task.remaining is None else -(-task.remaining // DAY)
+        plain = replace(plain, actual_start=None, actual_finish=None, remaining=days_left)
+    if task.own is None:
+        return plain, None
+    if Fact.ACTUAL_DATES in facts:
+        plain = replace(plain, listed_finish=None)
+    return replace(plain, own=replace(task.own, calendar="")), days[task.own.calendar]
+
+
+@pytest.mark.parametrize("state", STATES)
+@pytest.mark.parametrize(("one", "other"), PAIRS)
+def test_two_formats(one: str, other: str, state: str) -> None:
+    """The decks have the same bytes, and the side files say the same."""
+    facts = FORMATS[one].lacks | FORMATS[other].lacks
+    first, second = imported(one, state, facts), imported(other, state, facts)
+    assert first.carried.data == second.carried.data
+    found, wanted = (side_facts(each.side, facts) for each in (first, second))
+    for name, value in found.items():
+        assert value == wanted[name], name
+    assert resources_of(first.plan) == resources_of(second.plan)
+
+
+def resources_of(plan: Plan) -> set[object]:
+    """Returns what a plan says of its resources."""
+    return {(each.name, each.kind, each.unit, each.rate, each.capacity) for each in plan.resources}
+
+
+def test_the_plan_has_everything() -> None:
+    """What the tests compare is there: cards of all kinds, and what the side file keeps."""
+    found = imported("mspdi", "running", frozenset())
+    deck, side = found.carried.deck, found.side
+    assert side.logic is not None
+    for cards in (deck.statuses, deck.charges, deck.to_go, deck.loads, deck.resources):
+        assert cards
+    assert deck.as_of == NOW + timedelta(days=1)
+    assert {tie.kind for tie in side.logic.ties if tie.before} == set(LinkKind)
+    assert {tie.lag > 0 for tie in side.logic.ties if tie.lag} == {True, False}
+    kinds = {task.constraint.kind for task in side.tasks if task.constraint is not None}
+    assert kinds == set(ConstraintKind)
+    first = side.tasks[0]
+    assert first.minutes == 0 and first.actual_start == first.actual_finish == START
+
+
+@pytest.mark.parametrize("name", FORMATS)
+def test_each_fact_is_in_the_file(name: str) -> None:
+    """A file without a fact that its format has is another one."""
+    form = FORMATS[name]
+    told = {Fact.CAPACITIES} if form.is_told_days_and_capacities else set()
+    complete = without(plan_of("running"), form.lacks)
+    for fact in set(Fact) - form.lacks - told:
+        less = without(complete, (fact,))
+        assert less == complete or form.write(less) != form.write(complete), fact
+
+
+def deck_of(data: bytes) -> bytes:
     """Returns the deck of a planner's file, from which nothing is lost."""
-    reading = readers.read(Source(Path("plan.file"), data), options)
-    assert reading.losses == ()
+    reading = readers.read(Source(Path("plan.file"), data), ReaderOptions())
     carried = carry(reading.plan)
-    assert carried.losses == ()
+    assert reading.losses == carried.losses == ()
     return carried.data
-
-
-def with_codes(data: bytes) -> bytes:
-    """Returns a list with a column of the codes that other formats make of their ids."""
-    lines = data.decode().split("\r\n")
-    found = ["Code," + lines[0]]
-    for line in lines[1:]:
-        code = CODES.get(line.partition(",")[0], "")
-        found.append(f"{code},{line}" if line else line)
-    return "\r\n".join(found).encode()
 
 
 def without_costs(plan: Plan) -> Plan:
     """Returns a plan as Planner can say it: its tasks cost what their resources do."""
-    outline = tuple(
-        replace(entry, cost=None) if isinstance(entry, Task) else entry for entry in plan.outline
-    )
-    return replace(plan, outline=outline)
-
-
-def _running(entry: Task | Group) -> Task | Group:
-    if not isinstance(entry, Task):
-        return entry
-    if entry.uid == "2":
-        done = Progress(Decimal(100), date(2026, 3, 2), date(2026, 3, 4), 0)
-        return replace(entry, progress=done)
-    if entry.uid == "3":
-        return replace(entry, progress=Progress(Decimal(50), date(2026, 3, 5), None, 960))
-    if entry.uid == "4":
-        waits = Constraint(ConstraintKind.START_NO_EARLIER, date(2026, 3, 16))
-        return replace(entry, constraint=waits)
-    return entry
-
-
-def running_plan() -> Plan:
-    """Returns the plan with what GanttProject and Planner have no place for.
-
-    The first task is finished, the second has two of its four days left on the evening of Friday,
-    6 March; a crew of two works on the third, which waits for a day that comes after its links.
-    """
-    plan = sample_plan()
-    outline = tuple(_running(entry) for entry in plan.outline)
-    return replace(
-        plan,
-        outline=outline,
-        data_date=date(2026, 3, 6),
-        resources=(Resource("Crew", "Crew", capacity=Decimal(2)),),
-        assignments=(Assignment("4", "Crew", Decimal(480)),),
-    )
-
-
-def test_a_running_plan_with_resources_and_constraints() -> None:
-    """MS Project, both of Primavera and CSV: progress, a data date, a crew, a fixed date.
-
-    The deck is as of the morning after the data date.
-    """
-    plan = running_plan()
-    wanted = deck_of(mspdi_bytes(plan))
-    for card in (b"\nASOF,2026-03-07\n", b"\nRES,Crew,", b"\nLOAD,T4,Crew,8\n"):
-        assert card in wanted
-    assert deck_of(xer_bytes(plan, codes=True)) == wanted
-    assert deck_of(pmxml_bytes(plan, codes=True)) == wanted
-    listed = replace(plan, calendar=replace(plan.calendar, exceptions=()))
-    options = replace(LIST, data_date=plan.data_date)
-    assert deck_of(with_codes(csv_bytes(listed, US)), options) == wanted
-    assert deck_of(xlsx_bytes(plan, US), options) == deck_of(csv_bytes(listed, US), options)
-
-
-def test_a_crew_in_six_formats() -> None:
-    """A crew of one task for all of its five days is the same load in each format."""
-    load = b"\nLOAD,T4,Crew,40\n"
-    plan = replace(
-        sample_plan(),
-        resources=(Resource("Crew", "Crew"),),
-        assignments=(Assignment("4", "Crew", Decimal(5 * DAY)),),
-    )
-    wanted = deck_of(mspdi_bytes(plan))
-    assert load in wanted
-    assert deck_of(xer_bytes(plan, codes=True)) == wanted
-    assert deck_of(pmxml_bytes(plan, codes=True)) == wanted
-    assert deck_of(gan_bytes(plan)) == wanted
-    listed = replace(plan, calendar=replace(plan.calendar, exceptions=()))
-    assert deck_of(with_codes(csv_bytes(listed, US)), LIST) == wanted
-    assert deck_of(xlsx_bytes(plan, US), LIST) == deck_of(csv_bytes(plan, US), LIST)
-
-
-def test_five_formats_with_everything() -> None:
-    """MS Project, both of Primavera, GanttProject, CSV: costs, crash durations, links with lags."""
-    plan = sample_plan()
-    wanted = deck_of(mspdi_bytes(plan))
-    assert wanted.count(b"\nTASK,") >= 60 and b",50" in wanted
-    assert deck_of(xer_bytes(plan, codes=True)) == wanted
-    assert deck_of(pmxml_bytes(plan, codes=True)) == wanted
-    assert deck_of(gan_bytes(plan)) == wanted
-    listed = replace(plan, calendar=replace(plan.calendar, exceptions=()))
-    assert deck_of(with_codes(csv_bytes(listed, US)), LIST) == wanted
-
-
-def test_workbook_as_well() -> None:
-    """A workbook has no column of codes here, so codes come from names; all else is the same."""
-    plan = sample_plan()
-    listed = deck_of(csv_bytes(plan, US), LIST)
-    assert deck_of(xlsx_bytes(plan, US), LIST) == listed
+    return changed(plan, lambda task: replace(task, cost=None))
 
 
 def test_gnome_planner() -> None:

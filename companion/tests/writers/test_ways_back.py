@@ -19,7 +19,6 @@ from chosen_lengths import (
 )
 from cpm import Dates
 from examples import length_count
-from gan_files import started_gan
 from p6_files import DURATION_TYPES, full_pmxml, full_xer, xer_tables
 from pert_companion import readers
 from pert_companion.analysis.schedule import Schedule
@@ -32,6 +31,7 @@ from pert_companion.readers.base import ReaderOptions
 from pert_companion.state.remaining import State
 from pert_companion.writers.changed_fields import CHANGED, listed
 from pert_companion.writers.into import WAYS_BACK
+from planner_files import gan_bytes
 from plans import Feature, plans
 
 PLANNED = frozenset(
@@ -91,6 +91,11 @@ def pmxml_fields(data: bytes) -> Fields:
     return found
 
 
+def full_gan(plan: Plan, _: str) -> bytes:
+    """Returns a plan as GanttProject has it, which has no types of durations."""
+    return gan_bytes(plan)
+
+
 def gan_fields(data: bytes) -> Fields:
     """Returns the attributes of the elements of a file, by their places."""
     found: Fields = {}
@@ -102,7 +107,7 @@ def gan_fields(data: bytes) -> Fields:
 FORMATS = {
     "xer": Format("xer", full_xer, xer_fields, RUNNING | {Feature.CONSTRAINTS}),
     "pmxml": Format("pmxml", full_pmxml, pmxml_fields, RUNNING | {Feature.CONSTRAINTS}),
-    "gan": Format("gan", started_gan, gan_fields, lists_finishes=False),
+    "gan": Format("gan", full_gan, gan_fields, lists_finishes=False),
 }
 NEW_EXPENSES = ("PROJCOST", "ActivityExpense")
 EVERY = pytest.mark.parametrize("format_name", FORMATS)
