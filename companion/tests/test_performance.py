@@ -24,6 +24,7 @@ from pert_companion.model.registers import (
     Renames,
     Technique,
 )
+from pert_companion.model.text_form import PLAIN
 from pert_companion.state.project import ProjectState
 from pert_companion.writers import performance_text
 
@@ -325,9 +326,9 @@ def test_time_phased_keeps_what_was_reported() -> None:
     assert (second.close, second.reported_pv) == (date(2026, 3, 24), None)
     plain = time_phased([plan, then, now], [plan])
     assert not any(month.reported_ev for month in plain)
-    text = performance_text.months_to_text(months, "MONTHS", 1)
+    text = performance_text.months_to_text(months, "MONTHS", PLAIN)
     assert "REPORTED PV" in text
-    assert "REPORTED" not in performance_text.months_to_text(plain, "MONTHS", 1)
+    assert "REPORTED" not in performance_text.months_to_text(plain, "MONTHS", PLAIN)
 
 
 def test_time_phased_costs_are_the_ledgers() -> None:
@@ -365,6 +366,6 @@ def test_every_table_has_every_figure() -> None:
     rows = performance_text.to_csv(found.structure, 100).decode().splitlines()
     assert rows[0].split(",")[5:12] == ["BAC", "PV", "EV", "AC", "SV", "CV", "SPI"]
     assert rows[1].startswith("W,Work,1,,work,66.00,54.00,48.00,27.00,-6.00,21.00,0.889,1.778,")
-    text = performance_text.to_text(found.accounts, "ACCOUNTS", 1)
+    text = performance_text.to_text(found.accounts, "ACCOUNTS", PLAIN)
     assert "SINCE THE STATE BEFORE" in text and "Labour" in text
     assert Fraction(4800, 5400) == found.earned.total.spi

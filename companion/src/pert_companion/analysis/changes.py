@@ -13,10 +13,10 @@ from fractions import Fraction
 
 from pert_companion.model.cards import ActivityCard, PieceCard, TaskCard
 from pert_companion.model.deck import Deck
-from pert_companion.model.figures import days_text, money_text
 from pert_companion.model.moments import last_day_before
 from pert_companion.model.predecessors import RealLink, real_links
 from pert_companion.model.sidefile import SideFile, SideTask
+from pert_companion.model.text_form import TextForm
 from pert_companion.state.matching import Matching, match_accounts
 from pert_companion.state.project import ProjectState
 
@@ -75,8 +75,8 @@ class Side:
     state: ProjectState
     factor: int
     """How many units of money of the comparison one of the deck is."""
-    scale: int = 1
-    """How many units of money of the comparison one of the currency is."""
+    form: TextForm
+    """How texts look, with the units of money of the comparison."""
 
     def amount(self, amount: int) -> int:
         """Returns an amount of the deck in units of the comparison."""
@@ -84,7 +84,7 @@ class Side:
 
     def money(self, amount: int) -> str:
         """Returns an amount of the deck in the currency."""
-        return money_text(self.amount(amount), self.scale)
+        return self.form.money(self.amount(amount))
 
 
 def task_changes(old: Side, new: Side, matching: Matching) -> tuple[Change, ...]:
@@ -124,6 +124,7 @@ class _Facts:
 
     def __init__(self, side: Side) -> None:
         self.scale = side
+        self.form = side.form
         self.side = side.state.side
         deck = side.state.deck
         self.cards: dict[str, TaskCard | ActivityCard] = {card.code: card for card in deck.work}
@@ -141,7 +142,7 @@ class _Facts:
 
     def days(self, units: int) -> str:
         """Returns a duration in planner's days."""
-        return days_text(units * self.side.unit_minutes, self.side.calendar.day_minutes)
+        return self.form.days(units * self.side.unit_minutes, self.side.calendar.day_minutes)
 
     def name(self, task: SideTask) -> str:
         """Returns the name."""
@@ -182,7 +183,7 @@ class _Facts:
     def price(self, slope: int) -> str:
         """Returns the price of a planner's day from that of a unit, with at most two decimals."""
         day = Fraction(self.scale.amount(slope) * self.side.calendar.day_minutes)
-        return days_text(round(day), self.side.unit_minutes * self.scale.scale)
+        return self.form.days(round(day), self.side.unit_minutes * self.form.money_scale)
 
     def package(self, task: SideTask) -> str:
         """Returns the names of the groups above it."""
@@ -213,7 +214,7 @@ class _Facts:
         for part in task.parts:
             for name, quantity in self.resources.get(part, []):
                 sums[name] = sums.get(name, 0) + quantity
-        return ", ".join(f"{name} {sums[name]}" for name in sorted(sums))
+        return ", ".join(f"{name} {self.form.count(sums[name])}" for name in sorted(sums))
 
     def links(self, task: SideTask, names: Mapping[str, str]) -> list[str]:
         """Returns its links, the predecessors by the names of the other state."""
@@ -284,7 +285,7 @@ def _budget_changes(old: Side, new: Side) -> Iterator[Change]:
     for code in [*after, *(code for code in before if code not in after)]:
         was, is_now = before.get(code), after.get(code)
         if was != is_now:
-            texts = _money(old, was), _money(new, is_now)
+            texts = old.form.money_cell(was), new.form.money_cell(is_now)
             yield Change(ChangeKind.BUDGET, code, _title(old, new, code), *texts)
 
 
@@ -293,10 +294,6 @@ def _free_budgets(side: Side) -> dict[str, int]:
     deck = side.state.deck
     measured = {card.item for card in deck.work}
     return {a.code: side.amount(a.budget) for a in deck.accounts if a.item not in measured}
-
-
-def _money(side: Side, amount: int | None) -> str:
-    return "" if amount is None else money_text(amount, side.scale)
 
 
 def _title(old: Side, new: Side, code: str) -> str:

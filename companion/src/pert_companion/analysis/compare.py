@@ -33,8 +33,8 @@ from pert_companion.analysis.restated_money import (
 )
 from pert_companion.analysis.total_float import SIXTHS
 from pert_companion.model.errors import UsageError
-from pert_companion.model.figures import day_words
 from pert_companion.model.moments import midnight
+from pert_companion.model.text_form import TextForm
 from pert_companion.programs.results import Breakpoint, cost_at
 from pert_companion.state.matching import Matching, match_states
 from pert_companion.state.project import ProjectState
@@ -187,13 +187,15 @@ def compare(
     baseline: ProjectState | None = None,
     by: date | None = None,
     later: Sequence[ProjectState] = (),
+    on_terminal: bool = False,
 ) -> History:
     """Returns the history of one or more states, which are in the order of their as-of dates.
 
     The first one is the baseline unless another one is given, and `later` ones replaced it. Each
     state is measured by the baseline that was in force then, and by the newest one too. `by` is the
     last day that the end is measured by; without it, that is what the directed end of each deck
-    allows. Raises `UsageError` if the states are not in order.
+    allows. `on_terminal` says whether texts of what changed are for a terminal. Raises `UsageError`
+    if the states are not in order.
     """
     _check_order(states)
     baselines = baselines_of(states, baseline, later)
@@ -202,12 +204,13 @@ def compare(
     for state in states:
         found = _figures(state, baselines, scale)
         figures.append(found if by is None else replace(found, directed=by))
+    form = TextForm(on_terminal, scale)
     newest = [found for found in figures if found.state is baselines[-1]]
     return History(
         baseline=newest[0] if newest else _figures(baselines[-1], baselines[-1:], scale),
         baselines=tuple(state.name for state in baselines),
         states=tuple(figures),
-        comparisons=tuple(_comparison(old, new, scale) for old, new in zip(figures, figures[1:])),
+        comparisons=tuple(_comparison(old, new, form) for old, new in zip(figures, figures[1:])),
         money_scale=scale,
         currency=states[-1].side.currency,
     )
@@ -286,15 +289,15 @@ def directed_day(state: ProjectState) -> date | None:
     return None if directed is None else end_of_sixths(state, directed * SIXTHS)
 
 
-def _comparison(old: StateFigures, new: StateFigures, scale: int) -> Comparison:
+def _comparison(old: StateFigures, new: StateFigures, form: TextForm) -> Comparison:
     matching = match_states(old.state, new.state)
-    sides = _side(old, scale), _side(new, scale)
+    sides = _side(old, form), _side(new, form)
     return Comparison(
         old=old,
         new=new,
         end_moved_minutes=late_minutes(new.state.side.calendar, old.end, _evening(new.end)) or 0,
-        joined=tuple(_joined(old, new, matching)),
-        left=tuple(_left(old, new, matching)),
+        joined=tuple(_joined(old, new, matching, form)),
+        left=tuple(_left(old, new, matching, form)),
         changes=task_changes(*sides, matching),
         restated=(*restatements(*sides, matching), *restated_money(*sides)),
         credits=credit_notes(*sides),
@@ -304,15 +307,17 @@ def _comparison(old: StateFigures, new: StateFigures, scale: int) -> Comparison:
     )
 
 
-def _side(figures: StateFigures, scale: int) -> Side:
-    return Side(figures.state, scale // figures.state.side.money_scale, scale)
+def _side(figures: StateFigures, form: TextForm) -> Side:
+    return Side(figures.state, form.money_scale // figures.state.side.money_scale, form)
 
 
 def _evening(day: date) -> datetime:
     return midnight(day) + ONE_DAY
 
 
-def _joined(old: StateFigures, new: StateFigures, matching: Matching) -> Iterator[CriticalChange]:
+def _joined(
+    old: StateFigures, new: StateFigures, matching: Matching, form: TextForm
+) -> Iterator[CriticalChange]:
     before = {entry.code: entry for entry in old.forecast.tasks}
     origins = matching.old_of()
     for task in new.forecast.tasks:
@@ -328,11 +333,13 @@ def _joined(old: StateFigures, new: StateFigures, matching: Matching) -> Iterato
             yield CriticalChange(
                 task.code,
                 task.name,
-                f"had {day_words(minutes, old.day_minutes)} of slack",
+                f"had {form.day_words(minutes, old.day_minutes)} of slack",
             )
 
 
-def _left(old: StateFigures, new: StateFigures, matching: Matching) -> Iterator[CriticalChange]:
+def _left(
+    old: StateFigures, new: StateFigures, matching: Matching, form: TextForm
+) -> Iterator[CriticalChange]:
     after = {entry.code: entry for entry in new.forecast.tasks}
     codes = {older.code: newer.code for older, newer in matching.pairs}
     for task in old.forecast.tasks:
@@ -346,7 +353,7 @@ def _left(old: StateFigures, new: StateFigures, matching: Matching) -> Iterator[
         elif not after[code].is_critical:
             minutes = after[code].total_float_minutes
             yield CriticalChange(
-                code, task.name, f"has {day_words(minutes, new.day_minutes)} of slack"
+                code, task.name, f"has {form.day_words(minutes, new.day_minutes)} of slack"
             )
 
 

@@ -16,10 +16,10 @@ from pert_companion.analysis.forecast import forecast
 from pert_companion.analysis.performance import charges_by_account, latest_by_account
 from pert_companion.model.cards import AccountCard
 from pert_companion.model.deck import Deck
-from pert_companion.model.figures import day_words, days_text, money_text
 from pert_companion.model.plan import LinkKind
 from pert_companion.model.predecessors import real_links
 from pert_companion.model.sidefile import SideTask
+from pert_companion.model.text_form import TextForm
 from pert_companion.state.matching import match_accounts, match_states
 from pert_companion.state.project import ProjectState
 
@@ -63,26 +63,29 @@ def doubts(
     state: ProjectState,
     previous: ProjectState | None = None,
     baseline: ProjectState | None = None,
+    on_terminal: bool = False,
 ) -> tuple[Doubt, ...]:
     """Returns what is hard to believe of a state: of its money, then of its tasks.
 
     `previous` is the state before it; without it, what compares two states is left out.
+    `on_terminal` says whether the texts are for a terminal.
     """
-    finder = _Finder(state, previous)
+    form = TextForm(on_terminal, state.side.money_scale)
+    finder = _Finder(state, previous, form)
     found = [*finder.of_accounts(), *finder.of_tasks()]
     if previous is not None:
         found.extend(_standing_still(state, previous))
     if baseline is not None:
-        found.extend(_unlogged(state, baseline))
+        found.extend(_unlogged(state, baseline, form))
     return tuple(found)
 
 
 class _Finder:
     """Looks at one state."""
 
-    def __init__(self, state: ProjectState, previous: ProjectState | None) -> None:
+    def __init__(self, state: ProjectState, previous: ProjectState | None, form: TextForm) -> None:
         self.state = state
-        self.scale = state.side.money_scale
+        self.form = form
         self.started = status_days(state.deck, "S")
         self.finished = status_days(state.deck, "F")
         self.spent = charges_by_account(state.deck)
@@ -97,7 +100,7 @@ class _Finder:
 
     def money(self, amount: int) -> str:
         """Returns an amount of the deck in the currency."""
-        return money_text(amount, self.scale)
+        return self.form.money(amount)
 
     def of_accounts(self) -> Iterator[Doubt]:
         """Yields the doubts about the money of each account."""
@@ -176,11 +179,11 @@ class _Finder:
 
     def days(self, minutes: int) -> str:
         """Returns working minutes in days."""
-        return days_text(minutes, self.state.side.calendar.day_minutes)
+        return self.form.days(minutes, self.state.side.calendar.day_minutes)
 
     def day_words(self, minutes: int) -> str:
         """Returns working minutes as `1 day` or `2.5 days`."""
-        return day_words(minutes, self.state.side.calendar.day_minutes)
+        return self.form.day_words(minutes, self.state.side.calendar.day_minutes)
 
     def _of_percent(self, task: SideTask) -> Iterator[Doubt]:
         if task.percent is None or task.remaining is None or not task.minutes:
@@ -256,17 +259,16 @@ def _progress_of(
     return found
 
 
-def _unlogged(state: ProjectState, baseline: ProjectState) -> Iterator[Doubt]:
-    scale = state.side.money_scale
+def _unlogged(state: ProjectState, baseline: ProjectState, form: TextForm) -> Iterator[Doubt]:
     titles, rows = _titles(state.deck) | _titles(baseline.deck), _rows_of_items(state)
     for move in unlogged_moves(state, baseline):
         figure = (
-            f"budget {money_text(move.before, scale)} before, {money_text(move.now, scale)} now;"
-            f" changes have {money_text(move.logged, scale)}"
+            f"budget {form.money(move.before)} before, {form.money(move.now)} now;"
+            f" changes have {form.money(move.logged)}"
         )
-        effect = f"{money_text(move.unlogged, scale)} without a row in changes.csv"
+        effect = f"{form.money(move.unlogged)} without a row in changes.csv"
         if move.now == move.before:
-            effect = f"{money_text(move.logged, scale)} of changes.csv are not in its budget"
+            effect = f"{form.money(move.logged)} of changes.csv are not in its budget"
         kind = DoubtKind.UNLOGGED
         yield Doubt(
             kind,

@@ -17,8 +17,8 @@ from pert_companion.analysis.changes import (
     has_only_totals,
 )
 from pert_companion.analysis.money import shown_day
-from pert_companion.model.figures import money_text
 from pert_companion.model.ledger import Ledger
+from pert_companion.model.text_form import TextForm
 from pert_companion.state.matching import match_accounts
 from pert_companion.state.project import ProjectState
 
@@ -70,17 +70,15 @@ def restated_money(old: Side, new: Side) -> Iterator[Restated]:
         before, after = (
             _booked(ledger, side, close) for ledger, side in zip(ledgers, (old, new)) if ledger
         )
-        yield from _restated_amounts(before, after, titles, "charges", new.scale)
+        yield from _restated_amounts(before, after, titles, "charges", new.form)
     elif has_only_totals(old.state.deck) or has_only_totals(new.state.deck):
         yield from _restated_totals(old, new, names, titles)
     else:
         before, after = _charges(old, old.state.as_of), _charges(new, old.state.as_of)
-        yield from _restated_amounts(_named(before, names), after, titles, "charges", new.scale)
+        yield from _restated_amounts(_named(before, names), after, titles, "charges", new.form)
     if has_dated_to_go(old.state.deck) and has_dated_to_go(new.state.deck):
         before, after = _to_go(old, old.state.as_of), _to_go(new, old.state.as_of)
-        yield from _restated_amounts(
-            _named(before, names), after, titles, "amount to go", new.scale
-        )
+        yield from _restated_amounts(_named(before, names), after, titles, "amount to go", new.form)
 
 
 def _titles(old: Side, new: Side) -> dict[str, str]:
@@ -130,7 +128,7 @@ def _restated_totals(
         code = names.get(old_code, old_code)
         now = after.get(code, 0)
         if now < amount:
-            texts = money_text(amount, old.scale), money_text(now, new.scale)
+            texts = old.form.money(amount), new.form.money(now)
             day = old.state.data_day
             yield Restated(code, titles[code], "charges", *texts, day, now - amount)
 
@@ -143,18 +141,18 @@ def _totals(amounts: _Dated) -> dict[str, int]:
 
 
 def _restated_amounts(
-    before: _Dated, after: _Dated, titles: Mapping[str, str], what: str, scale: int
+    before: _Dated, after: _Dated, titles: Mapping[str, str], what: str, form: TextForm
 ) -> Iterator[Restated]:
     for key in sorted(before.keys() | after.keys(), key=lambda key: (key[1], key[0])):
         was, is_now = before.get(key), after.get(key)
         if was != is_now:
-            texts = _money(was, scale), _money(is_now, scale)
+            texts = _money(was, form), _money(is_now, form)
             moved = (is_now or 0) - (was or 0)
             yield Restated(key[0], titles.get(key[0], ""), what, *texts, key[1], moved)
 
 
-def _money(amount: int | None, scale: int) -> str:
-    return "none" if amount is None else money_text(amount, scale)
+def _money(amount: int | None, form: TextForm) -> str:
+    return "none" if amount is None else form.money(amount)
 
 
 def _charges(side: Side, last: date) -> _Dated:

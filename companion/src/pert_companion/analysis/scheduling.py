@@ -50,12 +50,13 @@ def normal_schedule(work: Work) -> Schedule:
     return settled_schedule(settled(work, None))
 
 
-def chosen_schedule(work: Work, choice: LengthChoice) -> Schedule:
+def chosen_schedule(work: Work, choice: LengthChoice, on_terminal: bool = False) -> Schedule:
     """Returns the schedule of the length that somebody chose, as the program has it for the choice.
 
-    Raises `InputError` or `ProgramError` if there is no such length.
+    `on_terminal` says whether its texts are for a terminal. Raises `InputError` or `ProgramError`
+    if there is no such length.
     """
-    return settled_schedule(chosen_work(work, choice))
+    return settled_schedule(chosen_work(work, choice), on_terminal)
 
 
 def chosen_work(work: Work, choice: LengthChoice) -> Settled:
@@ -69,24 +70,26 @@ def chosen_work(work: Work, choice: LengthChoice) -> Settled:
     return settled(work, None if is_normal else chosen_length(work, choice))
 
 
-def settled_schedule(found: Settled) -> Schedule:
+def settled_schedule(found: Settled, on_terminal: bool = False) -> Schedule:
     """Returns the schedule of work that is counted at its dates."""
-    return replace(schedule_of(found.work, found.point), counting=found.text())
+    return replace(schedule_of(found.work, found.point), counting=found.text(on_terminal))
 
 
-def plan_schedule(state: ProjectState, choice: LengthChoice) -> Schedule:
+def plan_schedule(state: ProjectState, choice: LengthChoice, on_terminal: bool = False) -> Schedule:
     """Returns the schedule of the plan of the first day, whatever has been done since."""
-    schedule = chosen_schedule(state.plan, choice)
+    schedule = chosen_schedule(state.plan, choice, on_terminal)
     return replace(schedule, is_past_plan=state.rest is not state.plan)
 
 
-def rest_schedule(state: ProjectState, choice: LengthChoice = LengthChoice()) -> Schedule:
+def rest_schedule(
+    state: ProjectState, choice: LengthChoice = LengthChoice(), on_terminal: bool = False
+) -> Schedule:
     """Returns the schedule of what is left of a state, with the actual dates of what is done.
 
     A finished task has its actual dates, and one under way its actual start; both have the float of
     what is left. If nothing has begun, this is the schedule of the plan.
     """
-    return with_actual_dates(state, chosen_schedule(state.rest, choice))
+    return with_actual_dates(state, chosen_schedule(state.rest, choice, on_terminal))
 
 
 def with_actual_dates(state: ProjectState, schedule: Schedule) -> Schedule:

@@ -14,7 +14,7 @@ from pert_companion.analysis.passes import Passes, passes_at
 from pert_companion.carry.recounting import recounted
 from pert_companion.model.amounts import measure_of
 from pert_companion.model.cards import AfterCard
-from pert_companion.model.figures import money_text
+from pert_companion.model.text_form import TextForm
 from pert_companion.programs import results
 from pert_companion.state.work import Work
 
@@ -41,11 +41,11 @@ class Settled:
     curve: tuple[results.Breakpoint, ...] = ()
     """The curve as it is counted at normal durations, of a plan with several calendars."""
 
-    def text(self) -> str:
+    def text(self, on_terminal: bool = False) -> str:
         """Returns what counting could not keep, for people; an empty text if it kept all."""
-        return "; ".join(self._texts())
+        return "; ".join(self._texts(TextForm(on_terminal, self.work.side.money_scale)))
 
-    def _texts(self) -> Iterator[str]:
+    def _texts(self, form: TextForm) -> Iterator[str]:
         measure, found = measure_of(self.work.side), self.point.length
         if self.wanted is not None and self.wanted != found:
             yield (
@@ -58,10 +58,9 @@ class Settled:
             return
         counted, _ = results.cost_at(self.curve, found)
         if counted != self.point.cost:
-            scale = self.work.side.money_scale
             yield (
-                f"counted at its dates it costs {money_text(self.point.cost, scale)}, and"
-                f" {money_text(counted, scale)} on the curve, which counts at those of normal"
+                f"counted at its dates it costs {form.money(self.point.cost)}, and"
+                f" {form.money(counted)} on the curve, which counts at those of normal"
                 " durations"
             )
         if self.work.shortest != self.curve[-1].length:

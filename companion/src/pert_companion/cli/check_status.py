@@ -61,7 +61,8 @@ def run(options: argparse.Namespace) -> int:
     if options.baseline is not None:
         baseline = opened([options.baseline], programs)[-1]
     state = states[-1]
-    found = doubts(state, previous, baseline)
+    is_shown = sys.stdout.isatty() and not (options.csv or options.json)
+    found = doubts(state, previous, baseline, is_shown)
     sys.stdout.write(_text(state, found, options))
     return 1 if options.strict and found else 0
 

@@ -83,8 +83,13 @@ def length_choice(options: argparse.Namespace) -> LengthChoice:
     return LengthChoice(options.length, options.by, options.optimum)
 
 
-def schedule_of_options(state: ProjectState, options: argparse.Namespace) -> Schedule:
-    """Returns the schedule that the options choose: of what is left, or of the plan."""
+def schedule_of_options(
+    state: ProjectState, options: argparse.Namespace, on_terminal: bool
+) -> Schedule:
+    """Returns the schedule that the options choose: of what is left, or of the plan.
+
+    `on_terminal` says whether its texts are for a terminal.
+    """
     if options.plan:
-        return plan_schedule(state, length_choice(options))
-    return rest_schedule(state, length_choice(options))
+        return plan_schedule(state, length_choice(options), on_terminal)
+    return rest_schedule(state, length_choice(options), on_terminal)

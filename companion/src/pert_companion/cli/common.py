@@ -11,6 +11,7 @@ from typing import IO, NoReturn
 from pert_companion import VERSION
 from pert_companion.model.errors import CompanionError, EndedError, UsageError
 from pert_companion.model.lines import one_line
+from pert_companion.model.text_form import TextForm
 
 PACKAGES = {
     "openpyxl": "python3-openpyxl",
@@ -94,6 +95,16 @@ def say(name: str, text: str) -> None:
         print(f"{name}: {one_line(text)}", file=sys.stderr, flush=True)
     except OSError:
         pass  # there is nobody left to tell
+
+
+def output_form(money_scale: int = 1) -> TextForm:
+    """Returns how texts on standard output look: plain unless it is a terminal."""
+    return TextForm(sys.stdout.isatty(), money_scale)
+
+
+def message_form(money_scale: int = 1) -> TextForm:
+    """Returns how texts on standard error look: plain unless it is a terminal."""
+    return TextForm(sys.stderr.isatty(), money_scale)
 
 
 def _line_of(error: BaseException) -> tuple[int, str]:

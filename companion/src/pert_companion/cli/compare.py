@@ -106,7 +106,8 @@ def run(options: argparse.Namespace) -> int:
 def _history(
     options: argparse.Namespace, states: list[ProjectState], named: list[ProjectState]
 ) -> str:
-    history = compare(states, None, options.by, named)
+    is_shown = sys.stdout.isatty() and not (options.csv or options.json)
+    history = compare(states, None, options.by, named, is_shown)
     for note in history.states[-1].forecast.notes:
         say(NAME, note)
     if options.csv:
@@ -115,7 +116,7 @@ def _history(
         result = summary_of(history)
         document = Document(NAME, history.money_scale, history.currency, result)
         return to_json(document).decode()
-    return compare_text.to_text(history)
+    return compare_text.to_text(history, is_shown)
 
 
 def _money(
@@ -130,4 +131,4 @@ def _money(
         document = Document(f"{NAME} --money", found.money_scale, found.currency, found)
         return to_json(document).decode()
     heading = shown(f"MONEY {last.deck.project.code} {last.data_day}, baseline {first.name}")
-    return money_text.to_text(found, heading)
+    return money_text.to_text(found, heading, sys.stdout.isatty())

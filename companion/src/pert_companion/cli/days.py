@@ -6,7 +6,7 @@ from dataclasses import replace
 from datetime import date
 from pathlib import Path
 
-from pert_companion.cli.common import CommandParser, say
+from pert_companion.cli.common import CommandParser, message_form, output_form, say
 from pert_companion.cli.words import day_word
 from pert_companion.cli.writing import (
     add_output_options,
@@ -166,7 +166,8 @@ def _write_calendar(options: argparse.Namespace) -> int:
     outputs.write(Output(path, SIDE_FILE, to_json(side)))
     free = len(side.calendar.exceptions)
     exceptions = "1 exception" if free == 1 else f"{free} exceptions"
-    say(NAME, f"{path}: {side.calendar.name}, {exceptions}, {len(side.tasks)} tasks")
+    tasks = message_form().count(len(side.tasks))
+    say(NAME, f"{path}: {side.calendar.name}, {exceptions}, {tasks} tasks")
     return 0
 
 
@@ -186,7 +187,7 @@ def _print_count(day: date, counts: Counts, is_json: bool) -> int:
         found = DayCount(day, counts.start, counts.side.unit_minutes, units)
         sys.stdout.write(result_text(f"{NAME} --count", counts.side, found))
     else:
-        print(units)
+        print(output_form().count(units))
     return 0
 
 

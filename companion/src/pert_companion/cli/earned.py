@@ -11,6 +11,7 @@ from pert_companion.analysis.compare import in_force
 from pert_companion.analysis.performance import Line, Performance, performance
 from pert_companion.analysis.time_phased import time_phased
 from pert_companion.analysis.variances import Threshold, Variance, variances
+from pert_companion.cli.common import output_form
 from pert_companion.cli.writing import is_file
 from pert_companion.model.errors import UsageError
 from pert_companion.model.output import WORKBOOK, Output, Outputs
@@ -122,7 +123,7 @@ def _packages(
     value = current.plan.value.items[current.plan.top].value
     heading = _heading("EARNED VALUE", current, baseline)
     day = current.side.calendar.day_minutes
-    return earned_text.to_text(found.earned, heading, day, value, scale)
+    return earned_text.to_text(found.earned, heading, day, value, output_form(scale))
 
 
 def _lines(
@@ -138,7 +139,7 @@ def _lines(
     if options.json:
         return _json(lines, current, f"--lines {options.lines}")
     heading = _heading(f"EARNED VALUE by {options.lines}", current, baseline)
-    return performance_text.to_text(lines, heading, scale)
+    return performance_text.to_text(lines, heading, output_form(scale))
 
 
 def _months(
@@ -154,7 +155,7 @@ def _months(
         return _json(months, current, "--lines months")
     baseline = in_force(current, baselines)
     heading = _heading("EARNED VALUE by account and month", current, baseline)
-    return performance_text.months_to_text(months, heading, scale)
+    return performance_text.months_to_text(months, heading, output_form(scale))
 
 
 def _variances_of(
@@ -178,7 +179,7 @@ def _variances(options: argparse.Namespace, current: ProjectState, found: Perfor
     if options.csv:
         return performance_text.variances_to_csv(listed, scale).decode()
     heading = shown(f"VARIANCES {current.deck.project.code} {current.data_day}")
-    return performance_text.variances_to_text(listed, heading, scale)
+    return performance_text.variances_to_text(listed, heading, output_form(scale))
 
 
 def _write(

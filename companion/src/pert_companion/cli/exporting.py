@@ -14,7 +14,7 @@ from pert_companion.cli.choosing import (
     programs_of,
     schedule_of_options,
 )
-from pert_companion.cli.common import CommandParser, say
+from pert_companion.cli.common import CommandParser, message_form, say
 from pert_companion.cli.opening import with_tables
 from pert_companion.cli.outcomes import ExportOutcome
 from pert_companion.cli.writing import (
@@ -79,7 +79,7 @@ def run(options: argparse.Namespace) -> int:
     outputs = outputs_of(options, [options.deck], [options.into])
     outputs.check(options.output, kind)
     state = with_tables(open_state(options.deck, programs_of(options)))
-    schedule = schedule_of_options(state, options)
+    schedule = schedule_of_options(state, options, message_form().on_terminal)
     missing: list[str] = []
     if original is None:
         data = new_file(ending, state, schedule, length_choice(options))
@@ -93,10 +93,8 @@ def run(options: argparse.Namespace) -> int:
         say(NAME, line)
     if schedule.counting:
         say(NAME, f"note: {schedule.counting}")
-    say(
-        NAME,
-        f"{named(options.output)}: {len(schedule.tasks)} tasks, {schedule.start} to {schedule.end}",
-    )
+    tasks = message_form().count(len(schedule.tasks))
+    say(NAME, f"{named(options.output)}: {tasks} tasks, {schedule.start} to {schedule.end}")
     if options.json:
         outcome = _outcome(options, written, schedule, lines)
         sys.stdout.write(result_text(NAME, state.side, outcome))

@@ -8,7 +8,7 @@ from pathlib import Path
 
 from pert_companion.carry import CarryOptions
 from pert_companion.cli.choosing import add_bin_option, programs_of
-from pert_companion.cli.common import CommandParser, say
+from pert_companion.cli.common import CommandParser, message_form, say
 from pert_companion.cli.words import add_cell_options, day_word, kind_word
 from pert_companion.cli.writing import (
     add_output_options,
@@ -340,11 +340,12 @@ def _write(
     if options.crash_sheet is not None:
         data, count = importing.sheet_to_fill_in(imported, state)
         written.append(Output(options.crash_sheet, WORKBOOK, data))
-        lines.append(f"{named(options.crash_sheet)}: {count} tasks to fill in")
+        tasks = message_form().count(count)
+        lines.append(f"{named(options.crash_sheet)}: {tasks} tasks to fill in")
     if options.output is not None or options.crash_sheet is None:
         written += deck_outputs(deck, imported.carried.data, imported.side)
     if deck is not None:
-        lines.append(f"{deck} and {side_path(deck)}: {importing.summary(imported)}")
+        lines.append(f"{deck} and {side_path(deck)}: {importing.summary(imported, message_form())}")
     outputs.write(*written)
     for line in lines:
         say(NAME, line)
@@ -452,7 +453,7 @@ def _compared_dates(
         say(NAME, f"dates are not compared with those of the file: {error}")
         return None
     found = importing.compare_dates(state)
-    say(NAME, found.summary())
+    say(NAME, found.summary(message_form()))
     if options.differences:
         for difference in found.differences:
             say(NAME, f"difference: {difference.line()}")

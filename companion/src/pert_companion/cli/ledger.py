@@ -9,7 +9,7 @@ from pathlib import Path
 
 from pert_companion.carry.charges import close_of
 from pert_companion.cli.choosing import add_bin_option, programs_of
-from pert_companion.cli.common import CommandParser, say
+from pert_companion.cli.common import CommandParser, message_form, say
 from pert_companion.cli.importing import column_word
 from pert_companion.cli.opening import opened
 from pert_companion.cli.words import add_cell_options, day_word, kind_word
@@ -26,7 +26,6 @@ from pert_companion.importing.conversion import read_source
 from pert_companion.importing.month_end import Books, Lists, MonthEnd, close_month
 from pert_companion.importing.outcomes import ledger_outcome
 from pert_companion.model.bookings import MEANINGS, BookingKind, Finding, not_accepted
-from pert_companion.model.figures import money_text
 from pert_companion.model.fitting import fitted_to
 from pert_companion.model.ledger import Ledger, ledger_path, read_ledger, to_bytes
 from pert_companion.model.output import LEDGER, Output, Outputs
@@ -156,7 +155,7 @@ def _book(
     state_of(books.deck, programs).plan.check()
     for line in _credit_lines(month):
         say(NAME, line)
-    say(NAME, month.sums.line(books.ledger.currency or books.side.currency))
+    say(NAME, month.sums.line(books.ledger.currency or books.side.currency, message_form()))
     if options.output is None:
         say(NAME, "nothing is written; say -o DECK")
     else:
@@ -230,7 +229,7 @@ def _is_accepted(findings: Iterable[Finding], accepted: frozenset[BookingKind]) 
     for finding in refused[:MOST_LINES]:
         say(NAME, finding.line())
     if len(refused) > MOST_LINES:
-        say(NAME, f"and {len(refused) - MOST_LINES} more")
+        say(NAME, f"and {message_form().count(len(refused) - MOST_LINES)} more")
     if refused:
         kinds = ",".join(dict.fromkeys(finding.kind.value for finding in refused))
         say(
@@ -246,23 +245,24 @@ def _counted(findings: Iterable[Finding]) -> str:
     counts: dict[str, int] = {}
     for finding in findings:
         counts[finding.kind.value] = counts.get(finding.kind.value, 0) + 1
-    return ", ".join(f"{count} {kind}" for kind, count in counts.items())
+    form = message_form()
+    return ", ".join(f"{form.count(count)} {kind}" for kind, count in counts.items())
 
 
 def _credit_lines(month: MonthEnd) -> Iterable[str]:
     """Yields a line for each new credit, with the days of the charges that it reduces."""
-    scale = month.books.side.money_scale
+    form = message_form(month.books.side.money_scale)
     vouchers = month.books.booked_ledger.vouchers
     new = {(each.account, each.day) for each in vouchers[len(vouchers) - month.count :]}
     credits = [credit for credit in month.booked.credits if (credit.account, credit.day) in new]
     for credit in credits[:MOST_LINES]:
         days = ", ".join(str(day) for day, _ in credit.reduced)
         yield (
-            f"credit: {credit.account} {credit.day}, {money_text(credit.amount, scale)}, reduces"
+            f"credit: {credit.account} {credit.day}, {form.money(credit.amount)}, reduces"
             f" what was charged on {days}"
         )
     if len(credits) > MOST_LINES:
-        yield f"and {len(credits) - MOST_LINES} credits more"
+        yield f"and {form.count(len(credits) - MOST_LINES)} credits more"
 
 
 def _files(books: Books, path: Path) -> list[Output]:
@@ -277,7 +277,8 @@ def _files(books: Books, path: Path) -> list[Output]:
 
 
 def _summary(month: MonthEnd, path: Path) -> str:
-    vouchers = len(month.books.ledger.vouchers)
+    form = message_form()
+    new, vouchers = form.count(month.count), form.count(len(month.books.ledger.vouchers))
     close = close_of(month.books.deck)
     files = f"{path} and its ledger" if is_file(path) else named(path)
-    return f"{files}: {month.count} new of {vouchers} vouchers, at the close of {close}"
+    return f"{files}: {new} new of {vouchers} vouchers, at the close of {close}"

@@ -8,7 +8,7 @@ from collections.abc import Sequence
 from pathlib import Path
 
 from pert_companion.cli.choosing import add_bin_option, programs_of
-from pert_companion.cli.common import CommandParser, say
+from pert_companion.cli.common import CommandParser, message_form, say
 from pert_companion.cli.writing import add_output_options, check_json, is_file, named, outputs_of
 from pert_companion.model.deck import read_bytes as read_deck_bytes
 from pert_companion.model.errors import CompanionError, UsageError
@@ -235,8 +235,9 @@ def _tell(rows: Sequence[Row], output: Path | None) -> int:
         line = row.fault if row.fault.startswith(row.path) else f"{row.path}: {row.fault}"
         say(NAME, line)
     place = "standard output" if output is None else named(output)
-    decks = "1 deck" if len(rows) == 1 else f"{len(rows)} decks"
-    say(NAME, f"{place}: {decks}, {len(refused)} refused")
+    form = message_form()
+    decks = "1 deck" if len(rows) == 1 else f"{form.count(len(rows))} decks"
+    say(NAME, f"{place}: {decks}, {form.count(len(refused))} refused")
     return 1 if refused else 0
 
 

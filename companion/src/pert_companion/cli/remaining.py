@@ -7,7 +7,7 @@ from dataclasses import replace
 from pathlib import Path
 
 from pert_companion.cli.choosing import add_bin_option, programs_of, said_left
-from pert_companion.cli.common import CommandParser, say
+from pert_companion.cli.common import CommandParser, output_form, say
 from pert_companion.cli.opening import with_tables
 from pert_companion.cli.writing import (
     add_output_options,
@@ -17,10 +17,10 @@ from pert_companion.cli.writing import (
     is_file,
     outputs_of,
 )
-from pert_companion.model.figures import money_text
 from pert_companion.model.fitting import fitted_to
 from pert_companion.model.output import Output
 from pert_companion.model.sidefile import SideTask
+from pert_companion.model.text_form import TextForm
 from pert_companion.state.project import ProjectState, open_state
 from pert_companion.state.remaining import Left, Remaining, State, left_of_tasks
 from pert_companion.writers.aligned import aligned
@@ -75,7 +75,7 @@ def run(options: argparse.Namespace) -> int:
 
 def _text(state: ProjectState, rest: Remaining, is_json: bool) -> str:
     if not is_json:
-        return table(state)
+        return table(state, output_form(rest.side.money_scale))
     rows = rows_of(rest, state.has_side_file)
     return result_text(NAME, rest.side, summary_of(rest, rows, state.data_day))
 
@@ -97,17 +97,16 @@ def rows_of(rest: Remaining, has_side_file: bool) -> list[tuple[Left, int]]:
     return [(left, of_tasks[left.code]) for left in left_of_tasks(rest)]
 
 
-def table(state: ProjectState) -> str:
+def table(state: ProjectState, form: TextForm) -> str:
     """Returns a row for each task, with its state, durations, costs, and what they rest on."""
     rest = state.remaining
     lefts = rows_of(rest, state.has_side_file)
     total = sum(card.cost for card in rest.deck.work)
-    scale = rest.side.money_scale
-    rows = [_row(left, cost, scale) for left, cost in lefts]
+    rows = [_row(left, cost, form) for left, cost in lefts]
     done = sum(left.state is State.FINISHED for left, _ in lefts)
     sunk = sum(left.sunk for left in rest.left)
-    finished = f"{done} of {len(lefts)} finished"
-    rows.append(("TOTAL", finished, "", "", money_text(total, scale), money_text(sunk, scale), ""))
+    finished = f"{form.count(done)} of {form.count(len(lefts))} finished"
+    rows.append(("TOTAL", finished, "", "", form.money(total), form.money(sunk), ""))
     headings = ("ACTIVITY", "STATE", "LEFT", "CRASH", "COST", "SUNK", "BY")
     lines = [f"REMAINING {rest.deck.project.code} {state.data_day}"]
     lines.extend(aligned(headings, rows, "llrrrrl"))
@@ -119,7 +118,7 @@ def _cost(task: SideTask, costs: Mapping[str, int]) -> int:
     return sum(costs[part] for part in task.parts)
 
 
-def _row(left: Left, cost: int, scale: int) -> tuple[str, ...]:
-    amounts = money_text(cost, scale), money_text(left.sunk, scale)
-    numbers = (str(left.normal), str(left.crash), *amounts)
+def _row(left: Left, cost: int, form: TextForm) -> tuple[str, ...]:
+    amounts = form.money(cost), form.money(left.sunk)
+    numbers = (form.count(left.normal), form.count(left.crash), *amounts)
     return (left.code, left.state.value, *numbers, left.basis.value)

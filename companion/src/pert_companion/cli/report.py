@@ -7,7 +7,7 @@ from pathlib import Path
 
 from pert_companion.analysis.lengths import named_length
 from pert_companion.cli.choosing import add_length_options, length_choice, programs_of
-from pert_companion.cli.common import CommandParser, say
+from pert_companion.cli.common import CommandParser, message_form, say
 from pert_companion.cli.opening import with_tables
 from pert_companion.cli.outcomes import CheckOutcome, ReportOutcome
 from pert_companion.cli.writing import add_output_options, check_json, named, outputs_of
@@ -131,7 +131,9 @@ def run(options: argparse.Namespace) -> int:
         gathered = gather(source, meter)
     page = render(page_of(gathered))
     outputs.write(Output(options.output, PAGE, page))
-    say(NAME, f"{named(options.output)}: {len(page):,} bytes, {gathered.answer}")
+    say(
+        NAME, f"{named(options.output)}: {message_form().count(len(page))} bytes, {gathered.answer}"
+    )
     if options.json:
         sys.stdout.write(result_text(NAME, state.side, _outcome(options.output, page, gathered)))
     return 0

@@ -166,7 +166,8 @@ def run(options: argparse.Namespace) -> int:
 
 def schedule_text(state: ProjectState, options: argparse.Namespace) -> str:
     """Returns the tasks that the options ask for, with their dates, as a table, CSV or JSON."""
-    schedule = schedule_of_options(state, options)
+    is_table = not (options.csv or options.json)
+    schedule = schedule_of_options(state, options, is_table and sys.stdout.isatty())
     tasks = selected(schedule, state, options)
     if options.csv:
         return to_csv(replace(schedule, tasks=tuple(tasks))).decode()
@@ -193,7 +194,7 @@ def forecast_text(state: ProjectState, options: argparse.Namespace) -> str:
     if options.json:
         summary = forecast_json.summary_of(found, tasks)
         return result_text(f"{NAME} --forecast", state.side, summary)
-    return forecast_writer.to_text(found, tasks)
+    return forecast_writer.to_text(found, tasks, sys.stdout.isatty())
 
 
 def load_text(state: ProjectState, options: argparse.Namespace) -> str:
@@ -228,7 +229,7 @@ def chances(state: ProjectState, options: argparse.Namespace) -> str:
     if options.json:
         summary = summary_of(found, schedule.end, day)
         return result_text(f"{NAME} --chance", state.side, summary)
-    return chance_text(found, schedule.end, day)
+    return chance_text(found, schedule.end, day, sys.stdout.isatty())
 
 
 def table_options(gantt: bool) -> TableOptions:

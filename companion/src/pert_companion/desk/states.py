@@ -119,17 +119,17 @@ def save_state(project: OpenProject, text: str) -> Path:
 
 
 def comparison_json(project: OpenProject, key: str) -> Json:
-    """Returns what `pert-compare` prints of a state and the project as it is now."""
+    """Returns what `pert-compare` prints on a terminal of a state and the project as it is now."""
     kept = next((each for each in states_of(project) if each.key == key), None)
     if kept is None:
         raise MissingError("there is no such state any more")
     old = _opened(project) if kept.key == OPENED else _with_tables(kept.path, project)
     states = sorted([old, project.state], key=lambda state: state.as_of)
-    history = compare(states)
+    history = compare(states, on_terminal=True)
     changed = history.comparisons[0]
     minutes = changed.end_moved_minutes
     return {
-        "text": compare_text.to_text(history),
+        "text": compare_text.to_text(history, on_terminal=True),
         "command": "" if kept.key == OPENED else _command(project, kept, states[0] is old),
         "end_moved": days_text(minutes, project.books.side.calendar.day_minutes),
         "changes": [

@@ -33,6 +33,7 @@ from pert_companion.model.losses import Loss, LossKind
 from pert_companion.model.plan import Plan
 from pert_companion.model.sidefile import SideFile, card_codes
 from pert_companion.model.source import Source, read_bytes
+from pert_companion.model.text_form import PLAIN, TextForm
 from pert_companion.programs.client import Programs
 from pert_companion.readers.base import ReaderOptions
 from pert_companion.state.project import ProjectState
@@ -218,7 +219,7 @@ def with_accepted(imported: Imported, taken: Iterable[Loss]) -> Imported:
     return replace(imported, carried=replace(imported.carried, side=side))
 
 
-def summary(imported: Imported) -> str:
+def summary(imported: Imported, form: TextForm = PLAIN) -> str:
     """Returns one line that says what was carried over."""
     plan, deck = imported.plan, imported.carried.deck
     tasks = len(imported.side.tasks)
@@ -232,18 +233,18 @@ def summary(imported: Imported) -> str:
         (crash, "shorter duration"),
         (waits, "card more for links"),
     ]
-    parts = [_count(number, what) for number, what in counts if number > 0]
+    parts = [_count(number, what, form) for number, what in counts if number > 0]
     if deck.as_of is not None:
         codes = {task.code for task in imported.side.tasks}
         begun = len({card.activity for card in deck.statuses} & codes)
-        parts.append(f"{begun} begun by the evening of {imported.side.data_date}")
+        parts.append(f"{form.count(begun)} begun by the evening of {imported.side.data_date}")
     return f"{', '.join(parts)}; days of the calendar {plan.calendar.name!r} from {plan.start}"
 
 
-def _count(number: int, what: str) -> str:
+def _count(number: int, what: str, form: TextForm) -> str:
     first, _, rest = what.partition(" ")
     plural = f"{first}s {rest}" if first == "card" else f"{what}s"
-    return f"1 {what}" if number == 1 else f"{number} {plural}"
+    return f"1 {what}" if number == 1 else f"{form.count(number)} {plural}"
 
 
 def state_of(imported: Imported, programs: Programs) -> ProjectState:

@@ -26,6 +26,7 @@ from pert_companion.model.figures import currency_text
 from pert_companion.model.ledger import Ledger, ToGo
 from pert_companion.model.registers import Renames
 from pert_companion.model.sidefile import SideFile, SideTask
+from pert_companion.model.text_form import PLAIN, TextForm
 from pert_companion.readers.estimates import EstimateList, ProgressList
 from pert_companion.readers.vouchers import CURRENCY_CODES, VoucherList
 
@@ -95,24 +96,24 @@ class Sums:
         """Returns what balances were rounded by."""
         return self.ledger - self.charged - self.later - self.unknown - self.below_zero
 
-    def line(self, currency: str) -> str:
+    def line(self, currency: str, form: TextForm = PLAIN) -> str:
         """Returns the line that reconciles lists, ledger and deck; parts of 0 are left out."""
-        lists = _sum("lists", self.listed, [("new", self.new), ("known", self.known)])
-        lists += _parts([("left out", self.left_out)])
+        lists = _sum("lists", self.listed, [("new", self.new), ("known", self.known)], form)
+        lists += _parts([("left out", self.left_out)], form)
         parts = [("later", self.later), ("accounts not in the deck", self.unknown)]
         parts += [("below zero", self.below_zero), ("rounding", self.rounding)]
-        books = _sum("ledger", self.ledger, [("deck", self.charged)]) + _parts(parts)
+        books = _sum("ledger", self.ledger, [("deck", self.charged)], form) + _parts(parts, form)
         unit = f" {currency}" if currency else ""
         return f"reconciled{unit}: {lists}; {books}"
 
 
-def _sum(name: str, total: Decimal, parts: Iterable[tuple[str, Decimal]]) -> str:
-    texts = [f"{word} {currency_text(amount)}" for word, amount in parts]
-    return f"{name} {currency_text(total)} = {' + '.join(texts)}"
+def _sum(name: str, total: Decimal, parts: Iterable[tuple[str, Decimal]], form: TextForm) -> str:
+    texts = [f"{word} {form.currency(amount)}" for word, amount in parts]
+    return f"{name} {form.currency(total)} = {' + '.join(texts)}"
 
 
-def _parts(parts: Iterable[tuple[str, Decimal]]) -> str:
-    return "".join(f" + {word} {currency_text(amount)}" for word, amount in parts if amount)
+def _parts(parts: Iterable[tuple[str, Decimal]], form: TextForm) -> str:
+    return "".join(f" + {word} {form.currency(amount)}" for word, amount in parts if amount)
 
 
 @dataclass(frozen=True)

@@ -7,6 +7,7 @@ from datetime import date, datetime
 from pert_companion.analysis.scheduling import TaskDates
 from pert_companion.model.calendar import Calendar
 from pert_companion.model.sidefile import SideFile, SideTask
+from pert_companion.model.text_form import PLAIN, TextForm
 
 
 @dataclass(frozen=True)
@@ -36,16 +37,17 @@ class Reconciliation:
     compared: int
     differences: tuple[Difference, ...]
 
-    def summary(self) -> str:
+    def summary(self, form: TextForm = PLAIN) -> str:
         """Returns one line for the user."""
-        tasks = "1 task has" if self.compared == 1 else f"{self.compared} tasks have"
+        tasks = "1 task has" if self.compared == 1 else f"{form.count(self.compared)} tasks have"
         if self.compared == 0:
             return "the file has no dates of tasks to compare with"
         if not self.differences:
             every = "all " if self.compared > 1 else ""
             return f"{every}{tasks} your planner's dates"
-        same = self.compared - len(self.differences)
-        differ = "1 differs" if len(self.differences) == 1 else f"{len(self.differences)} differ"
+        same = form.count(self.compared - len(self.differences))
+        moved = len(self.differences)
+        differ = "1 differs" if moved == 1 else f"{form.count(moved)} differ"
         return (
             f"{same} of {tasks} your planner's dates; {differ}, first: {self.differences[0].line()}"
         )

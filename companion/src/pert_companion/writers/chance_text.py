@@ -5,23 +5,30 @@ from datetime import date
 
 from pert_companion.analysis.sureness import NOTHING_KNOWN, Sureness, percent_text
 from pert_companion.model.lines import one_line
+from pert_companion.model.text_form import TextForm
 
 MOST_DRIVERS = 10
 
 
-def chance_text(found: Sureness | None, end: date | None, contract: date | None) -> str:
+def chance_text(
+    found: Sureness | None, end: date | None, contract: date | None, on_terminal: bool = False
+) -> str:
     """Returns the lines of `pert-schedule --chance`.
 
     `end` is the last day of the schedule, `contract` the day that the project is held to.
     """
-    return "".join(f"{line}\n" for line in _lines(found, end, contract))
+    lines = _lines(found, end, contract, TextForm(on_terminal))
+    return "".join(f"{line}\n" for line in lines)
 
 
-def _lines(found: Sureness | None, end: date | None, contract: date | None) -> Iterator[str]:
+def _lines(
+    found: Sureness | None, end: date | None, contract: date | None, form: TextForm
+) -> Iterator[str]:
     if found is None:
         yield NOTHING_KNOWN
         return
-    yield f"SIMULATED, NOT PROVED  {len(found.runs.lengths)} runs by the three estimates"
+    runs = form.count(len(found.runs.lengths))
+    yield f"SIMULATED, NOT PROVED  {runs} runs by the three estimates"
     yield f"P50        {_day(found.even_end)}"
     yield f"P80        {_day(found.likely_end)}"
     for name, day in (("SCHEDULE", end), ("CONTRACT", contract)):

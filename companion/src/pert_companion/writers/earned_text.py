@@ -5,6 +5,7 @@ from collections.abc import Iterator
 from pert_companion.analysis.earned_value import EarnedValue, Package, Scope
 from pert_companion.model.figures import money_cell, money_text, ratio_cell, ratio_text
 from pert_companion.model.lines import csv_bytes
+from pert_companion.model.text_form import PLAIN, TextForm
 from pert_companion.writers.aligned import aligned
 from pert_companion.writers.earned_headings import AMOUNTS, RATIOS
 from pert_companion.writers.formula import plain_text
@@ -17,75 +18,79 @@ CSV_HEADINGS = (
 )
 
 
-def to_text(earned: EarnedValue, heading: str, day_minutes: int, value: int, scale: int = 1) -> str:
+def to_text(
+    earned: EarnedValue,
+    heading: str,
+    day_minutes: int,
+    value: int,
+    form: TextForm = PLAIN,
+) -> str:
     """Returns a row for each package, the total, its ratios and forecasts, and the notes.
 
     `heading` is the first line. `value` is VALUE of `pert value`.
     """
     lines = [heading]
-    lines.extend(aligned(HEADINGS, _rows(earned, scale), "lrrrrrrl"))
-    lines.extend(_scopes(earned, scale))
-    lines.extend(_ratios(earned, day_minutes, scale))
+    lines.extend(aligned(HEADINGS, _rows(earned, form), "lrrrrrrl"))
+    lines.extend(_scopes(earned, form))
+    lines.extend(_ratios(earned, day_minutes, form))
     lines.append(
-        f"VALUE {money_text(value, scale)} of pert value follows spending until a package is"
+        f"VALUE {form.money(value)} of pert value follows spending until a package is"
         " finished: it is not EV"
     )
     lines.extend(f"note: {note}" for note in earned.notes)
     return "".join(f"{line}\n" for line in lines)
 
 
-def _rows(earned: EarnedValue, scale: int) -> Iterator[tuple[str, ...]]:
+def _rows(earned: EarnedValue, form: TextForm) -> Iterator[tuple[str, ...]]:
     for package in earned.packages:
         if package.scope not in (Scope.UNDISTRIBUTED, Scope.RESERVE):
-            yield _row(package, scale)
-    yield _row(Package("TOTAL", "", earned.total), scale)
+            yield _row(package, form)
+    yield _row(Package("TOTAL", "", earned.total), form)
 
 
-def _row(package: Package, scale: int) -> tuple[str, ...]:
+def _row(package: Package, form: TextForm) -> tuple[str, ...]:
     figures = package.figures
-    spent = money_text(figures.ac, scale)
+    spent = form.money(figures.ac)
     if not package.is_measured:
         return package.code, "-", "-", "-", spent, "-", "-", package.title
-    amounts = (money_text(amount, scale) for amount in (figures.bac, figures.pv, figures.ev))
+    amounts = (form.money(amount) for amount in (figures.bac, figures.pv, figures.ev))
     ratios = ratio_text(figures.spi), ratio_text(figures.cpi)
     return (package.code, *amounts, spent, *ratios, package.title)
 
 
-def _scopes(earned: EarnedValue, scale: int) -> Iterator[str]:
+def _scopes(earned: EarnedValue, form: TextForm) -> Iterator[str]:
     """Yields what the total is made of, and the budgets that are not in it, where there are any."""
     effort = earned.of(Scope.EFFORT)
     if effort.bac:
         yield (
-            f"of it level of effort: BAC {money_text(effort.bac, scale)}, PV = EV"
-            f" {money_text(effort.ev, scale)}, AC {money_text(effort.ac, scale)}"
+            f"of it level of effort: BAC {form.money(effort.bac)}, PV = EV"
+            f" {form.money(effort.ev)}, AC {form.money(effort.ac)}"
         )
     undistributed, reserve = (
         earned.of(Scope.UNDISTRIBUTED).bac,
         earned.of(Scope.RESERVE).bac,
     )
     if undistributed or reserve or earned.changed:
-        baseline = money_text(earned.baseline_budget, scale)
+        baseline = form.money(earned.baseline_budget)
         changes = ""
         if earned.changed:
-            changes = f" + changes {money_text(earned.changed, scale)} that its plan has not"
+            changes = f" + changes {form.money(earned.changed)} that its plan has not"
         yield (
-            f"BASELINE {baseline} = BAC {money_text(earned.total.bac, scale)} + undistributed"
-            f" {money_text(undistributed, scale)}{changes}; reserve {money_text(reserve, scale)} is"
+            f"BASELINE {baseline} = BAC {form.money(earned.total.bac)} + undistributed"
+            f" {form.money(undistributed)}{changes}; reserve {form.money(reserve)} is"
             " apart"
         )
 
 
-def _ratios(earned: EarnedValue, day_minutes: int, scale: int) -> Iterator[str]:
+def _ratios(earned: EarnedValue, day_minutes: int, form: TextForm) -> Iterator[str]:
     """Yields the ratios and forecasts with the numbers of the total that they are made of."""
     total = earned.total
-    bac, pv, ev, ac = (
-        money_text(amount, scale) for amount in (total.bac, total.pv, total.ev, total.ac)
-    )
+    bac, pv, ev, ac = (form.money(amount) for amount in (total.bac, total.pv, total.ev, total.ac))
     yield f"SPI {ratio_text(total.spi)} = EV {ev} / PV {pv}"
     yield f"CPI {ratio_text(total.cpi)} = EV {ev} / AC {ac}"
     unit = earned.unit_minutes
     times = [
-        ratio_text(time * unit / day_minutes, 2)
+        form.number(ratio_text(time * unit / day_minutes, 2))
         for time in (
             earned.earned_schedule,
             earned.actual_time,
@@ -96,14 +101,14 @@ def _ratios(earned: EarnedValue, day_minutes: int, scale: int) -> Iterator[str]:
         f"SPI(t) {ratio_text(earned.spi_of_time)} = earned schedule {times[0]} days / actual time"
         f" {times[1]} days; SV(t) {times[2]} days"
     )
-    planned = money_text(total.eac_by_plan, scale)
+    planned = form.money(total.eac_by_plan)
     yield f"EAC {planned} = AC {ac} + (BAC {bac} - EV {ev}): the rest as planned"
     yield (
-        f"EAC {money_text(total.eac_by_cpi, scale)} = BAC {bac} x AC {ac} / EV {ev}: the rest at"
+        f"EAC {form.money(total.eac_by_cpi)} = BAC {bac} x AC {ac} / EV {ev}: the rest at"
         " the CPI so far"
     )
     yield (
-        f"EAC {money_text(total.eac_by_both, scale)} = AC {ac} + (BAC {bac} - EV {ev}) / (CPI x"
+        f"EAC {form.money(total.eac_by_both)} = AC {ac} + (BAC {bac} - EV {ev}) / (CPI x"
         " SPI): cost and time as so far"
     )
     yield f"TCPI {ratio_text(total.tcpi)} = (BAC {bac} - EV {ev}) / (BAC {bac} - AC {ac})"

@@ -4,8 +4,9 @@ from collections.abc import Sequence
 from datetime import date
 
 from pert_companion.analysis.forecast import Forecast, ForecastTask
-from pert_companion.model.figures import NOTHING, days_text, signed_days
+from pert_companion.model.figures import NOTHING, days_text
 from pert_companion.model.lines import csv_bytes
+from pert_companion.model.text_form import TextForm
 from pert_companion.writers.aligned import aligned
 from pert_companion.writers.formula import plain_text
 
@@ -43,7 +44,7 @@ CSV_HEADINGS = (
 )
 
 
-def to_text(forecast: Forecast, tasks: Sequence[ForecastTask]) -> str:
+def to_text(forecast: Forecast, tasks: Sequence[ForecastTask], on_terminal: bool = False) -> str:
     """Returns the ends, the assumptions, and a row for each of the tasks, in the order given.
 
     LATE is against the baseline if there is one, else against the list. Columns of which nothing is
@@ -51,7 +52,8 @@ def to_text(forecast: Forecast, tasks: Sequence[ForecastTask]) -> str:
     """
     lines = [f"FORECAST {forecast.code} {forecast.data_day}"]
     lines.extend(_ends(forecast))
-    lines.extend(_table([_row(task, forecast) for task in tasks]))
+    form = TextForm(on_terminal)
+    lines.extend(_table([_row(task, forecast, form) for task in tasks]))
     return "".join(f"{line}\n" for line in lines)
 
 
@@ -89,20 +91,20 @@ def _wrapped(text: str, width: int = 96) -> list[str]:
     return [f"  {line}" for line in lines]
 
 
-def _row(task: ForecastTask, forecast: Forecast) -> tuple[str, ...]:
+def _row(task: ForecastTask, forecast: Forecast, form: TextForm) -> tuple[str, ...]:
     late = task.listed_late_minutes
     if forecast.baseline_end is not None:
         late = task.baseline_late_minutes
-    slack = days_text(task.total_float_minutes, forecast.day_minutes)
+    slack = form.days(task.total_float_minutes, forecast.day_minutes)
     return (
         task.code,
         task.state.value,
-        days_text(task.left_minutes, forecast.day_minutes),
+        form.days(task.left_minutes, forecast.day_minutes),
         str(task.first_day),
         str(task.last_day),
         _day(task.listed_finish),
         _day(task.baseline_finish),
-        signed_days(late, forecast.day_minutes),
+        form.signed_days(late, forecast.day_minutes),
         f"{slack}*" if task.is_critical else slack,
         task.name or task.code,
     )

@@ -6,10 +6,11 @@ from collections.abc import Iterator
 from fractions import Fraction
 
 from pert_companion.analysis.loading import Loading, Overload, ResourceLoad
-from pert_companion.model.figures import day_words, money_text, ratio_text
+from pert_companion.model.figures import money_text, ratio_text
+from pert_companion.model.text_form import TextForm
 from pert_companion.writers.aligned import aligned
 from pert_companion.writers.formula import plain_text
-from pert_companion.writers.text import grouped, shown
+from pert_companion.writers.text import shown
 
 HEADINGS = ("From", "Resource", "Load", "Available", "Capacity", "Most at once", "Tasks above it")
 COST = "Cost"
@@ -17,32 +18,30 @@ ABOVE = "!"
 
 
 def to_text(found: Loading, on_terminal: bool) -> str:
-    """Returns a table of the periods, and a line for each period above a capacity.
-
-    Amounts have separators of thousands on a terminal.
-    """
+    """Returns a table of the periods, and a line for each period above a capacity."""
+    form = TextForm(on_terminal, found.money_scale)
     marks = {(each.resource, each.period) for each in found.overloads}
     rows = []
     for period, first in enumerate(found.periods):
-        cells = [first.isoformat(), _cost(found, period, on_terminal)]
+        cells = [first.isoformat(), form.money(found.costs[period])]
         for resource in found.resources:
-            amount = _number(resource.amounts[period], on_terminal)
+            amount = form.count(resource.amounts[period])
             mark = ABOVE if (resource.code, period) in marks else " "
             cells.append(f"{amount} {mark}")
         rows.append(cells)
     headings = ["FROM", COST.upper(), *(f"{shown(each.name)}  " for each in found.resources)]
-    lines = [_heading(found), *aligned(headings, rows, "lr" + "r" * len(found.resources))]
-    lines.extend(_about_capacities(found, on_terminal))
+    lines = [_heading(found, form), *aligned(headings, rows, "lr" + "r" * len(found.resources))]
+    lines.extend(_about_capacities(found, form))
     return "".join(f"{line}\n" for line in lines)
 
 
-def _heading(found: Loading) -> str:
-    length = day_words(found.length * found.unit_minutes, found.day_minutes)
+def _heading(found: Loading, form: TextForm) -> str:
+    length = form.day_words(found.length * found.unit_minutes, found.day_minutes)
     if found.rest_of is not None:
         length = f"{length} left from {found.rest_of} on"
     elif found.is_past_plan:
         length = f"as planned {length}"
-    period = day_words(found.period_minutes, found.day_minutes)
+    period = form.day_words(found.period_minutes, found.day_minutes)
     currency = f", cost in {found.currency}" if found.currency else ""
     return (
         f"{shown(found.title)}: {length}, {found.start} to {found.end},"
@@ -50,7 +49,7 @@ def _heading(found: Loading) -> str:
     )
 
 
-def _about_capacities(found: Loading, on_terminal: bool) -> Iterator[str]:
+def _about_capacities(found: Loading, form: TextForm) -> Iterator[str]:
     """Yields what is above its capacity, or why nothing is."""
     if not found.resources:
         return
@@ -61,12 +60,12 @@ def _about_capacities(found: Loading, on_terminal: bool) -> Iterator[str]:
         yield "no resource is above its capacity"
     by_code = {each.code: each for each in found.resources}
     for each in found.overloads:
-        yield _line(each, by_code[each.resource], on_terminal)
+        yield _line(each, by_code[each.resource], form)
 
 
-def _line(each: Overload, resource: ResourceLoad, on_terminal: bool) -> str:
-    amount = _number(resource.amounts[each.period], on_terminal)
-    available = _number(resource.available or 0, on_terminal)
+def _line(each: Overload, resource: ResourceLoad, form: TextForm) -> str:
+    amount = form.count(resource.amounts[each.period])
+    available = form.count(resource.available or 0)
     days = "1 day" if each.days == 1 else f"{each.days} days"
     most = at_once(each.most)
     return (
@@ -78,15 +77,6 @@ def _line(each: Overload, resource: ResourceLoad, on_terminal: bool) -> str:
 def at_once(most: Fraction) -> str:
     """Returns how many would have to work at once: `2` or `2.5`, with at most two decimals."""
     return ratio_text(most, 2).rstrip("0").rstrip(".")
-
-
-def _cost(found: Loading, period: int, on_terminal: bool) -> str:
-    text = money_text(found.costs[period], found.money_scale)
-    return grouped(text) if on_terminal else text
-
-
-def _number(amount: int, on_terminal: bool) -> str:
-    return f"{amount:,}" if on_terminal else str(amount)
 
 
 def to_csv(found: Loading) -> bytes:

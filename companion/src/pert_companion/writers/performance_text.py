@@ -6,8 +6,9 @@ from pert_companion.analysis.earned_value import Figures, Scope
 from pert_companion.analysis.performance import MEASURED, EarnedTime, Line
 from pert_companion.analysis.time_phased import Month
 from pert_companion.analysis.variances import Variance
-from pert_companion.model.figures import NOTHING, money_cell, money_text, ratio_cell, ratio_text
+from pert_companion.model.figures import NOTHING, ratio_cell, ratio_text
 from pert_companion.model.lines import csv_bytes
+from pert_companion.model.text_form import TextForm
 from pert_companion.writers import earned_headings as headings
 from pert_companion.writers.aligned import aligned
 from pert_companion.writers.formula import plain_text
@@ -23,16 +24,16 @@ CSV_HEADINGS = (
 """The headings of a line as CSV."""
 
 
-def to_text(lines: Sequence[Line], heading: str, scale: int) -> str:
+def to_text(lines: Sequence[Line], heading: str, form: TextForm) -> str:
     """Returns a row for each line, and a second table of the period if a state came before."""
     texts = [heading]
-    rows = [_row(line, figure_cells(line, scale)) for line in lines]
+    rows = [_row(line, figure_cells(line, form)) for line in lines]
     texts.extend(_table(_FIGURES, rows))
-    texts.extend(_time_lines(lines))
+    texts.extend(_time_lines(lines, form))
     since = [line for line in lines if line.period is not None]
     if since:
         texts.append("SINCE THE STATE BEFORE")
-        rows = [_row(line, period_cells(line.period, scale)) for line in since]
+        rows = [_row(line, period_cells(line.period, form)) for line in since]
         texts.extend(_table(_PERIOD, rows))
     return "".join(f"{text}\n" for text in texts)
 
@@ -41,12 +42,13 @@ def _table(names: Sequence[str], rows: Iterable[Sequence[str]]) -> list[str]:
     return aligned(("CODE", *names, "TITLE"), rows, "l" + "r" * len(names) + "l")
 
 
-def _time_lines(lines: Iterable[Line]) -> Iterator[str]:
+def _time_lines(lines: Iterable[Line], form: TextForm) -> Iterator[str]:
     """Yields the earned schedule of each total, with the numbers that its ratio divides."""
     for line in lines:
         if line.time is not None:
             spi = ratio_text(line.time.spi)
-            days = [ratio_text(time, 2) for time in (line.time.earned, line.time.actual)]
+            times = (line.time.earned, line.time.actual)
+            days = [form.number(ratio_text(time, 2)) for time in times]
             yield (
                 f"SPI(t) {spi} = earned schedule {days[0]} days / actual time {days[1]}"
                 f" days: {line.title or line.code}"
@@ -73,25 +75,25 @@ def _title(line: Line) -> str:
     return f"{line.title} ({line.scope})"
 
 
-def figure_cells(line: Line, scale: int) -> list[str]:
+def figure_cells(line: Line, form: TextForm) -> list[str]:
     """Returns the figures of a line as texts, in the order of the headings; unknown is empty."""
     figures = line.figures
     return [
-        *(money_text(amount, scale) for amount in figures.amounts()),
+        *(form.money(amount) for amount in figures.amounts()),
         ratio_cell(figures.spi),
         ratio_cell(figures.cpi),
-        money_cell(figures.eac_by_cpi, scale),
-        money_cell(figures.vac, scale),
+        form.money_cell(figures.eac_by_cpi),
+        form.money_cell(figures.vac),
         ratio_cell(figures.tcpi),
-        money_cell(line.latest, scale),
+        form.money_cell(line.latest),
     ]
 
 
-def period_cells(period: Figures | None, scale: int) -> list[str]:
+def period_cells(period: Figures | None, form: TextForm) -> list[str]:
     """Returns the figures since the previous state as texts; all empty without one."""
     if period is None:
         return [""] * len(_PERIOD)
-    amounts = (money_text(amount, scale) for amount in period.performance())
+    amounts = (form.money(amount) for amount in period.performance())
     return [*amounts, ratio_cell(period.spi), ratio_cell(period.cpi)]
 
 
@@ -102,8 +104,9 @@ def to_csv(lines: Iterable[Line], scale: int) -> bytes:
 
 def csv_rows(lines: Iterable[Line], scale: int) -> Iterator[list[str]]:
     """Yields the cells of each line, in the order of `CSV_HEADINGS`."""
+    form = TextForm(money_scale=scale)
     for line in lines:
-        cells = figure_cells(line, scale)
+        cells = figure_cells(line, form)
         yield [
             plain_text(line.code),
             plain_text(line.title),
@@ -111,16 +114,16 @@ def csv_rows(lines: Iterable[Line], scale: int) -> Iterator[list[str]]:
             plain_text(line.manager),
             line.scope,
             *cells[:-1],
-            money_text(line.figures.eac_by_plan, scale),
-            money_cell(line.figures.eac_by_both, scale),
+            form.money(line.figures.eac_by_plan),
+            form.money_cell(line.figures.eac_by_both),
             cells[-1],
-            money_cell(line.variance_at_completion, scale),
-            *period_cells(line.period, scale),
+            form.money_cell(line.variance_at_completion),
+            *period_cells(line.period, form),
             *time_cells(line.time),
         ]
 
 
-def months_to_text(months: Sequence[Month], heading: str, scale: int) -> str:
+def months_to_text(months: Sequence[Month], heading: str, form: TextForm) -> str:
     """Returns a row for each account and month, cumulative; `-` where nothing is known.
 
     What was reported by an older baseline is shown where there is any.
@@ -128,7 +131,7 @@ def months_to_text(months: Sequence[Month], heading: str, scale: int) -> str:
     has_older = any(month.reported_ev is not None for month in months)
     names = [name.upper() for name in headings.MONTHS][: None if has_older else 5]
     rows = []
-    for row in month_rows(months, scale):
+    for row in month_rows(months, form):
         rows.append([cell or NOTHING for cell in row[: len(names)]])
     texts = [heading, *aligned(names, rows, "ll" + "r" * (len(names) - 2))]
     return "".join(f"{text}\n" for text in texts)
@@ -136,21 +139,21 @@ def months_to_text(months: Sequence[Month], heading: str, scale: int) -> str:
 
 def months_to_csv(months: Iterable[Month], scale: int) -> bytes:
     """Returns a row for each account and month, cumulative; what is unknown is empty."""
-    return csv_bytes([headings.MONTHS, *month_rows(months, scale)])
+    return csv_bytes([headings.MONTHS, *month_rows(months, TextForm(money_scale=scale))])
 
 
-def month_rows(months: Iterable[Month], scale: int) -> Iterator[list[str]]:
+def month_rows(months: Iterable[Month], form: TextForm) -> Iterator[list[str]]:
     """Yields the cells of each account and month, in the order of `MONTHS`."""
     for month in months:
         amounts = (month.pv, month.ev, month.ac, month.reported_pv, month.reported_ev)
-        texts = [money_cell(amount, scale) for amount in amounts]
+        texts = [form.money_cell(amount) for amount in amounts]
         yield [plain_text(month.account), str(month.close), *texts]
 
 
-def variances_to_text(variances: Sequence[Variance], heading: str, scale: int) -> str:
+def variances_to_text(variances: Sequence[Variance], heading: str, form: TextForm) -> str:
     """Returns a row for each variance, with its explanation or what is missing."""
     rows = []
-    for each, cells in zip(variances, _variance_rows(variances, scale)):
+    for each, cells in zip(variances, _variance_rows(variances, form)):
         said = each.explanation
         why = "not explained" if said is None else said.cause
         rows.append((each.code, each.figure, *cells[4:6], why, each.title))
@@ -164,10 +167,11 @@ def variances_to_text(variances: Sequence[Variance], heading: str, scale: int) -
 
 def variances_to_csv(variances: Sequence[Variance], scale: int) -> bytes:
     """Returns a row for each variance as CSV in UTF-8."""
-    return csv_bytes([headings.VARIANCES, *_variance_rows(variances, scale)])
+    rows = _variance_rows(variances, TextForm(money_scale=scale))
+    return csv_bytes([headings.VARIANCES, *rows])
 
 
-def _variance_rows(variances: Iterable[Variance], scale: int) -> Iterator[list[str]]:
+def _variance_rows(variances: Iterable[Variance], form: TextForm) -> Iterator[list[str]]:
     for each in variances:
         said = each.explanation
         texts = ("", "") if said is None else (said.cause, said.action)
@@ -175,7 +179,7 @@ def _variance_rows(variances: Iterable[Variance], scale: int) -> Iterator[list[s
         yield [
             *map(plain_text, names),
             each.figure,
-            money_text(each.amount, scale),
+            form.money(each.amount),
             ratio_cell(each.percent, 1),
             *map(plain_text, texts),
         ]

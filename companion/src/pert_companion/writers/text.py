@@ -5,7 +5,7 @@ from collections.abc import Sequence
 from dataclasses import dataclass
 
 from pert_companion.analysis.schedule import Schedule, ScheduledTask
-from pert_companion.model.figures import day_words, days_text, money_text
+from pert_companion.model.text_form import TextForm
 from pert_companion.state.remaining import State
 from pert_companion.writers.bars import Scale
 
@@ -20,7 +20,7 @@ MOST_NAME = 40
 class TableOptions:
     """How a table looks.
 
-    `width` is in columns of the terminal, where amounts have separators; None is as wide as it
+    `width` is in columns of the terminal, where numbers have separators; None is as wide as it
     takes, for a pipe.
     """
 
@@ -31,11 +31,12 @@ class TableOptions:
 
 def to_text(schedule: Schedule, tasks: Sequence[ScheduledTask], options: TableOptions) -> str:
     """Returns a heading and a row for each of the tasks, in the order that is given."""
-    rows = [_cells(task, schedule) for task in tasks]
+    form = TextForm(options.width is not None, schedule.money_scale)
+    rows = [_cells(task, schedule, form) for task in tasks]
     headings = _headings(schedule, tasks)
     widths = _widths(headings, rows)
     name_width = _name_width(tasks, widths, options)
-    lines = _heading(schedule, options)
+    lines = _heading(schedule, form)
     scale = _scale(schedule, tasks, widths, name_width, options)
     line = _line(headings, widths, "NAME", name_width)
     lines.append((line if scale is None else f"{line}  {scale.axis()}").rstrip())
@@ -60,8 +61,8 @@ def _headings(schedule: Schedule, tasks: Sequence[ScheduledTask]) -> list[str]:
     return ["ROW", "CODE", state, "START", "FINISH", "DAYS", "FLOAT", *deadlines, ""]
 
 
-def _heading(schedule: Schedule, options: TableOptions) -> list[str]:
-    days = day_words(schedule.length * schedule.unit_minutes, schedule.day_minutes)
+def _heading(schedule: Schedule, form: TextForm) -> list[str]:
+    days = form.day_words(schedule.length * schedule.unit_minutes, schedule.day_minutes)
     title = shown(schedule.title or schedule.code)
     if schedule.rest_of is not None:
         days = f"{days} left from {schedule.rest_of} on"
@@ -70,19 +71,20 @@ def _heading(schedule: Schedule, options: TableOptions) -> list[str]:
     currency = f" {schedule.currency}" if schedule.currency else ""
     return [
         f"{title}: {days}, {schedule.start} to {schedule.end}, "
-        f"cost {_money(schedule.cost, schedule, options)}{currency}{_price(schedule, options)}",
-        *_missed(schedule),
+        f"cost {form.money(schedule.cost)}{currency}{_price(schedule, form)}",
+        *_missed(schedule, form),
         *map(shown, schedule.broken),
         *_calendars(schedule),
     ]
 
 
-def _missed(schedule: Schedule) -> list[str]:
+def _missed(schedule: Schedule, form: TextForm) -> list[str]:
     """Returns a line that names the tasks which end after their deadlines, if there are any."""
     late = []
     for task in schedule.tasks:
         if task.is_late:
-            days = day_words(-(task.deadline_slack_minutes or 0), schedule.day_minutes)
+            slack = task.deadline_slack_minutes or 0
+            days = form.day_words(-slack, schedule.day_minutes)
             late.append(f"{task.code} by {days}")
     if not late:
         return []
@@ -99,30 +101,18 @@ def _calendars(schedule: Schedule) -> list[str]:
     return [*lines, schedule.counting] if schedule.counting else lines
 
 
-def _money(amount: int, schedule: Schedule, options: TableOptions) -> str:
-    """Returns an amount; on a terminal with separators of thousands."""
-    text = money_text(amount, schedule.money_scale)
-    return text if options.width is None else grouped(text)
-
-
-def grouped(text: str) -> str:
-    """Returns an amount with separators of thousands: `-1234.50` is `-1,234.50`."""
-    sign = "-" if text.startswith("-") else ""
-    whole, point, part = text.removeprefix("-").partition(".")
-    return f"{sign}{int(whole):,}{point}{part}"
-
-
-def _price(schedule: Schedule, options: TableOptions) -> str:
+def _price(schedule: Schedule, form: TextForm) -> str:
     """Returns what a day less costs, or an empty text at the shortest length."""
     step = schedule.next_step
     if step is None:
         return ""
-    days = day_words(step.minutes, schedule.day_minutes)
+    days = form.day_words(step.minutes, schedule.day_minutes)
     less = "a day less costs" if days == "1 day" else f"{days} less cost"
-    return f", {less} {_money(step.cost, schedule, options)}"
+    return f", {less} {form.money(step.cost)}"
 
 
-def _cells(task: ScheduledTask, schedule: Schedule) -> list[str]:
+def _cells(task: ScheduledTask, schedule: Schedule, form: TextForm) -> list[str]:
+    day_minutes = schedule.day_minutes
     row = "" if task.row is None else str(task.row)
     slack = task.deadline_slack_minutes
     is_done = task.state is State.FINISHED
@@ -135,10 +125,10 @@ def _cells(task: ScheduledTask, schedule: Schedule) -> list[str]:
         task.state.value if schedule.rest_of is not None else "",
         task.first_day.isoformat(),
         task.last_day.isoformat(),
-        days_text(task.chosen_minutes, schedule.day_minutes),
-        "" if is_done else days_text(task.total_float_minutes, schedule.day_minutes),
+        form.days(task.chosen_minutes, day_minutes),
+        "" if is_done else form.days(task.total_float_minutes, day_minutes),
         "" if task.deadline is None else task.deadline.isoformat(),
-        "" if slack is None else days_text(slack, schedule.day_minutes),
+        "" if slack is None else form.days(slack, day_minutes),
         marks,
     ]
 
