@@ -12,7 +12,14 @@ from test_importing import Outcome, pert_import
 from pert_companion.cli import exporting, report
 from pert_companion.cli.common import run_command
 from pert_companion.model.errors import InputError
-from pert_companion.model.losses import MEANINGS, NAMED, Loss, LossKind, accepted_text
+from pert_companion.model.losses import (
+    MEANINGS,
+    NAMED,
+    Acceptance,
+    Loss,
+    LossKind,
+    accepted_text,
+)
 from pert_companion.model.sidefile import from_json, side_path
 from pert_companion.portfolio.job import Job
 from pert_companion.portfolio.row import row_of
@@ -71,6 +78,63 @@ def test_the_next_import_accepts_the_same(tmp_path: Path, capfdbinary: Capture) 
     words = ("--with", first, "--accept", "same,duration")
     assert imported(capfdbinary, tmp_path, more, "june.csv", *words).status == 0
     assert [name for _, name, _ in accepted(tmp_path / "june.csv")] == ["Paint", "Clean"]
+
+
+@pytest.mark.parametrize("word", ["duration", "all"])
+def test_three_months(word: str, tmp_path: Path, capfdbinary: Capture) -> None:
+    """What April accepted, by kind or as all, May takes over; June names what is new, and it alone.
+
+    With the new one accepted, July takes both over.
+    """
+    assert imported(capfdbinary, tmp_path, PLAN, "april.csv", "--accept", word).status == 0
+    april = ("--with", tmp_path / "april.csv", "--accept")
+    may = imported(capfdbinary, tmp_path, f"{PLAN}4,Sweep,1 day,2,\n", "may.csv", *april, "same")
+    assert may.status == 0 and may.has("not carried over, as accepted: 1 duration")
+    assert not may.has("'Paint'")
+    june = f"{PLAN}4,Sweep,1 day,2,\n5,Clean,never,,\n"
+    after_may = ("--with", tmp_path / "may.csv", "--accept")
+    done = imported(capfdbinary, tmp_path, june, "june.csv", *after_may, "same")
+    assert done.status == 1 and not (tmp_path / "june.csv").exists()
+    named = [line for line in done.lines if "[duration]" in line]
+    assert len(named) == 1 and "row 6, task 'Clean', Duration 'never'" in named[0]
+    assert done.has("not carried over: 1 duration; change the file, or say --accept same,duration")
+    again = imported(capfdbinary, tmp_path, june, "june.csv", *after_may, "same,duration")
+    assert again.status == 0
+    assert [name for _, name, _ in accepted(tmp_path / "june.csv")] == ["Paint", "Clean"]
+    after_june = ("--with", tmp_path / "june.csv", "--accept", "same")
+    assert imported(capfdbinary, tmp_path, june, "july.csv", *after_june).status == 0
+    assert accepted(tmp_path / "july.csv") == accepted(tmp_path / "june.csv")
+
+
+def test_a_new_loss_like_an_accepted_one_is_new(tmp_path: Path, capfdbinary: Capture) -> None:
+    """A second task of the same name and text is one more; the known one is at its place."""
+    assert imported(capfdbinary, tmp_path, PLAN, "april.csv", "--accept", "duration").status == 0
+    more = PLAN + "4,Paint,soon,,\n"
+    again = ("--with", tmp_path / "april.csv", "--accept", "same")
+    done = imported(capfdbinary, tmp_path, more, "may.csv", *again)
+    assert done.status == 1 and done.has("row 5, task 'Paint'") and not done.has("row 4, task")
+    assert done.has("not carried over, as accepted: 1 duration")
+
+
+@pytest.mark.parametrize(
+    ("april", "may"),
+    [
+        ("table CALENDAR, line 12", "table CALENDAR, line 40"),
+        ("row 12", "row 1"),
+        ("cell C12", "cell C9"),
+        ("sheet 'Resources', row 4", "sheet 'Resources', row 5"),
+    ],
+)
+def test_places_move(april: str, may: str) -> None:
+    """A loss without a task is the same one further down, and not on another sheet or in another
+    column."""
+    old = Loss(LossKind.CALENDAR, april, "", "day_hr_cnt", "x", "")
+    new = Loss(LossKind.CALENDAR, may, "", "day_hr_cnt", "x", "")
+    assert Acceptance(earlier=(old,)).divided([new]) == ([new], [])
+    assert Acceptance(earlier=(old,)).divided([new, old]) == ([old], [new])
+    assert Acceptance(earlier=(old, old)).divided([new, old, new]) == ([new, old], [new])
+    other = Loss(LossKind.CALENDAR, f"other {may}", "", "day_hr_cnt", "x", "")
+    assert Acceptance(earlier=(old,)).divided([other]) == ([], [other])
 
 
 def test_the_last_import_alone_accepts_nothing(tmp_path: Path, capfdbinary: Capture) -> None:

@@ -1,7 +1,8 @@
 """What a reader or `carry` could not take over, each with its place in the source."""
 
+import re
 from collections import Counter
-from collections.abc import Iterable
+from collections.abc import Iterable, Sequence
 from dataclasses import dataclass
 from enum import Enum
 
@@ -102,10 +103,15 @@ def _short(text: str) -> str:
     return one_line(text)[:MOST_KEPT]
 
 
+_NUMBER = re.compile(r"\b(row |line |cell [A-Z]*)[0-9]+")
+"""What of a place changes when something is put in above it."""
+
+
 def _identity(loss: Loss) -> tuple[str, ...]:
-    """Returns what a loss is known by: its task, or without one its place."""
+    """Returns what a loss is known by: its task, or without one its place but for its number."""
     kept = loss.kept()
-    return (kept.kind.value, kept.name or kept.where, kept.field, kept.text)
+    place = _NUMBER.sub(r"\1", kept.where)
+    return (kept.kind.value, kept.name or place, kept.field, kept.text)
 
 
 @dataclass(frozen=True)
@@ -117,13 +123,34 @@ class Acceptance:
 
     def divided(self, losses: Iterable[Loss]) -> tuple[list[Loss], list[Loss]]:
         """Returns the losses that are accepted and those that are not, in their order."""
-        known = {_identity(loss) for loss in self.earlier}
+        listed = list(losses)
+        known = self._known(listed)
         taken: list[Loss] = []
         refused: list[Loss] = []
-        for loss in losses:
-            is_taken = loss.kind in self.kinds or _identity(loss) in known
+        for at, loss in enumerate(listed):
+            is_taken = loss.kind in self.kinds or at in known
             (taken if is_taken else refused).append(loss)
         return taken, refused
+
+    def _known(self, losses: Sequence[Loss]) -> set[int]:
+        """Returns the places in the list of the losses that were accepted before.
+
+        Each earlier loss makes one known: the one at its own place, or else the first like it.
+        """
+        left = Counter(map(_identity, self.earlier))
+        there = Counter((loss.kept().where, _identity(loss)) for loss in self.earlier)
+        known: set[int] = set()
+        for at, loss in enumerate(losses):
+            key = loss.kept().where, _identity(loss)
+            if there[key]:
+                there[key] -= 1
+                left[key[1]] -= 1
+                known.add(at)
+        for at, loss in enumerate(losses):
+            if at not in known and left[_identity(loss)]:
+                left[_identity(loss)] -= 1
+                known.add(at)
+        return known
 
 
 def counted_kinds(losses: Iterable[Loss]) -> str:
