@@ -26,6 +26,7 @@
 //   GET  /api/projects/{project}/length       Length; ?length=UNITS or ?by=YYYY-MM-DD; with
 //                                             &chance=1 its chance is simulated, else it is null
 //   GET  /api/projects/{project}/options      Options: certain lengths with their chances
+//   GET  /api/projects/{project}/load         LoadByWeek: what a length costs and uses (?length=)
 //   GET  /api/projects/{project}/version      VersionAnswer: ask every few seconds
 //   POST /api/projects/{project}/edits        EditRequest -> EditAnswer
 //   POST /api/projects/{project}/tasks        AddTask -> EditAnswer
@@ -284,6 +285,43 @@ interface Curve {
     contract: { day: Day; name: string; units: Units } | null;
 }
 
+/** What a length costs and uses by week; of a running project, of what is left. */
+interface LoadByWeek {
+    version: number;
+    /** `5 days`, or more if there are too many weeks. */
+    period: string;
+    /** The first day of each period. */
+    periods: Day[];
+    costs: Money[];
+    resources: ResourceLoad[];
+    overloads: Overload[];
+}
+
+interface ResourceLoad {
+    code: string;
+    /** Its name without the unit, and with it. */
+    name: string;
+    title: string;
+    /** By period. */
+    amounts: string[];
+    /** How many work at once; an empty text if nobody said it. */
+    capacity: string;
+    /** The numbers of the periods in which it is above its capacity. */
+    above: number[];
+}
+
+interface Overload {
+    first: Day;
+    title: string;
+    amount: string;
+    available: string;
+    /** How many would have to work at once on the worst of so many days. */
+    most: string;
+    days: number;
+    capacity: string;
+    tasks: string[];
+}
+
 interface CurvePoint {
     units: Units;
     days: Days;
@@ -447,6 +485,8 @@ type Edit =
     | { kind: "data-date"; day: Day }
     /** The price of time; an empty text is none. */
     | { kind: "terms"; field: "overhead" | "bonus" | "penalty" | "target"; value: string }
+    /** How much of a resource, by its code, there is; an empty text takes it away. */
+    | { kind: "capacity"; resource: string; value: string }
     /** The date of the contract (the directed end); an empty text takes it away. */
     | { kind: "contract"; value: string };
 

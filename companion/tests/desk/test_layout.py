@@ -11,7 +11,18 @@ from page.layout import faults_of_structure, problems, problems_printed
 from running import HOUSE, MONTHS
 
 pytestmark = pytest.mark.skipif(CHROMIUM is None, reason="chromium is missing")
-PANELS = ("tasks", "gantt", "network", "length", "status", "report", "compare", "changes", "hand")
+PANELS = (
+    "tasks",
+    "gantt",
+    "network",
+    "length",
+    "load",
+    "status",
+    "report",
+    "compare",
+    "changes",
+    "hand",
+)
 SIZES = [(1400, False), (1280, True), (800, False), (390, False)]
 LYING = 1025
 """The pixels of an A4 sheet that lies, between its margins of 13 mm."""

@@ -39,7 +39,18 @@ from pert_companion.model.deck import read_deck
 from running import EXAMPLES, HOUSE
 
 pytestmark = pytest.mark.skipif(CHROMIUM is None, reason="chromium is missing")
-PANELS = ("tasks", "gantt", "network", "length", "status", "report", "compare", "changes", "hand")
+PANELS = (
+    "tasks",
+    "gantt",
+    "network",
+    "length",
+    "load",
+    "status",
+    "report",
+    "compare",
+    "changes",
+    "hand",
+)
 SHEET = EXAMPLES / "sheet.csv"
 CRITICAL_AT_40 = ["Survey the rooms", "Building permit", "Draw the plans"]
 

@@ -25,11 +25,13 @@ EXAMPLES = """\
   pert-edit wing.csv FORM.remove= -o new.csv                   the task and its links go
   pert-edit wing.csv data-date=2026-04-30 DIG.actual-start=2026-04-02 DIG.percent=50 -o april.csv
   pert-edit wing.csv overhead=4000 contract=2026-08-11 penalty=2500 -o new.csv
+  pert-edit wing.csv Crane.capacity=1 -o new.csv               one crane works at once
   pert-edit wing.csv DIG.normal=4                              what would change
 
 Fields of a task, durations in days and the price that of a day less: name, normal, shortest, price,
 cost, optimistic, likely, pessimistic, links, new, remove, percent, actual-start, actual-finish,
 remaining. Links name tasks by code or row, with a kind and a lag in days: DIG, 12SS+2d, DIGFF-1d.
+Fields of a resource, named by code or name: capacity, as pert-import --capacity has it.
 Fields of the project: data-date, overhead, bonus, penalty (of a working day), contract.
 """
 

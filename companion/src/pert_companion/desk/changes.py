@@ -9,6 +9,7 @@ from pert_companion.desk.amounts import amounts_of
 from pert_companion.desk.saving import files_of
 from pert_companion.desk.views import Json, Rows, data_date
 from pert_companion.importing.month_end import Books
+from pert_companion.model.figures import plain_number
 from pert_companion.model.sidefile import SideTask
 
 FIELDS = {
@@ -81,9 +82,10 @@ def _of_task(old: Json, new: Json) -> Iterator[Change]:
 
 def _of_project(before: Books, after: Books) -> Iterator[Change]:
     old, new = _project_texts(before), _project_texts(after)
-    for name, text in new.items():
-        if old[name] != text:
-            yield Change("", "", name, old[name], text)
+    for name in {**old, **new}:
+        texts = old.get(name, ""), new.get(name, "")
+        if texts[0] != texts[1]:
+            yield Change("", "", name, *texts)
 
 
 def _project_texts(books: Books) -> dict[str, str]:
@@ -100,6 +102,8 @@ def _project_texts(books: Books) -> dict[str, str]:
     for name in PRICES:
         price = 0 if terms is None else getattr(terms, name)
         found[f"{name} of a day"] = amounts.price(price) if price else ""
+    for each in books.side.capacities:
+        found[f"capacity of {each.name}"] = plain_number(each.units)
     return found
 
 

@@ -10,7 +10,13 @@ from dataclasses import dataclass, replace
 
 from pert_companion.carry.charges import with_ledger
 from pert_companion.carry.reporting import as_of_close
-from pert_companion.desk import figures, plan_edits, project_edits, status_edits
+from pert_companion.desk import (
+    capacity_edits,
+    figures,
+    plan_edits,
+    project_edits,
+    status_edits,
+)
 from pert_companion.desk.amounts import read_day
 from pert_companion.importing.month_end import Books
 from pert_companion.model.errors import InputError, UsageError
@@ -27,6 +33,7 @@ class Edit:
     field: str
     value: str
     task: str = ""
+    """The code of a task, or the name or code of a resource."""
 
     @property
     def word(self) -> str:
@@ -39,14 +46,15 @@ def edit_of(word: str) -> Edit:
     """Returns the edit of a word; `UsageError` if it is none."""
     name, mark, value = word.partition("=")
     task, _, field = name.rpartition(".")
-    known = TASK_FIELDS if task else PROJECT_FIELDS
+    known = (*TASK_FIELDS, *RESOURCE_FIELDS) if task else PROJECT_FIELDS
     if not mark or field not in known:
-        names = ", ".join((*TASK_FIELDS, *PROJECT_FIELDS))
+        names = ", ".join((*TASK_FIELDS, *RESOURCE_FIELDS, *PROJECT_FIELDS))
         raise UsageError(f"{word[:60]!r} is not TASK.FIELD=VALUE or FIELD=VALUE; fields: {names}")
     return Edit(field, value, task)
 
 
 TASK_FIELDS = (*figures.FIELDS, *plan_edits.FIELDS, *status_edits.FIELDS)
+RESOURCE_FIELDS = capacity_edits.FIELDS
 PROJECT_FIELDS = (DATA_DATE, *project_edits.FIELDS)
 
 
@@ -75,13 +83,15 @@ def _at_data_date(books: Books, edit: Edit) -> Books:
 
 
 def _with_plan(books: Books, edits: Iterable[Edit]) -> Books:
-    """Returns the deck with the tasks, links and figures that edits change."""
+    """Returns the deck with the tasks, links, capacities and figures that edits change."""
     for edit in edits:
         if edit.field in figures.FIELDS:
             task = plan_edits.task_of(books, edit.task)
             books = _fitted(figures.changed(books, task, edit.field, edit.value))
         elif edit.field in plan_edits.FIELDS:
             books = _fitted(plan_edits.changed(books, edit.task, edit.field, edit.value))
+        elif edit.field in capacity_edits.FIELDS:
+            books = _fitted(capacity_edits.changed(books, edit.task, edit.value))
         elif edit.field in project_edits.FIELDS:
             books = _fitted(project_edits.changed(books, edit.field, edit.value))
     return books

@@ -10,8 +10,9 @@ from starlette.requests import Request
 from pert_companion import VERSION
 from pert_companion.analysis.lengths import longest_by
 from pert_companion.analysis.sureness import sureness
-from pert_companion.desk import answers, bookings, handing, imports, states, views
+from pert_companion.desk import answers, bookings, handing, imports, loads, states, views
 from pert_companion.desk.amounts import read_day
+from pert_companion.desk.capacity_edits import CAPACITY
 from pert_companion.desk.changes import changes_between
 from pert_companion.desk.desk import Desk
 from pert_companion.desk.edits import TASK_FIELDS, Edit
@@ -192,6 +193,14 @@ def options(desk: Desk, request: Request, _body: Body) -> Json:
     return views.options_json(state, version)
 
 
+def load(desk: Desk, request: Request, _body: Body) -> Json:
+    """Returns what a length costs and uses by week, and what is above its capacity."""
+    found = _project(desk, request)
+    with found.lock:
+        state, version = found.state, found.version
+    return loads.load_json(state, views.nearest_length(state.rest, _units(request)), version)
+
+
 def version(desk: Desk, request: Request, _body: Body) -> Json:
     """Returns the version of a project, and what somebody else changed in its file."""
     found = _project(desk, request)
@@ -269,6 +278,8 @@ def _edit(body: Body) -> Edit:
         return Edit("data-date", body.text("day"))
     if kind == "contract":
         return Edit("contract", value)
+    if kind == CAPACITY and body.text("resource"):
+        return Edit(CAPACITY, value, body.text("resource"))
     name = body.text("field").replace("_", "-")
     if kind == "terms" and name in (*PROJECT_FIELDS, "target"):
         return Edit("contract" if name == "target" else name, value)
@@ -429,6 +440,7 @@ JSON_WORK: tuple[tuple[str, str, Callable[[Desk, Request, Body], Json]], ...] = 
     ("GET", "projects/{project}/schedule", schedule),
     ("GET", "projects/{project}/length", length),
     ("GET", "projects/{project}/options", options),
+    ("GET", "projects/{project}/load", load),
     ("GET", "projects/{project}/version", version),
     ("POST", "projects/{project}/edits", edit),
     ("POST", "projects/{project}/tasks", add_task),

@@ -54,7 +54,7 @@ def _about_capacities(found: Loading, form: TextForm) -> Iterator[str]:
     if not found.resources:
         return
     if all(each.capacity is None for each in found.resources):
-        yield "no capacity is known: say it with pert-import --capacity NAME=UNITS"
+        yield "no capacity is known: say it with pert-edit DECK NAME.capacity=UNITS"
         return
     if not found.overloads:
         yield "no resource is above its capacity"

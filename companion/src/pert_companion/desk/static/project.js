@@ -1,6 +1,7 @@
 // The page of a project: its panels, the keys that hold everywhere, and the line that says what was done.
 import { HistoryPanel, Hand, StatesPanel, Vouchers, changeTable, diffOf } from "./hand.js";
 import { Figures, Lengths } from "./length.js";
+import { Load } from "./load.js";
 import { Desk } from "./model.js";
 import { Network } from "./network.js";
 import { Gantt, Progress, Tasks } from "./tasks.js";
@@ -10,13 +11,14 @@ import "./drop.js";
 const desk = new Desk(document.body.dataset.project);
 const figures = new Figures(desk);
 const lengths = new Lengths(desk, figures);
+const load = new Load(desk, figures);
 const hand = new Hand(desk);
 const states = new StatesPanel(desk);
 const history = new HistoryPanel(desk);
 new Vouchers(desk);
 const tabs = /** @type {HTMLElement[]} */ ([...document.querySelectorAll("[role='tab']")]);
 /** @type {Record<string, {draw: () => unknown}>} What is drawn when a panel is opened. */
-const panels = { length: lengths, hand, compare: states, changes: history, report: { draw: drawReport }, network: { draw: drawNetwork } };
+const panels = { length: lengths, load, hand, compare: states, changes: history, report: { draw: drawReport }, network: { draw: drawNetwork } };
 let tasks = null;
 let network = null;
 let isNetworkOld = true;
