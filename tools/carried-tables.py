@@ -16,16 +16,22 @@ sys.path.insert(0, str(TOP / "companion" / "src"))
 def tables() -> Mapping[str, Mapping[str, str]]:
     """Returns the text of each table by its name, by the page that it is in."""
     from pert_companion.readers.carried import carried_table  # type: ignore[import]
+    from pert_companion.readers.gan_carried import GAN  # type: ignore[import]
+    from pert_companion.readers.gnome_carried import GNOME  # type: ignore[import]
     from pert_companion.readers.list_carried import columns_table  # type: ignore[import]
     from pert_companion.readers.mspdi_carried import MSPDI  # type: ignore[import]
     from pert_companion.readers.p6_carried import P6  # type: ignore[import]
+    from pert_companion.readers.taskjuggler_carried import TASKJUGGLER  # type: ignore[import]
     from pert_companion.writers.changed_fields import CHANGED, listed  # type: ignore[import]
 
     return {
         "docs/importing.md": {
             "columns": columns_table(),
             "mspdi": carried_table(MSPDI),
+            "taskjuggler": carried_table(TASKJUGGLER),
             "p6": carried_table(P6),
+            "gan": carried_table(GAN),
+            "gnome": carried_table(GNOME),
         },
         "docs/exporting.md": {name: listed(name) for name in CHANGED},
     }
@@ -57,7 +63,9 @@ def main(words: list[str]) -> int:
         for table, text in texts.items():
             changed = with_table(page, table, text)
             if words and changed != page:
-                print(f"FAILED carried-tables: {name}: {table}: run tools/carried-tables.py")
+                print(
+                    f"FAILED carried-tables: {name}: {table}: run tools/carried-tables.py"
+                )
                 status = 1
             page = changed
         if not words:

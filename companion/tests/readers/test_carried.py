@@ -13,10 +13,13 @@ from pert_companion.readers import pmxml
 from pert_companion.readers.base import ReaderOptions
 from pert_companion.readers.carried import full_names
 from pert_companion.readers.columns import HEADINGS
+from pert_companion.readers.gan_carried import GAN
+from pert_companion.readers.gnome_carried import GNOME
 from pert_companion.readers.list_carried import COLUMNS
 from pert_companion.readers.mspdi_carried import MSPDI
 from pert_companion.readers.p6 import Record
 from pert_companion.readers.p6_carried import P6
+from pert_companion.readers.taskjuggler_carried import TASKJUGGLER as OF_TASKJUGGLER
 
 TOP = Path(__file__).resolve().parents[3]
 EXAMPLES = TOP / "examples"
@@ -82,19 +85,43 @@ FULL_PMXML = b"""<APIBusinessObjects><Currency><Id>EUR</Id></Currency><UnitOfMea
 <PlannedDuration>8</PlannedDuration></Activity><ResourceAssignment>
 <ActivityObjectId>1</ActivityObjectId></ResourceAssignment></Project>
 <BaselineProject><Activity><Id>A1</Id></Activity></BaselineProject></APIBusinessObjects>"""
+FULL_GAN = b"""<project name="Shed" view-date="2026-03-02"><calendars>
+<day-types><default-week mon="0"/></day-types>
+<date year="2026" month="3" date="6" type="HOLIDAY"/></calendars>
+<tasks><taskproperties><taskproperty id="tpc0" name="Crash" type="custom"/></taskproperties>
+<task id="1" name="Dig" start="2026-03-02" duration="4" complete="50" thirdDate="2026-03-02"
+thirdDate-constraint="1" cost-calculated="false" cost-manual-value="100"><depend id="2" type="2"
+difference="1"/><customproperty taskproperty-id="tpc0" value="2"/></task>
+<task id="2" name="Pour" start="2026-03-09" duration="2"/></tasks>
+<resources><resource id="5" name="Crew"><rate name="standard" value="400"/></resource></resources>
+<allocations><allocation task-id="1" resource-id="5" load="50"/></allocations>
+<previous><previous-tasks name="First"><previous-task id="1" start="2026-03-02" duration="3"/>
+</previous-tasks></previous></project>"""
+FULL_PLANNER = b"""<project name="Shed" mrproject-version="2"
+project-start="20260302T080000Z" calendar="1">
+<calendars><calendar id="1" name="Site"><default-week mon="0"/><overridden-day-types>
+<overridden-day-type id="0"><interval start="0800" end="1600"/></overridden-day-type>
+</overridden-day-types><days><day date="20260306" type="day-type" id="1"/></days></calendar>
+</calendars><tasks><task id="1" name="Dig" work="28800" start="20260302T080000Z"
+end="20260302T160000Z" type="normal" scheduling="fixed-work"/></tasks></project>"""
 PLACES = {"Id", "ObjectId"}
 """What names each element of P6's XML in messages."""
 
 
 @contextmanager
-def recorded() -> Iterator[set[str]]:
-    """Collects what is read: texts of elements and attributes, and fields of P6's tables."""
+def recorded(is_given: bool = False) -> Iterator[set[str]]:
+    """Collects what is read: texts of elements and attributes, and fields of P6's tables.
+
+    With `is_given` only what the file has is collected.
+    """
     found: set[str] = set()
     text_of, attribute_of, field_of = Node.text, Node.attribute, Record.text
 
     def text(node: Node, name: str) -> str:
-        found.add(f"{local_name(node.element)}.{name}")
-        return text_of(node, name)
+        read = text_of(node, name)
+        if read or not is_given:
+            found.add(f"{local_name(node.element)}.{name}")
+        return read
 
     def attribute(node: Node, name: str) -> str:
         found.add(f"{local_name(node.element)}.{name}")
@@ -124,6 +151,26 @@ def test_fields_of_mspdi() -> None:
     """Each field that is read is in the table, and each of the table is read."""
     garden, taskjuggler = (EXAMPLES / "garden.xml").read_bytes(), TASKJUGGLER.read_bytes()
     assert fields_of(garden, taskjuggler, FULL_MSPDI) == full_names(row.fields for row in MSPDI)
+
+
+def test_fields_of_taskjuggler() -> None:
+    """The table has what the file of TaskJuggler has, of what is read of MS Project's files."""
+    with recorded(is_given=True) as found:
+        readers.read(Source(Path("plan"), TASKJUGGLER.read_bytes()), ReaderOptions())
+    assert found == full_names(row.fields for row in OF_TASKJUGGLER)
+    assert found <= full_names(row.fields for row in MSPDI)
+
+
+def test_fields_of_ganttproject() -> None:
+    """Each field that is read is in the table, and each of the table is read."""
+    found = fields_of((EXAMPLES / "garden.gan").read_bytes(), FULL_GAN)
+    assert found == full_names(row.fields for row in GAN)
+
+
+def test_fields_of_gnome_planner() -> None:
+    """Each field that is read is in the table, and each of the table is read."""
+    found = fields_of((EXAMPLES / "planner.planner").read_bytes(), FULL_PLANNER)
+    assert found == full_names(row.fields for row in GNOME)
 
 
 def test_fields_of_xer() -> None:

@@ -1,6 +1,6 @@
 """What becomes of the fields of planners' files: the rows of the tables in docs/importing.md.
 
-Each reader has its table next to it (`mspdi_carried`, `p6_carried`, `list_carried`), and
+Each reader has its table next to it (`mspdi_carried`, `p6_carried`, `list_carried` ..), and
 tools/carried-tables.py writes them into the page. A test compares the fields of each table with
 those that the reader reads.
 """
