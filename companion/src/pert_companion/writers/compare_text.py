@@ -11,12 +11,12 @@ from pert_companion.writers.text import shown
 
 STATE_HEADINGS = (
     "STATE",
-    "AS OF",
+    "DATA DATE",
     "END",
-    "LEFT",
+    "DAYS LEFT",
     "BUDGET",
     "SPENT",
-    "LATEST",
+    "LATEST ESTIMATE",
     "VALUE",
     "EV",
     "SPI",

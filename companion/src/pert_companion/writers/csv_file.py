@@ -25,9 +25,9 @@ HEADINGS = (
     "State",
     "Days left",
     "Deadline",
-    "Days to the deadline",
+    "Days to deadline",
 )
-"""The columns of tables of tasks, in CSV and in workbooks."""
+"""The columns of tables of tasks, in CSV and in workbooks; text has some of them, in capitals."""
 
 
 SCHEDULE_TABLE = FileKind("a table of a schedule", "Row,Code,Id,Outline,")

@@ -7,6 +7,8 @@ AMOUNTS = ("BAC", *PERFORMANCE)
 RATIOS = ("SPI", "CPI")
 FIGURES = (*AMOUNTS, *RATIOS, "EAC", "VAC", "TCPI")
 LINE = ("Code", "Title", "Level", "Manager", "Scope")
+LATEST = "Latest estimate"
+LATEST_VARIANCE = "BAC less latest estimate"
 TIMES = ("Earned schedule", "Actual time", "SV(t)", "SPI(t)")
 """Working days and their ratio, of the project and of totals alone."""
 MONTHS = ("Account", "Close", "PV", "EV", "AC", "Reported PV", "Reported EV")

@@ -11,18 +11,20 @@ from pert_companion.writers.aligned import aligned
 from pert_companion.writers.formula import plain_text
 
 HEADINGS = (
-    "CODE",
-    "STATE",
-    "LEFT",
-    "START",
-    "FINISH",
-    "LISTED",
-    "BASELINE",
-    "LATE",
-    "FLOAT",
-    "TASK",
+    "Code",
+    "State",
+    "Days left",
+    "Start",
+    "Finish",
+    "Listed finish",
+    "Baseline finish",
+    "Days behind list",
+    "Days behind baseline",
+    "Float days",
+    "Name",
 )
-RIGHT = "llrllllrrl"
+"""The columns of text, in capitals there: some of those of CSV."""
+RIGHT = "llrllllrrrl"
 CSV_HEADINGS = (
     "Row",
     "Code",
@@ -37,8 +39,8 @@ CSV_HEADINGS = (
     "Listed finish",
     "Baseline start",
     "Baseline finish",
-    "Days later than listed",
-    "Days later than the baseline",
+    "Days behind list",
+    "Days behind baseline",
     "Float days",
     "Critical",
 )
@@ -47,8 +49,7 @@ CSV_HEADINGS = (
 def to_text(forecast: Forecast, tasks: Sequence[ForecastTask], on_terminal: bool = False) -> str:
     """Returns the ends, the assumptions, and a row for each of the tasks, in the order given.
 
-    LATE is against the baseline if there is one, else against the list. Columns of which nothing is
-    known are left out.
+    Days behind the list are left out if there is a baseline, as are columns without anything known.
     """
     lines = [f"FORECAST {forecast.code} {forecast.data_day}"]
     lines.extend(_ends(forecast))
@@ -63,7 +64,7 @@ def _table(rows: Sequence[tuple[str, ...]]) -> list[str]:
     for at in range(len(HEADINGS)):
         if any(row[at] != NOTHING for row in rows):
             kept.append(at)
-    headings = [HEADINGS[at] for at in kept]
+    headings = [HEADINGS[at].upper() for at in kept]
     chosen = []
     for row in rows:
         chosen.append([row[at] for at in kept])
@@ -92,9 +93,7 @@ def _wrapped(text: str, width: int = 96) -> list[str]:
 
 
 def _row(task: ForecastTask, forecast: Forecast, form: TextForm) -> tuple[str, ...]:
-    late = task.listed_late_minutes
-    if forecast.baseline_end is not None:
-        late = task.baseline_late_minutes
+    late = None if forecast.baseline_end is not None else task.listed_late_minutes
     slack = form.days(task.total_float_minutes, forecast.day_minutes)
     return (
         task.code,
@@ -105,6 +104,7 @@ def _row(task: ForecastTask, forecast: Forecast, form: TextForm) -> tuple[str, .
         _day(task.listed_finish),
         _day(task.baseline_finish),
         form.signed_days(late, forecast.day_minutes),
+        form.signed_days(task.baseline_late_minutes, forecast.day_minutes),
         f"{slack}*" if task.is_critical else slack,
         task.name or task.code,
     )

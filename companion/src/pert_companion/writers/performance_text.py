@@ -13,11 +13,11 @@ from pert_companion.writers import earned_headings as headings
 from pert_companion.writers.aligned import aligned
 from pert_companion.writers.formula import plain_text
 
-_FIGURES = (*headings.FIGURES, "LATEST")
+_FIGURES = (*headings.FIGURES, headings.LATEST.upper())
 _PERIOD = (*headings.PERFORMANCE, *headings.RATIOS)
 CSV_HEADINGS = (
     *(*headings.LINE, *headings.FIGURES),
-    *("EAC as planned", "EAC by CPI and SPI", "Latest estimate", "BAC less latest estimate"),
+    *("EAC as planned", "EAC by CPI and SPI", headings.LATEST, headings.LATEST_VARIANCE),
     *(f"Period {name}" for name in _PERIOD),
     *headings.TIMES,
 )

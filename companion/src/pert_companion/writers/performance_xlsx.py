@@ -25,7 +25,7 @@ from pert_companion.writers.sheets import CellValue, amount_cells, new_sheet, pu
 
 HEADINGS = (
     *(*headings.LINE, *headings.FIGURES),
-    *("Latest estimate", "BAC less latest"),
+    *(headings.LATEST, headings.LATEST_VARIANCE),
     *(f"Period {name}" for name in headings.PERFORMANCE),
     *headings.TIMES,
 )

@@ -54,11 +54,12 @@ _RIGHT = (True, False, False, False, False, True, True, False, True, False)
 
 def _headings(schedule: Schedule, tasks: Sequence[ScheduledTask]) -> list[str]:
     """Returns the headings but for the name: states if work has begun, deadlines if there are."""
-    state = "" if schedule.rest_of is None else "STATE"
+    state = "" if schedule.rest_of is None else "State"
     deadlines = ["", ""]
     if any(task.deadline is not None for task in tasks):
-        deadlines = ["DEADLINE", "SLACK"]
-    return ["ROW", "CODE", state, "START", "FINISH", "DAYS", "FLOAT", *deadlines, ""]
+        deadlines = ["Deadline", "Days to deadline"]
+    headings = ["Row", "Code", state, "Start", "Finish", "Days", "Float days", *deadlines, ""]
+    return [heading.upper() for heading in headings]
 
 
 def _heading(schedule: Schedule, form: TextForm) -> list[str]:

@@ -271,7 +271,7 @@ def _load_sheet(book: Workbook, content: Workbooks, load: Loading) -> None:
 def _above_sheet(book: Workbook, load: Loading) -> None:
     """Adds a row for each period in which a resource is above its capacity, with its tasks."""
     headings = ("Resource", "From", "Load", "Available", "Most at once", "Capacity", "Days")
-    sheet = new_sheet(book, "Above capacity", (*headings, "Tasks"))
+    sheet = new_sheet(book, "Above capacity", (*headings, "Tasks above it"))
     by_code = {resource.code: resource for resource in load.resources}
     for at, each in enumerate(load.overloads, 2):
         resource = by_code[each.resource]
