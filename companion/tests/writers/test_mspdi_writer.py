@@ -1,7 +1,6 @@
 """MS Project's XML that is written shows the chosen schedule, by a CPM of the test's own."""
 
 from dataclasses import replace
-from itertools import chain
 from pathlib import Path
 from xml.etree import ElementTree
 
@@ -10,6 +9,7 @@ from hypothesis import HealthCheck, assume, given, settings
 
 from chosen_lengths import check_dates, in_one_piece, state_of, three_lengths
 from examples import length_count
+from file_changes import unlisted
 from pert_companion.analysis.scheduling import rest_schedule
 from pert_companion.carry import CarryOptions, carry
 from pert_companion.model.errors import InputError
@@ -19,7 +19,6 @@ from pert_companion.model.source import Source
 from pert_companion.programs.results import cost_at
 from pert_companion.readers import mspdi
 from pert_companion.readers.base import ReaderOptions
-from pert_companion.writers.changed_fields import CHANGED
 from pert_companion.writers.mspdi import to_mspdi
 from pert_companion.writers.mspdi_elements import NAMESPACE
 from pert_companion.writers.mspdi_into import into_mspdi
@@ -64,7 +63,7 @@ def test_into_the_original(plan: Plan) -> None:
         changed, missing = into_mspdi(data, "plan.xml", schedule, carried.side)
         assert missing == []
         check_dates(read(changed), schedule)
-        check_rest(data, changed)
+        assert unlisted("mspdi", data, changed) == []
 
 
 @SLOW
@@ -85,28 +84,6 @@ def test_new_file(plan: Plan) -> None:
         assert costs == [task.cost for task in schedule.tasks]
 
 
-CHANGED_NAMES = frozenset(chain.from_iterable(CHANGED["mspdi"].values()))
-ADDED = frozenset("Cost FixedCost RemainingDuration".split())
-"""What a task gets if it has none."""
-
-
-def everything_else(data: bytes) -> list[tuple[str, str]]:
-    """Returns all elements of a file with their texts, but for durations and dates of tasks."""
-    root = ElementTree.fromstring(data)
-    found = []
-    for element in root.iter():
-        name = element.tag.removeprefix(f"{{{NAMESPACE}}}")
-        if name in ADDED:
-            continue
-        found.append((name, "" if name in CHANGED_NAMES else element.text or ""))
-    return found
-
-
-def check_rest(before: bytes, after: bytes) -> None:
-    """Checks that ids, links, resources, assignments and calendars are what they were."""
-    assert everything_else(before) == everything_else(after)
-
-
 RUNNING = FEATURES | {Feature.PROGRESS, Feature.CRASH_COST}
 
 
@@ -123,7 +100,7 @@ def test_running_plans_come_back(plan: Plan) -> None:
     for schedule in three_lengths(carried):
         changed, missing = into_mspdi(data, "plan.xml", schedule, carried.side)
         assert missing == []
-        check_rest(data, changed)
+        assert unlisted("mspdi", data, changed) == []
         after = state_of(carry(read(changed), unit)).rest.curve
         assert (after[0].length, after[-1].length) == (schedule.length, before[-1].length)
         for length in range(after[-1].length, schedule.length + 1):

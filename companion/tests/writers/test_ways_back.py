@@ -3,7 +3,6 @@
 from collections.abc import Callable
 from dataclasses import dataclass
 from pathlib import Path
-from xml.etree import ElementTree
 
 import pytest
 from hypothesis import HealthCheck, assume, given, settings
@@ -19,7 +18,9 @@ from chosen_lengths import (
 )
 from cpm import Dates
 from examples import length_count
-from p6_files import DURATION_TYPES, full_pmxml, full_xer, xer_tables
+from file_changes import listed_fields, unlisted
+from mspdi_files import full_mspdi
+from p6_files import DURATION_TYPES, full_pmxml, full_xer
 from pert_companion import readers
 from pert_companion.analysis.schedule import Schedule
 from pert_companion.analysis.scheduling import rest_schedule
@@ -29,7 +30,7 @@ from pert_companion.model.source import Source
 from pert_companion.programs.results import cost_at
 from pert_companion.readers.base import ReaderOptions
 from pert_companion.state.remaining import State
-from pert_companion.writers.changed_fields import CHANGED, listed
+from pert_companion.writers.changed_fields import CHANGED
 from pert_companion.writers.into import WAYS_BACK
 from planner_files import gan_bytes
 from plans import Feature, plans
@@ -53,42 +54,17 @@ SLOW = settings(
     deadline=None,
     suppress_health_check=list(HealthCheck),
 )
-Fields = dict[tuple[str, str], dict[str, str]]
-"""The fields of each row or element, by its kind and id."""
 
 
 @dataclass(frozen=True)
 class Format:
-    """A format: how a test writes a plan, and how it reads the fields of a file."""
+    """A format: how a test writes a plan, and what its files can say."""
 
     name: str
     write: Callable[[Plan, str], bytes]
-    fields: Callable[[bytes], Fields]
     features: frozenset[Feature] = RUNNING
     lists_finishes: bool = True
     """Whether it lists when tasks under way end."""
-
-
-def xer_fields(data: bytes) -> Fields:
-    """Returns the fields of a file: those of a table by the place of the row."""
-    found: Fields = {}
-    for table, rows in xer_tables(data).items():
-        for number, row in enumerate(rows):
-            found[table, str(number)] = row
-    return found
-
-
-def pmxml_fields(data: bytes) -> Fields:
-    """Returns the fields of the elements of a file that have elements, by their places."""
-    found: Fields = {}
-    for element in ElementTree.fromstring(data).iter():
-        kind = element.tag.rpartition("}")[2]
-        number = sum(1 for known, _ in found if known == kind)
-        leaves = [child for child in element if not len(child)]
-        texts = {child.tag.rpartition("}")[2]: child.text or "" for child in leaves}
-        if texts:
-            found[kind, str(number)] = texts
-    return found
 
 
 def full_gan(plan: Plan, _: str) -> bytes:
@@ -96,20 +72,12 @@ def full_gan(plan: Plan, _: str) -> bytes:
     return gan_bytes(plan)
 
 
-def gan_fields(data: bytes) -> Fields:
-    """Returns the attributes of the elements of a file, by their places."""
-    found: Fields = {}
-    for number, element in enumerate(ElementTree.fromstring(data).iter()):
-        found[element.tag, str(number)] = dict(element.attrib)
-    return found
-
-
 FORMATS = {
-    "xer": Format("xer", full_xer, xer_fields, RUNNING | {Feature.CONSTRAINTS}),
-    "pmxml": Format("pmxml", full_pmxml, pmxml_fields, RUNNING | {Feature.CONSTRAINTS}),
-    "gan": Format("gan", full_gan, gan_fields, lists_finishes=False),
+    "mspdi": Format("mspdi", full_mspdi, RUNNING | {Feature.CONSTRAINTS}),
+    "xer": Format("xer", full_xer, RUNNING | {Feature.CONSTRAINTS}),
+    "pmxml": Format("pmxml", full_pmxml, RUNNING | {Feature.CONSTRAINTS}),
+    "gan": Format("gan", full_gan, lists_finishes=False),
 }
-NEW_EXPENSES = ("PROJCOST", "ActivityExpense")
 EVERY = pytest.mark.parametrize("format_name", FORMATS)
 
 
@@ -126,23 +94,6 @@ def into(name: str, data: bytes, schedule: Schedule, carried: Carried) -> bytes:
     return changed
 
 
-def check_rest(form: Format, before: bytes, after: bytes) -> None:
-    """Checks that nothing changed but the fields that may, and expenses that are added."""
-    old, new = form.fields(before), form.fields(after)
-    added = [key for key in new if key not in old]
-    assert [key for key in old if key not in new] == []
-    assert all(kind in NEW_EXPENSES for kind, _ in added)
-    for key, fields in old.items():
-        wanted = CHANGED[form.name].get(key[0], ())
-        if "Shortening" in new[key].values():
-            continue
-        kept = {name: text for name, text in fields.items() if name not in wanted}
-        found = {name: text for name, text in new[key].items() if name not in wanted}
-        assert kept == found, key
-        if form.name != "gan":
-            assert set(fields) == set(new[key])
-
-
 @EVERY
 @SLOW
 @given(st.data())
@@ -156,7 +107,7 @@ def test_dates_of_the_chosen_durations(format_name: str, data: st.DataObject) ->
     carried = carry(read(original, plan))
     for schedule in three_lengths(carried):
         changed = into(format_name, original, schedule, carried)
-        check_rest(form, original, changed)
+        assert unlisted(format_name, original, changed) == []
         check_dates(read(changed, plan), schedule)
 
 
@@ -191,7 +142,7 @@ def test_running_plans_come_back(format_name: str, data: st.DataObject) -> None:
     before = state_of(carried).rest.curve
     for schedule in three_lengths(carried):
         changed = into(format_name, original, schedule, carried)
-        check_rest(form, original, changed)
+        assert unlisted(format_name, original, changed) == []
         again = carry(read(changed, plan), unit)
         after = state_of(again).rest.curve
         assert (after[0].length, after[-1].length) == (schedule.length, before[-1].length)
@@ -224,6 +175,6 @@ def test_what_has_its_dates_stays(format_name: str, data: st.DataObject) -> None
 
 @pytest.mark.parametrize("format_name", CHANGED)
 def test_the_page_lists_what_changes(format_name: str) -> None:
-    """No field changes that docs/exporting.md does not list."""
-    page = Path(__file__).resolve().parents[3] / "docs" / "exporting.md"
-    assert listed(format_name) in page.read_text()
+    """docs/exporting.md lists the fields that the code may change."""
+    fields = {kind: set(names) for kind, names in CHANGED[format_name].items()}
+    assert listed_fields(format_name) == fields

@@ -50,7 +50,8 @@ CHANGED: Mapping[str, Fields] = {
         "PredecessorLink": ("LinkLag", "LagFormat"),
         "ExtendedAttribute": ("Value",),
         "Assignment": tuple(
-            "Start Finish Units Work RegularWork RemainingWork Cost RemainingCost".split()
+            "Start Finish Units Work RegularWork RemainingWork Cost RemainingCost"
+            " TimephasedData".split()
         ),
     },
     "xer": _of_p6(XER, ("PROJECT", "TASK", "TASKRSRC", "PROJCOST", "UDFVALUE")),
