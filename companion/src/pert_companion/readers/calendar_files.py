@@ -23,8 +23,8 @@ from pert_companion.readers.working_times import week_of, weekdays_in
 
 MAX_BYTES = 1024 * 1024
 
-_RANGE = re.compile(r"(.+?)\s*(?:\.\.|\s[-–]\s|–|\s(?:to|bis)\s)\s*(.+)")
-"""A first and a last day: `2024-12-24..2024-12-31`, `24.12.2024 - 31.12.2024`, `.. bis ..`."""
+_RANGE = re.compile(r"(.+?)\s*(?:\.\.|\s[-–]\s|–|(?<=[./]\d{4})-|\s(?:to|bis)\s)\s*(.+)")
+"""A first and a last day: `2024-12-24..2024-12-31`, `24.12.2024-31.12.2024`, `.. bis ..`."""
 _SEPARATORS = ";\t,"
 _COMMENT = "#"
 _MOST_WORDS = 6
