@@ -186,7 +186,10 @@ def test_deadlines(tmp_path: Path, capfdbinary: Capture) -> None:
     assert run_command(importing.NAME, importing.parser(), importing.run, words) == 0
     shown = run_words(capfdbinary, "s", SCHEDULE, [deck, "--order", "plan"]).output.split("\n")
     assert shown[1].startswith("1 deadline is missed: ") and shown[1].endswith(" by 1 day")
-    assert " ".join(shown[2].split()) == "ROW CODE START FINISH DAYS FLOAT DAYS DEADLINE DAYS TO DEADLINE NAME"
+    assert (
+        " ".join(shown[2].split())
+        == "ROW CODE START FINISH DAYS FLOAT DAYS DEADLINE DAYS TO DEADLINE NAME"
+    )
     table = rows(run_words(capfdbinary, "s", SCHEDULE, [deck, "--order", "plan", "--csv"]))
     assert [row["Days to deadline"] for row in table] == ["-1", "2", ""]
     assert [row["Deadline"] for row in table] == ["2026-09-10", "2026-09-22", ""]
