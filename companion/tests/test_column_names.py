@@ -57,7 +57,12 @@ def text_columns(text: str) -> set[str]:
     return found
 
 
-@pytest.mark.parametrize("line", TABLES, ids=lambda line: line.replace(f"{EXAMPLES}/", ""))
+def short(line: str) -> str:
+    """Returns the name of a test of a command line."""
+    return line.replace(f"{EXAMPLES}/", "")
+
+
+@pytest.mark.parametrize("line", TABLES, ids=short)
 def test_text_has_the_names_of_csv(line: str, capfdbinary: Capture) -> None:
     """Each column of the text is one of CSV, in capitals."""
     known = set()
