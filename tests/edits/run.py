@@ -9,8 +9,9 @@ here, in a folder for each crate. With no names, these others are meant, and wit
 the gate too. A crate stands for all its edits, of both places.
 
 tests/edits/state names for each edit the sources on which it was last refused: a sum over its
-crate, all crates below it and its own text; and the first goal that was not proved with it, if the
-run named one. An edit with the same sum is not tried again, unless --all is given. A refusal is
+crate, all crates below it and its own text, without lines that are comments; and the first goal
+that was not proved with it, if the run named one. An edit with the same sum is not tried again,
+unless --all is given. A refusal is
 written down at once, so that a run that was stopped goes on where it ended. --list says which edits
 would be tried, and tries none. --log writes down what `rt ci` or `rt must-fail` refused at the top
 of this checkout: FILE is what it printed, of these very sources.
@@ -50,6 +51,8 @@ SAID = re.compile(r"must-fail (\w+)/([\w.-]+\.edit): ([A-Za-z ]+)")
 REFUSED = "refused"
 # the goal that `rt` names first: that of a clause, of an invariant or of a call
 GOAL = re.compile(r"\(`([\w+.-]+)`\)")
+# how a line begins that is a comment, in .rt and in .antt files
+COMMENTS = (b"//", b"--")
 # files of fewer bytes are copied
 SMALL = 65536
 # a refusal that says nothing of a contract
@@ -88,6 +91,12 @@ def record(name: str, refusal: Refusal | None) -> None:
     beside.replace(STATE)
 
 
+def without_comments(path: Path) -> bytes:
+    """The lines of a source that are no comments, which alone decide whether an edit is refused."""
+    lines = path.read_bytes().splitlines(keepends=True)
+    return b"".join(line for line in lines if not line.lstrip().startswith(COMMENTS))
+
+
 class Sums:
     """Sums over sources, each crate read once."""
 
@@ -102,7 +111,8 @@ class Sums:
             total = hashlib.sha256(f"{name}: {' '.join(self.below[name])}\n".encode())
             for path in files_of(name):
                 inside = path.relative_to(TOP / "crates")
-                total.update(f"{inside} {hashlib.sha256(path.read_bytes()).hexdigest()}\n".encode())
+                of_file = hashlib.sha256(without_comments(path)).hexdigest()
+                total.update(f"{inside} {of_file}\n".encode())
             self.of_crate[name] = total.hexdigest()
         return self.of_crate[name]
 
