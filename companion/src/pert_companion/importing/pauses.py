@@ -8,6 +8,7 @@ names the tasks that pause if there is none. It asks for one schedule at a time,
 from collections.abc import Iterable, Iterator, Mapping, Sequence
 from dataclasses import dataclass
 from graphlib import TopologicalSorter
+from heapq import heappop, heappush
 from itertools import chain
 
 from pert_companion.model.deck import Deck
@@ -146,6 +147,9 @@ class PauseSearch:
         self._owners = {card.code: card.code for card in deck.work}
         for task in side.tasks:
             self._owners.update(dict.fromkeys(task.cards(), task.code))
+        tasks = dict.fromkeys(self._owners[code] for code in self._order)
+        self._numbers = {code: number for number, code in enumerate(tasks)}
+        """The tasks in the order in which their first cards come."""
         self._links = list(self._links_of_tasks())
 
     def _links_of_tasks(self) -> Iterator[tuple[str, str]]:
@@ -180,18 +184,21 @@ class PauseSearch:
     def _one_piece_end(self, durations: Mapping[str, int]) -> int | None:
         """Returns when all tasks can have ended in one piece; None if tasks wait in a circle."""
         begins, ends = self._places(durations)
-        bounds: dict[str, list[tuple[str, int]]] = {}
-        owners = self._owners
+        numbers = self._numbers
+        bounds: list[list[tuple[int, int]]] = [[] for _ in numbers]
         for before, code in self._links:
-            bound = owners[code], ends[before] - begins[code]
-            bounds.setdefault(owners[before], []).append(bound)
-        starts = dict.fromkeys((owners[code] for code in self._order), 0)
-        waiting = list(starts)
-        for _ in range(len(starts) + 1):
-            waiting = _pass(bounds, starts, waiting)
-            if not waiting:
-                return max((starts[owners[code]] + end for code, end in ends.items()), default=0)
-        return None
+            wait = ends[before] - begins[code]
+            bounds[numbers[self._owners[before]]].append((numbers[self._owners[code]], wait))
+        starts = [0] * len(numbers)
+        causes: dict[int, int] = {}
+        waiting = list(range(len(numbers)))
+        while waiting:
+            waiting = _round(bounds, starts, causes, waiting)
+            if waiting and has_circle(causes):
+                return None
+        return max(
+            (starts[numbers[self._owners[code]]] + end for code, end in ends.items()), default=0
+        )
 
     def _places(self, durations: Mapping[str, int]) -> tuple[dict[str, int], dict[str, int]]:
         """Returns where each card begins and ends after the start of its task in one piece."""
@@ -226,15 +233,48 @@ class PauseSearch:
         return late
 
 
-def _pass(
-    bounds: Mapping[str, Sequence[tuple[str, int]]], starts: dict[str, int], waiting: Iterable[str]
-) -> list[str]:
-    """Moves what comes after the given tasks, and returns the tasks that moved."""
-    moved: dict[str, None] = {}
-    for other in waiting:
-        start = starts[other]
-        for owner, wait in bounds.get(other, ()):
-            if start + wait > starts[owner]:
-                starts[owner] = start + wait
-                moved[owner] = None
-    return list(moved)
+def _round(
+    bounds: Sequence[Sequence[tuple[int, int]]],
+    starts: list[int],
+    causes: dict[int, int],
+    waiting: Iterable[int],
+) -> list[int]:
+    """Moves what comes after the given tasks, in the order of the deck, and all that follows.
+
+    Returns the tasks that moved and come before the one that moved them: they are for the next
+    round. `causes` has for each task the one that moved it last. Tasks are numbers in that order.
+    """
+    heap = sorted(waiting)
+    queued = set(heap)
+    left: dict[int, None] = {}
+    while heap:
+        task = heappop(heap)
+        queued.remove(task)
+        for after, wait in bounds[task]:
+            if starts[task] + wait <= starts[after]:
+                continue
+            starts[after] = starts[task] + wait
+            causes[after] = task
+            if after < task:
+                left[after] = None
+            elif after not in queued:
+                queued.add(after)
+                heappush(heap, after)
+    return list(left)
+
+
+def has_circle(causes: Mapping[int, int]) -> bool:
+    """Says whether some task is the cause of its own move, directly or through others.
+
+    Then each round through these tasks moves them again, so that they wait in a circle. Source:
+    Cherkassky and Goldberg 1999, walks to the root. Linear in the tasks.
+    """
+    seen: dict[int, int] = {}
+    for first in causes:
+        task = first
+        while task in causes and task not in seen:
+            seen[task] = first
+            task = causes[task]
+        if seen.get(task) == first:
+            return True
+    return False
