@@ -63,9 +63,7 @@ def main(words: list[str]) -> int:
         for table, text in texts.items():
             changed = with_table(page, table, text)
             if words and changed != page:
-                print(
-                    f"FAILED carried-tables: {name}: {table}: run tools/carried-tables.py"
-                )
+                print(f"FAILED carried-tables: {name}: {table}: run tools/carried-tables.py")
                 status = 1
             page = changed
         if not words:
