@@ -145,7 +145,9 @@ def _totals(
         by_close.setdefault(month.close, []).append(month)
     for close, held in by_close.items():
         pv = sum(month.pv for month in held)
-        yield close, pv, _sum(month.ev for month in held), _sum(month.ac for month in held)
+        ev = _sum(month.ev for month in held)
+        ac = _sum(month.ac for month in held)
+        yield close, pv, ev, ac
 
 
 def _sum(amounts: Iterable[int | None]) -> int | None:
