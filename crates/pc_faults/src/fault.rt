@@ -76,6 +76,20 @@ pub struct Fault {
     pub detail: Detail,
 }
 
+impl Fault {
+    /// Returns the fault with this number at a record. The definitions in `specs/Faults.antt` list the faults by their
+    /// numbers.
+    pub fn new(row: u32, number: u8, detail: Detail) -> Fault
+        ensures { result ≡ record { row = row; number = number; detail = detail } }
+    {
+        Fault {
+            row,
+            number,
+            detail,
+        }
+    }
+}
+
 /// Returns F1: the deck has more bytes than allowed.
 pub const TOO_LONG: Fault = Fault {
     row: 0,

@@ -1,11 +1,10 @@
 //! The faults with which a deck is refused, and the line that reports each.
 //!
-//! A fault has a number, the record at which it occurs, and a detail. [`Fault`] has a constructor for each number, and
+//! A fault has a number, the record at which it occurs, and a detail. [`Fault::new`] makes one where it is found, and
 //! [`fault_line`] returns the line. [`earliest`] returns the earlier of two faults. The crates above define which
 //! faults a deck has.
 #![tactic(auto)]
 
-mod constructors;
 mod fault;
 mod kind;
 mod target;
