@@ -28,7 +28,7 @@ ghost use Rattle.pc_model.specs.Codes.{IsNamedOnce};
 use crate::card::{Card, Coded};
 use crate::place::CardPlace;
 use crate::reading::read_card;
-use pc_faults::{DeckError, Fault};
+use pc_faults::{DeckError, Detail, Fault};
 use pc_names::Names;
 use pc_records::Fields;
 use pc_text::Code;
@@ -240,7 +240,8 @@ impl<C: Coded> Named<C> {
         let card = read_card(place, fields)?;
         let before = self.count();
         if !self.add(card)? {
-            return Err(DeckError::Fault(Fault::repeated_code(place.row, *card.code())));
+            let detail = Detail::Name(*card.code());
+            return Err(DeckError::Fault(Fault::new(place.row, 9, detail)));
         }
         match place.fault(before) {
             Some(fault) => Err(DeckError::Fault(fault)),

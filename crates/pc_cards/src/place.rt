@@ -3,7 +3,7 @@ ghost use Rattle.std.specs.Prelude.{◌≡◌};
 ghost use Rattle.pc_cards.specs.inside.Findings.{fault_of_place, not_alone};
 
 use crate::sort::Sort;
-use pc_faults::{Fault, Kind};
+use pc_faults::{Detail, Fault, Kind};
 
 /// The place of a card: the sort of its deck, its kind and record, how many cards of its kind the deck may have, and
 /// whether the END card came before it.
@@ -22,7 +22,7 @@ impl CardPlace {
         ensures { result ≡ not_alone self.now count }
     {
         if count > 0 {
-            Some(Fault::second_card(self.row, self.kind))
+            Some(Fault::new(self.row, 5, Detail::Kind(self.kind)))
         } else {
             None
         }
@@ -35,11 +35,15 @@ impl CardPlace {
     {
         if let Some(limit) = self.limit {
             if count == limit {
-                return Some(Fault::too_many(self.row, self.kind, limit as u64));
+                let detail = Detail::TooMany {
+                    kind: self.kind,
+                    limit: limit as u64,
+                };
+                return Some(Fault::new(self.row, 10, detail));
             }
         }
         if self.has_ended {
-            return Some(Fault::behind_end(self.row));
+            return Some(Fault::new(self.row, 11, Detail::Plain));
         }
         None
     }

@@ -8,7 +8,7 @@ use crate::card::Card;
 use crate::field::{Flaw, Misfit};
 use crate::form::{Slot, first_misshapen, slots_behind};
 use crate::place::CardPlace;
-use pc_faults::Fault;
+use pc_faults::{Detail, Fault};
 use pc_records::Fields;
 
 /// Reads the card of a record. Reads each field once.
@@ -44,13 +44,19 @@ pub fn wrong_fields<F: Fields>(
     ensures { result ≡ wrong_fields place.now least most (F.fields fields.now) }
 {
     let have = fields.len();
-    if have < least {
-        return Some(Fault::wrong_fields(place.row, place.kind, have as u64, least as u64));
-    }
-    if !fields.is_blank_from(most) {
-        return Some(Fault::wrong_fields(place.row, place.kind, have as u64, most as u64));
-    }
-    None
+    let want = if have < least {
+        least
+    } else if !fields.is_blank_from(most) {
+        most
+    } else {
+        return None;
+    };
+    let detail = Detail::Fields {
+        kind: place.kind,
+        have: have as u64,
+        want: want as u64,
+    };
+    Some(Fault::new(place.row, 6, detail))
 }
 
 /// Returns the fault of a card whose first wrong field is this one.
@@ -62,10 +68,10 @@ fn fault_of_misfit<F: Fields>(row: u32, misfit: Misfit, slots: &[Slot], fields: 
     ensures { flaw_of_fields row slots.now (F.fields fields.now) ≡ Some result }
 {
     match misfit.flaw {
-        Flaw::Shape => Fault::misshapen(row, misfit.number),
+        Flaw::Shape => Fault::new(row, 7, Detail::Field(misfit.number)),
         Flaw::Limit => match first_misshapen(slots_behind(misfit.number, slots), fields) {
-            Some(slot) => Fault::misshapen(row, slot.0),
-            None => Fault::over_limit(row, misfit.number),
+            Some(slot) => Fault::new(row, 7, Detail::Field(slot.0)),
+            None => Fault::new(row, 8, Detail::Field(misfit.number)),
         },
     }
 }
