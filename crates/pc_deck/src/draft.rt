@@ -11,7 +11,7 @@ use pc_cards::lists::Once;
 use pc_cards::place::CardPlace;
 use pc_cards::reading::wrong_fields;
 use pc_cards::sort::Sort;
-use pc_faults::{DeckError, Fault, Kind};
+use pc_faults::{DeckError, Detail, Fault, Kind};
 use pc_records::Row;
 use std::alloc::Global;
 
@@ -88,7 +88,7 @@ impl Draft {
             return Err(DeckError::Fault(no_kind(is_first, row)));
         };
         if is_first && kind != Kind::Project {
-            return Err(DeckError::Fault(Fault::first_not_project(row)));
+            return Err(DeckError::Fault(Fault::new(row, 3, Detail::Plain)));
         }
         let place = self.place(kind, row);
         self.keep(&place, fields)
@@ -168,7 +168,7 @@ impl Draft {
         } = self;
         match project.get() {
             Some(project) if has_ended => Ok(DeckCards { project, lists }),
-            _ => Err(Fault::no_end(end)),
+            _ => Err(Fault::new(end, 12, Detail::Plain)),
         }
     }
 }
@@ -177,9 +177,6 @@ impl Draft {
 fn no_kind(is_first: bool, row: u32) -> Fault
     ensures { result ≡ no_kind is_first row }
 {
-    if is_first {
-        Fault::first_not_project(row)
-    } else {
-        Fault::unknown_kind(row)
-    }
+    let number = if is_first { 3 } else { 4 };
+    Fault::new(row, number, Detail::Plain)
 }
