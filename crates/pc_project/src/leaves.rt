@@ -15,7 +15,7 @@ use crate::numbers::Numbers;
 use crate::placed::Placement;
 use pc_accounts::AcctRow;
 use pc_deck::Cards;
-use pc_faults::{DeckError, Fault, earliest};
+use pc_faults::{DeckError, Detail, Fault, earliest};
 use pc_text::Code;
 use pc_wbs::Tree;
 
@@ -80,6 +80,6 @@ fn branch_fault(tree: &Tree, item: u32, row: u32, code: Code) -> Option<Fault>
     if tree.is_leaf(item) {
         None
     } else {
-        Some(Fault::not_a_leaf(row, code))
+        Some(Fault::new(row, 28, Detail::Name(code)))
     }
 }

@@ -13,7 +13,7 @@ use crate::lists::arcs;
 use crate::named::{act_card, codes_at, event_card};
 use crate::numbers::Numbers;
 use pc_deck::Cards;
-use pc_faults::{DeckError, Fault};
+use pc_faults::{DeckError, Detail, Fault};
 use pc_net::{Net, NetError};
 use std::alloc::{AllocError, Global};
 
@@ -44,15 +44,19 @@ fn fault_of(alloc: Global, cards: &Cards, error: NetError) -> Result<Fault, Allo
     match error {
         NetError::StartEntered { arc } => {
             let card = act_card(cards, arc);
-            Ok(Fault::enters_start(card.row, card.code))
+            Ok(Fault::new(card.row, 24, Detail::Name(card.code)))
         }
         NetError::EndLeft { arc } => {
             let card = act_card(cards, arc);
-            Ok(Fault::leaves_end(card.row, card.code))
+            Ok(Fault::new(card.row, 25, Detail::Name(card.code)))
         }
         NetError::Dangling { event, entered } => {
             let card = event_card(cards, event);
-            Ok(Fault::dangling(card.row, card.code, entered))
+            let detail = Detail::Side {
+                name: card.code,
+                entered,
+            };
+            Ok(Fault::new(card.row, 26, detail))
         }
         NetError::Cycle(acts) => fault_of_cycle(alloc, cards, acts.as_slice()),
         NetError::OutOfMemory => Err(AllocError),
@@ -65,5 +69,6 @@ fn fault_of_cycle(alloc: Global, cards: &Cards, acts: &[u32]) -> Result<Fault, A
     ensures { IfOk result (λ fault. net_fault cards.now (net.Cycle acts.now) ≡ DeckError.Fault fault) }
 {
     let names = codes_at(alloc, cards.act_codes(), acts)?;
-    Ok(Fault::cycle(act_card(cards, acts[0]).row, names))
+    let row = act_card(cards, acts[0]).row;
+    Ok(Fault::new(row, 27, Detail::Names(names)))
 }

@@ -14,7 +14,7 @@ use crate::numbers::Numbers;
 use crate::placed::Placement;
 use pc_accounts::{Uneven, WorkRow, reconcile};
 use pc_deck::{ActCard, Cards};
-use pc_faults::{DeckError, Fault};
+use pc_faults::{DeckError, Detail, Fault};
 use pc_wbs::Tree;
 use std::alloc::{AllocError, Global};
 
@@ -50,7 +50,12 @@ fn fault_of(cards: &Cards, uneven: Uneven) -> DeckError
             costs,
         } => {
             let card = item_card(cards.items(), item);
-            DeckError::Fault(Fault::uneven(card.row, card.code, budgets, costs))
+            let detail = Detail::Sums {
+                name: card.code,
+                budgets,
+                costs,
+            };
+            DeckError::Fault(Fault::new(card.row, 29, detail))
         }
         Uneven::OutOfMemory => DeckError::OutOfMemory,
     }

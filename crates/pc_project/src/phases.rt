@@ -25,7 +25,7 @@ use crate::statuses::states_of;
 use crate::togos::book_of;
 use crate::tree::tree_between;
 use pc_deck::Cards;
-use pc_faults::{DeckError, Fault};
+use pc_faults::{DeckError, Detail, Fault};
 use pc_wbs::Tree;
 use std::alloc::{AllocError, Global};
 
@@ -139,7 +139,7 @@ fn check_costs(alloc: Global, cards: &Cards, numbers: &Numbers) -> Result<(), De
     check_pieces(alloc, cards, &numbers.pieces)?;
     match cards.terms() {
         Some(card) if card.penalty < card.bonus => {
-            Err(DeckError::Fault(Fault::bonus_above_penalty(card.row)))
+            Err(DeckError::Fault(Fault::new(card.row, 36, Detail::Plain)))
         }
         _ => Ok(()),
     }

@@ -8,7 +8,7 @@ ghost use Rattle.pc_project.specs.Project.{pieces_in, term_of};
 ghost use Rattle.pc_project.specs.inside.Runs.{HasFlawBehind, IsNext, run_at, run_with};
 
 use pc_deck::{ActCard, Cards, PieceCard};
-use pc_faults::{DeckError, Fault, earliest};
+use pc_faults::{DeckError, Detail, Fault, earliest};
 use pc_model::{MAX_PIECES_EACH, PieceRow};
 use std::alloc::{AllocError, Global};
 
@@ -90,13 +90,14 @@ fn flaw(act: &ActCard, run: Run, piece: PieceRow, card: &PieceCard) -> Option<Fa
     ensures { IsFirstIn (HasFlaw (term_of act.now) run.count run.slope run.units piece card.now.row
         card.now.activity) result }
 {
-    if MAX_PIECES_EACH <= run.count {
-        Some(Fault::too_many_pieces(card.row, card.activity))
+    let number = if MAX_PIECES_EACH <= run.count {
+        33
     } else if piece.slope <= run.slope {
-        Some(Fault::slope_not_rising(card.row, card.activity))
+        34
     } else if act.normal <= act.crash + (run.units + piece.units) {
-        Some(Fault::nothing_left(card.row, card.activity))
+        35
     } else {
-        None
-    }
+        return None;
+    };
+    Some(Fault::new(card.row, number, Detail::Name(card.activity)))
 }

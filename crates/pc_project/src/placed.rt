@@ -18,7 +18,7 @@ use crate::refers::Refers;
 use pc_accounts::status::StatusRow;
 use pc_accounts::{AcctRow, MoneyRow};
 use pc_deck::{AcctCard, ActCard, Cards, ItemCard, LoadCard, MoneyCard, PieceCard, StatusCard};
-use pc_faults::{Fault, Target};
+use pc_faults::{Detail, Fault, Target};
 use pc_model::{Arc, PieceRow};
 use pc_wbs::ItemRow;
 
@@ -48,7 +48,7 @@ pub(crate) fn ends_of(cards: &Cards) -> Result<(u32, u32), Fault>
     let start = cards.find(Target::Event, card.row, card.start)?;
     let end = cards.find(Target::Event, card.row, card.end)?;
     if card.start == card.end {
-        return Err(Fault::one_event(card.row, card.start));
+        return Err(Fault::new(card.row, 17, Detail::Name(card.start)));
     }
     Ok((start, end))
 }
@@ -89,13 +89,13 @@ impl Refers for ActCard {
         let to = cards.find(Target::Event, self.row, self.to)?;
         let item = cards.find(Target::Item, self.row, self.item)?;
         if self.from == self.to {
-            return Err(Fault::one_event(self.row, self.from));
+            return Err(Fault::new(self.row, 17, Detail::Name(self.from)));
         }
         if !is_in_order(self) {
-            return Err(Fault::estimates_disorder(self.row));
+            return Err(Fault::new(self.row, 18, Detail::Plain));
         }
         if self.normal < self.crash {
-            return Err(Fault::crash_above_normal(self.row));
+            return Err(Fault::new(self.row, 19, Detail::Plain));
         }
         Ok(Placement {
             arc: Arc { from, to },

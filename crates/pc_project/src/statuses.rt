@@ -12,7 +12,7 @@ use crate::numbers::Numbers;
 use pc_accounts::status::Log;
 use pc_days::Day;
 use pc_deck::Cards;
-use pc_faults::{DeckError, Fault, StatusFault, earliest};
+use pc_faults::{DeckError, Detail, Fault, StatusFault, earliest};
 use pc_times::ActState;
 use std::alloc::{AllocError, Global};
 
@@ -56,7 +56,8 @@ fn as_of_fault(cards: &Cards) -> Option<Fault>
 {
     match cards.as_of() {
         Some(card) if card.day < cards.project().start_day => {
-            Some(Fault::disorder(card.row, StatusFault::Early))
+            let detail = Detail::Status(StatusFault::Early);
+            Some(Fault::new(card.row, 30, detail))
         }
         _ => None,
     }
@@ -71,7 +72,7 @@ fn status_fault(cards: &Cards, log: &Log) -> Option<Fault>
     let mut fault = None;
     for (k, card) in cards.statuses().iter().enumerate() {
         if let Some(reason) = log.disorder(start, as_of, k as u32) {
-            let told = Fault::disorder(card.row, reason);
+            let told = Fault::new(card.row, 30, Detail::Status(reason));
             fault = earliest(fault, Some(told));
         }
     }

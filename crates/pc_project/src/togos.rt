@@ -13,7 +13,7 @@ use crate::numbers::Numbers;
 use crate::statuses::as_of;
 use pc_accounts::{Book, BookError};
 use pc_deck::Cards;
-use pc_faults::{DeckError, Fault};
+use pc_faults::{DeckError, Detail, Fault};
 use std::alloc::Global;
 
 /// Returns the book of the accounts.
@@ -46,7 +46,11 @@ fn fault_of(cards: &Cards, error: BookError) -> DeckError
     match error {
         BookError::SecondToGo { second, .. } => {
             let card = cards.togos()[second as usize];
-            DeckError::Fault(Fault::second_to_go(card.row, card.account, card.day))
+            let detail = Detail::ToGo {
+                account: card.account,
+                day: card.day,
+            };
+            DeckError::Fault(Fault::new(card.row, 31, detail))
         }
         BookError::OutOfMemory => DeckError::OutOfMemory,
     }

@@ -8,7 +8,7 @@ ghost use Rattle.pc_project.specs.inside.Refusal.{IsAbout};
 
 use crate::named::{codes_at, item_card};
 use pc_deck::{CardsOf, DeckSort};
-use pc_faults::{DeckError, Fault};
+use pc_faults::{DeckError, Detail, Fault};
 use pc_wbs::{ItemRow, Tree, TreeError};
 use std::alloc::{AllocError, Global};
 
@@ -44,19 +44,24 @@ fn fault_of<S: DeckSort>(
     ensures { IfOk result (λ fault. tree_fault cards.now.items error ≡ DeckError.Fault fault) }
 {
     match error {
-        TreeError::NoTop => Ok(Fault::no_top()),
+        TreeError::NoTop => Ok(Fault::new(0, 20, Detail::Plain)),
         TreeError::SecondTop { item } => {
             let card = item_card(cards.items(), item);
-            Ok(Fault::second_top(card.row, card.code))
+            Ok(Fault::new(card.row, 21, Detail::Name(card.code)))
         }
         TreeError::Loop(round) => {
             let items = round.as_slice();
             let names = codes_at(alloc, cards.item_codes(), items)?;
-            Ok(Fault::item_loop(item_card(cards.items(), items[0]).row, names))
+            let row = item_card(cards.items(), items[0]).row;
+            Ok(Fault::new(row, 22, Detail::Names(names)))
         }
         TreeError::TooDeep { item, level } => {
             let card = item_card(cards.items(), item);
-            Ok(Fault::too_deep(card.row, card.code, level))
+            let detail = Detail::Level {
+                name: card.code,
+                level,
+            };
+            Ok(Fault::new(card.row, 23, detail))
         }
         TreeError::OutOfMemory => Err(AllocError),
     }

@@ -13,12 +13,12 @@ fault_of_cycle-requires-clause-known c =
 
 pub returns-in-StartEntered : goal.returns-in-StartEntered
 returns-in-StartEntered c =
-    rw (c.enters_start.ensures, c.act_card-card.ensures.row, c.act_card-card.ensures.code) (ap (net_fault c.args.cards.now) c.in-StartEntered.is)
+    rw (c.new.ensures, c.act_card-card.ensures.row, c.act_card-card.ensures.code) (ap (net_fault c.args.cards.now) c.in-StartEntered.is)
 
 pub returns-in-EndLeft : goal.returns-in-EndLeft
 returns-in-EndLeft c =
-    rw (c.leaves_end.ensures, c.act_card-card-in-EndLeft.ensures.row, c.act_card-card-in-EndLeft.ensures.code) (ap (net_fault c.args.cards.now) c.in-EndLeft.is)
+    rw (c.new-in-EndLeft.ensures, c.act_card-card-in-EndLeft.ensures.row, c.act_card-card-in-EndLeft.ensures.code) (ap (net_fault c.args.cards.now) c.in-EndLeft.is)
 
 pub returns-in-Dangling : goal.returns-in-Dangling
 returns-in-Dangling c =
-    rw (c.dangling.ensures, c.event_card-card.ensures.row, c.event_card-card.ensures.code) (ap (net_fault c.args.cards.now) c.in-Dangling.is)
+    rw (c.new-in-Dangling.ensures, c.event_card-card.ensures.row, c.event_card-card.ensures.code) (ap (net_fault c.args.cards.now) c.in-Dangling.is)

@@ -13,4 +13,4 @@ returns-in_err-check_pieces-clause-refused c =
 pub returns-in-Some-clause-refused : goal.returns-in-Some-clause-refused
 returns-in-Some-clause-refused c =
     of_terms c.requires.plan c.requires.figures c.in_ok-check_pieces.ensures.none
-    (first_bonus c.args.cards.now c.in-Some.card c.bonus_above_penalty.result (sym c.terms.ensures.terms ∙ c.in-Some.is) c.if-card.true c.bonus_above_penalty.ensures)
+    (first_bonus c.args.cards.now c.in-Some.card c.new.result (sym c.terms.ensures.terms ∙ c.in-Some.is) c.if-card.true c.new.ensures)

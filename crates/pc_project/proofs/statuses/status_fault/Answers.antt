@@ -41,8 +41,8 @@ loop-k-preserved c =
     let all = first_with (IsDisorderAt deck) k c.loop-k.fault (option_map (disorder at) c.disorder.result) c.loop-k.invariant found in
     elim c.match-disorder.branch [
       | in-Some w ↦
-          let same : option_map (disorder at) c.disorder.result ≡ Some w.disorder-told.result =
-          ap (option_map (disorder at)) w.in-Some.is ∙ sym (ap Some (w.disorder-told.ensures ∙ ap (λ r. disorder r w.in-Some.reason) row)) in
+          let same : option_map (disorder at) c.disorder.result ≡ Some w.new-told.result =
+          ap (option_map (disorder at)) w.in-Some.is ∙ sym (ap Some (w.new-told.ensures ∙ ap (λ r. disorder r w.in-Some.reason) row)) in
           subst (IsFirstBelow (IsDisorderAt deck) (k + 1)) (ap (earliest c.loop-k.fault) same ∙ sym (w.fault-is ∙ w.earliest-fault.ensures)) all
       | in_default w ↦
           let same : option_map (disorder at) c.disorder.result ≡ None = ap (option_map (disorder at)) (none_of c.disorder.result w.in_default.not-Some) in
