@@ -20,7 +20,7 @@ use crate::network::AfterRow;
 use pc_deck::{
     AcctCard, AfterCard, ItemCard, LoadCard, MoneyCard, PieceCard, StatusCard, TaskCard, TaskCards,
 };
-use pc_faults::{DeckError, Fault, Target, earliest};
+use pc_faults::{DeckError, Detail, Fault, Target, earliest};
 use pc_text::Code;
 use std::alloc::{AllocError, Global};
 
@@ -99,7 +99,7 @@ fn after_row(cards: &TaskCards, card: &AfterCard) -> Result<AfterRow, Fault>
     let task = cards.find(Target::Task, card.row, card.task)?;
     let before = cards.find(Target::Task, card.row, card.before)?;
     if card.task == card.before {
-        return Err(Fault::one_event(card.row, card.task));
+        return Err(Fault::new(card.row, 17, Detail::Name(card.task)));
     }
     Ok(AfterRow { task, before })
 }
@@ -130,7 +130,7 @@ fn ends_fault(cards: &TaskCards) -> Option<Fault>
 {
     let card = cards.project();
     if card.start == card.end {
-        Some(Fault::one_event(card.row, card.start))
+        Some(Fault::new(card.row, 17, Detail::Name(card.start)))
     } else {
         None
     }
@@ -169,10 +169,10 @@ impl Faulty for TaskCard {
             return Some(fault);
         }
         if !is_in_order(self) {
-            return Some(Fault::estimates_disorder(self.row));
+            return Some(Fault::new(self.row, 18, Detail::Plain));
         }
         if self.normal < self.crash {
-            return Some(Fault::crash_above_normal(self.row));
+            return Some(Fault::new(self.row, 19, Detail::Plain));
         }
         None
     }

@@ -22,7 +22,7 @@ use crate::circle::first_circle;
 use crate::network::AfterRow;
 use crate::tree::tree_of;
 use pc_deck::TaskCards;
-use pc_faults::{DeckError, Fault};
+use pc_faults::{DeckError, Detail, Fault};
 use pc_project::codes_at;
 use std::alloc::{AllocError, Global};
 
@@ -62,7 +62,7 @@ fn check_tasks(alloc: Global, cards: &TaskCards, afters: &[AfterRow]) -> Result<
     ensures refused { IfErr result (Refuses (IsTasksRefusedWith cards.now)) }
 {
     if cards.tasks().is_empty() {
-        return Err(DeckError::Fault(Fault::no_task()));
+        return Err(DeckError::Fault(Fault::new(0, 39, Detail::Plain)));
     }
     match circle_fault(alloc, cards, afters)? {
         Some(fault) => Err(DeckError::Fault(fault)),
@@ -76,7 +76,7 @@ fn lone_top(cards: &TaskCards) -> Option<Fault>
 {
     let items = cards.items();
     if items.len() == 1 {
-        Some(Fault::childless_top(items[0].row))
+        Some(Fault::new(items[0].row, 37, Detail::Plain))
     } else {
         None
     }
@@ -112,7 +112,7 @@ fn told(alloc: Global, cards: &TaskCards, circle: &[u32]) -> Result<Fault, Alloc
 {
     let row = task_row(cards, circle[0]);
     let names = codes_at(alloc, cards.task_codes(), circle)?;
-    Ok(Fault::task_cycle(row, names))
+    Ok(Fault::new(row, 38, Detail::Names(names)))
 }
 
 fn task_row(cards: &TaskCards, task: u32) -> u32

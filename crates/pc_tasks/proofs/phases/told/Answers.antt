@@ -9,4 +9,4 @@ codes_at-requires c = λ k d inside.
     omega (arith, c.requires.known k d inside, ap length c.task_codes.ensures.codes, length-map deck.tasks (λ (task : TaskCard). task.code))
 
 pub returns : goal.returns
-returns c = cc (c.task_cycle.ensures, c.task_row-row.ensures, c.in_ok-names.ensures, c.task_codes.ensures.codes)
+returns c = cc (c.new.ensures, c.task_row-row.ensures, c.in_ok-names.ensures, c.task_codes.ensures.codes)
