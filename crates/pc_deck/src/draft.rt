@@ -173,7 +173,7 @@ impl Draft {
     }
 }
 
-/// The fault of a card of no kind that its deck has.
+/// Returns the fault of a card of no kind that its deck has: F3 for the first card, F4 for any other.
 fn no_kind(is_first: bool, row: u32) -> Fault
     ensures { result ≡ no_kind is_first row }
 {
