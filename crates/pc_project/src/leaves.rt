@@ -72,7 +72,7 @@ fn account_fault(cards: &Cards, accounts: &[AcctRow], tree: &Tree) -> Option<Fau
     fault
 }
 
-/// Returns the fault of a card on this item, if the item has items below it.
+/// Returns the fault of a card on this item, if the item has items below it (F28).
 fn branch_fault(tree: &Tree, item: u32, row: u32, code: Code) -> Option<Fault>
     requires { item < length tree.now }
     ensures { IsFirstIn (λ fault. (IsLeaf tree.now item → ⊥) × (fault ≡ not_a_leaf row code)) result }

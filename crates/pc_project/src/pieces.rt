@@ -85,6 +85,8 @@ fn first_runs(alloc: Global, acts: &[ActCard]) -> Result<Vec<Run>, AllocError>
         .collect(alloc)
 }
 
+/// Returns the fault of a piece after a run: it is one too many (F33), its slope does not rise (F34), or it leaves
+/// nothing to the activity's first slope (F35).
 fn flaw(act: &ActCard, run: Run, piece: PieceRow, card: &PieceCard) -> Option<Fault>
     requires { act.now.crash + (run.units + piece.units) < 2 ^ 64 }
     ensures { IsFirstIn (HasFlaw (term_of act.now) run.count run.slope run.units piece card.now.row
