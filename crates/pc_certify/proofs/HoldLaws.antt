@@ -12,7 +12,7 @@ use Rattle.pc_cert.specs.declared.line.CertLine.TheVariants.{Event, Act, Close}
 use Rattle.pc_check.specs.Known.{Known, each_below, frame}
 use Rattle.pc_check.specs.KneeTests.{is_slack_at_knee}
 use Rattle.pc_check.specs.Conditions.{conditions, is_one_length, is_slack_in, is_code_at, is_right_start, is_right_end, rests_in_one_length, has_act_code}
-use Rattle.pc_check.specs.Conditions.{has_room, has_duration, keeps_rises, is_slack, is_still_in_one_length, is_conserved, has_cut_gain, has_stop}
+use Rattle.pc_check.specs.Conditions.{has_room, has_duration, is_within_capacity, is_slack, is_still_in_one_length, is_conserved, has_cut_gain, has_stop}
 use Rattle.pc_check.specs.Failures.{first_failing}
 use Rattle.pc_check.proofs.GoodRows.{IsRightEvent, IsRightAct}
 use Rattle.pc_check.proofs.GoodSegments.{Closes}
@@ -83,7 +83,7 @@ act_holds net known duration flows lt long h =
     (holds_on (has_duration net known a duration) _ 7 (and_from _ _
     (eq-eqb duration (lesser_of net.network net.terms known.time a) h.duration)
     (when (known.segments == 0) (duration == normal_of net.terms a) (λ first. eq-eqb duration (normal_of net.terms a) (h.normal first))))
-    (holds_on (keeps_rises net a flows) _ 8
+    (holds_on (is_within_capacity net a flows) _ 8
     (each_below-all ((knees_in net).count a) (λ k. nat_le (slice_index flows k) ((knees_in net).rise a k))
     (λ k within. le-leb (slice_index flows k) ((knees_in net).rise a k) (h.capacity k within)))
     (holds_on (is_slack net seg 0 a flows && is_slack net seg (span seg) a flows) _ 11 (and_from _ _

@@ -9,7 +9,7 @@ use Rattle.pc_model.proofs.Sums.{sum_to-same}
 use Rattle.pc_crash.specs.inside.KneeLists.{AreKneesOf}
 use Rattle.pc_check.specs.Known.{each_below, some_below}
 use Rattle.pc_check.specs.KneeTests.{is_slack_at_knee}
-use Rattle.pc_check.specs.inside.KneeTests.{keeps_rises_over, is_slack_over, rises_over}
+use Rattle.pc_check.specs.inside.KneeTests.{is_within_capacity_over, is_slack_over, rises_over}
 use Rattle.pc_check.proofs.BelowLaws.{each_below-same, some_below-same}
 
 module _ (knees : Knees) (a : ℕ) (list : List Knee) (are : AreKneesOf knees a list) where
@@ -23,8 +23,8 @@ module _ (knees : Knees) (a : ℕ) (list : List Knee) (are : AreKneesOf knees a 
       some_below-same (length list) (λ k. test (knee_at list k).at) (λ k. test (knees.knee a k)) (λ k lt. rw (are.at k lt) refl)
       ∙ ap (λ n. some_below n (λ k. test (knees.knee a k))) are.count
 
-  pub keeps_rises-list : (flows : List ℕ) → keeps_rises_over list flows ≡ each_below (knees.count a) (λ k. nat_le (slice_index flows k) (knees.rise a k))
-  keeps_rises-list flows = each (λ k at rise. nat_le (slice_index flows k) rise)
+  pub is_within_capacity-list : (flows : List ℕ) → is_within_capacity_over list flows ≡ each_below (knees.count a) (λ k. nat_le (slice_index flows k) (knees.rise a k))
+  is_within_capacity-list flows = each (λ k at rise. nat_le (slice_index flows k) rise)
 
   pub is_slack-list : (head tail crash : ℕ) (flows : List ℕ) →
       is_slack_over head tail crash list flows

@@ -81,9 +81,9 @@ abbrev pub has_duration : PricedNetwork → Known → ℕ → ℕ → Bool
 has_duration net known a duration =
     duration == lesser_of net.network net.terms known.time a && (not (is_first known) || duration == normal_of net.terms a)
 
--- 8: no flow at a knee is above its rise
-abbrev pub keeps_rises : PricedNetwork → ℕ → List ℕ → Bool
-keeps_rises net a flows = each_below ((knees_in net).count a) (λ k. nat_le (slice_index flows k) ((knees_in net).rise a k))
+-- 8: the flow at each knee is at most its capacity, the rise
+abbrev pub is_within_capacity : PricedNetwork → ℕ → List ℕ → Bool
+is_within_capacity net a flows = each_below ((knees_in net).count a) (λ k. nat_le (slice_index flows k) ((knees_in net).rise a k))
 
 -- 11, at a gap: at each knee, and if the gap is above crash there is no flow on the crash duration
 abbrev pub is_slack_in : PricedNetwork → ℕ → ℕ → ℕ → List ℕ → Bool
@@ -139,7 +139,7 @@ conditions net known (Act code duration flows) =
     condition 4 (has_act_code net a code flows)
     ∷ condition 6 (has_room net seg 0 a && has_room net seg (span seg) a)
     ∷ condition 7 (has_duration net known a duration)
-    ∷ condition 8 (keeps_rises net a flows)
+    ∷ condition 8 (is_within_capacity net a flows)
     ∷ condition 11 (is_slack net seg 0 a flows && is_slack net seg (span seg) a flows)
     ∷ condition 15 (is_still_in_one_length net known a flows)
     ∷ []

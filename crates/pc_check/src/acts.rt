@@ -2,7 +2,7 @@
 ghost use Rattle.std.specs.Prelude.{◌≡◌, ◌+◌, ◌^◌, ◌<◌, ◌≤◌, length};
 ghost use Rattle.pc_check.specs.KneeTests.{is_slack_at_knee};
 ghost use Rattle.pc_check.specs.inside.KneeTests.{
-  keeps_rises_over,
+  is_within_capacity_over,
   is_slack_over,
   is_still_over,
   rises_over,
@@ -14,10 +14,10 @@ ghost use Rattle.pc_check.specs.inside.KneeTests.{
 use crate::gaps::{Crossing, Gap};
 use pc_model::Knee;
 
-/// Whether no flow at a knee is above its rise.
-pub(crate) fn keeps_rises(knees: &[Knee], flows: &[u64]) -> bool
+/// Whether the flow at each knee is at most its capacity, the rise.
+pub(crate) fn is_within_capacity(knees: &[Knee], flows: &[u64]) -> bool
     requires { length flows.now ≡ length knees.now + 1 }
-    ensures { result ≡ keeps_rises_over knees.now flows.now }
+    ensures { result ≡ is_within_capacity_over knees.now flows.now }
 {
     for k in 0..knees.len() {
         if flows[k] > knees[k].rise {

@@ -19,8 +19,8 @@ pub(crate) enum Condition {
     Gaps = 6,
     /// The duration is what the gap allows, and at most normal.
     Duration = 7,
-    /// No flow at a knee is above its rise.
-    Rises = 8,
+    /// The flow at each knee is at most its capacity, the rise.
+    Capacity = 8,
     /// What enters an event leaves it.
     Conservation = 9,
     /// The slope leaves the start.

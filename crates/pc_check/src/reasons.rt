@@ -10,7 +10,7 @@ ghost use Rattle.pc_check.specs.Conditions.{
   has_act_code,
   has_duration,
   has_room,
-  keeps_rises,
+  is_within_capacity,
   is_slack,
   is_slack_in,
 };
@@ -23,7 +23,7 @@ ghost use Rattle.pc_check.specs.inside.Kept.{known_by, stretch_of};
 ghost use Rattle.pc_check.specs.inside.Safe.{IsSafe};
 ghost use Rattle.pc_cert.specs.declared.line.CertLine.TheVariants.{Segment, Event, Act};
 
-use crate::acts::{is_slack, is_still, keeps_rises};
+use crate::acts::{self, is_slack, is_still};
 use crate::closing::reason_at_close;
 use crate::condition::Condition;
 use crate::gaps::{Crossing, Gap, has_room};
@@ -172,8 +172,8 @@ pub(crate) fn reason_at_act(
     if !has_duration(net, kept, a, duration) {
         return Some(Condition::Duration);
     }
-    if !has_small_flows(net, a, flows) {
-        return Some(Condition::Rises);
+    if !is_within_capacity(net, a, flows) {
+        return Some(Condition::Capacity);
     }
     if !fits_gaps(net, tally, a, crossing, flows) {
         return Some(Condition::Slackness);
@@ -198,14 +198,14 @@ fn has_gaps(net: &CrashNet<'_>, tally: &Tally, a: u32, crossing: &Crossing) -> b
     has_room(crossing.upper, crash) && has_room(crossing.lower, crash)
 }
 
-/// Whether no flow at a knee is above its rise.
-fn has_small_flows(net: &CrashNet<'_>, a: u32, flows: &Flows) -> bool
+/// Whether the flow at each knee is at most its capacity, the rise.
+fn is_within_capacity(net: &CrashNet<'_>, a: u32, flows: &Flows) -> bool
     requires known { a < length net.now.network.arcs }
     requires flows { length flows.now ≡ (knees_in net.now).count a + 1 }
-    ensures { result ≡ keeps_rises net.now a flows.now }
+    ensures { result ≡ is_within_capacity net.now a flows.now }
 {
     let list = net.knees(a);
-    keeps_rises(list.as_slice(), flows.as_slice())
+    acts::is_within_capacity(list.as_slice(), flows.as_slice())
 }
 
 /// Whether the flows fit the gaps at the two ends.

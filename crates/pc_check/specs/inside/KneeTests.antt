@@ -9,8 +9,8 @@ use Rattle.pc_check.specs.declared.gaps.Crossing.{Crossing}
 use Rattle.pc_check.specs.KneeTests.{is_slack_at_knee}
 
 -- no flow at a knee is above its rise
-abbrev pub keeps_rises_over : List Knee → List ℕ → Bool
-keeps_rises_over knees flows = each_below (length knees) (λ k. nat_le (slice_index flows k) (knee_at knees k).rise)
+abbrev pub is_within_capacity_over : List Knee → List ℕ → Bool
+is_within_capacity_over knees flows = each_below (length knees) (λ k. nat_le (slice_index flows k) (knee_at knees k).rise)
 
 -- at each knee, and if the gap is above crash there is no flow on the crash duration
 abbrev pub is_slack_over : ℕ → ℕ → ℕ → List Knee → List ℕ → Bool

@@ -2,7 +2,7 @@
 ghost use Rattle.std.specs.Prelude.{◌≡◌, ◌≢◌, ℕ, ◌+◌, ◌^◌, ◌<◌, ◌≤◌, min, true, IsTrue, IfOk, length};
 ghost use Rattle.pc_crash.specs.Priced.{knees_in};
 ghost use Rattle.pc_model.specs.Schedule.{normal_of};
-ghost use Rattle.pc_check.specs.Conditions.{keeps_rises};
+ghost use Rattle.pc_check.specs.Conditions.{is_within_capacity};
 ghost use Rattle.pc_check.specs.inside.fast.Rows.{across_at};
 ghost use Rattle.pc_check.specs.inside.Kept.{known_by};
 ghost use Rattle.pc_check.specs.inside.fast.Passed.{
@@ -85,7 +85,7 @@ pub(crate) fn passed_of(
     requires known { a < length net.now.network.arcs }
     requires line { IsLineOf net.now a duration flows.now line.now.line }
     requires flows { length flows.now ≡ (knees_in net.now).count a + 1 }
-    requires rises { keeps_rises net.now a flows.now ≡ true }
+    requires capacity { is_within_capacity net.now a flows.now ≡ true }
     requires lasts { duration ≤ normal_of net.now.terms a }
     ensures passed { HasPassed net.now a result }
     ensures duration { result.duration ≡ duration }

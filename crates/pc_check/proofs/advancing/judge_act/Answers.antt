@@ -1,6 +1,6 @@
 use Rattle.std.proofs.Common.{refl, sym, ap, ◌∙◌}
 use Rattle.pc_check.specs.inside.Kept.{known_by}
-use Rattle.pc_check.proofs.lemmas.fast.PassedLaws.{lasts_at_most, rises_kept}
+use Rattle.pc_check.proofs.lemmas.fast.PassedLaws.{lasts_at_most, capacity_kept}
 use Rattle.pc_check.specs.inside.Reasons.{reason_of}
 use Rattle.pc_check.proofs.advancing.judge_act.Goals as goal
 
@@ -42,7 +42,7 @@ add_act-requires-clause-crossing c = c.crossing_of-crossing.ensures
 pub add_act-requires-clause-passed : goal.add_act-requires-clause-passed
 add_act-requires-clause-passed c = c.passed_of-passed.ensures.passed
 
-pub passed_of-passed-requires-clause-rises : goal.passed_of-passed-requires-clause-rises
-passed_of-passed-requires-clause-rises c =
+pub passed_of-passed-requires-clause-capacity : goal.passed_of-passed-requires-clause-capacity
+passed_of-passed-requires-clause-capacity c =
     let named = sym c.has_act_code.ensures ∙ c.if-not-has_act_code.false in
-    rises_kept c.args.net.now (known_by c.args.kept.now) c.args.code.now c.args.duration c.args.flows.now (sym (c.reason_at_act.ensures c.args.code.now named) ∙ ap reason_of c.in-None.is)
+    capacity_kept c.args.net.now (known_by c.args.kept.now) c.args.code.now c.args.duration c.args.flows.now (sym (c.reason_at_act.ensures c.args.code.now named) ∙ ap reason_of c.in-None.is)

@@ -13,7 +13,7 @@ use Rattle.pc_crash.specs.inside.KneeLists.{AreKneesOf}
 use Rattle.pc_crash.specs.Priced.{PricedNetwork, knees_in}
 use Rattle.pc_cert.specs.declared.line.CertLine.TheVariants.{Act}
 use Rattle.pc_cert.specs.inside.Known.{HasText, IsTextOf}
-use Rattle.pc_check.specs.Conditions.{conditions, has_act_code, has_duration, has_room, is_slack, is_slack_in, keeps_rises}
+use Rattle.pc_check.specs.Conditions.{conditions, has_act_code, has_duration, has_room, is_slack, is_slack_in, is_within_capacity}
 use Rattle.pc_check.specs.inside.Crossings.{IsStill}
 use Rattle.pc_check.specs.Failures.{first_failing}
 use Rattle.pc_check.specs.Known.{Known, each_below, frame}
@@ -195,15 +195,15 @@ lasts_at_most net known code duration flows none =
     omega (arith, eqb-true duration (lesser_of net.network net.terms known.time known.acts) lasts)
 
 -- and no flow of it is above its rise
-pub rises_kept : (net : PricedNetwork) (known : Known) (code : List ℕ) (duration : ℕ) (flows : List ℕ) →
-    first_failing (conditions net known (Act code duration flows)) ≡ None → keeps_rises net known.acts flows ≡ true
-rises_kept net known code duration flows none =
+pub capacity_kept : (net : PricedNetwork) (known : Known) (code : List ℕ) (duration : ℕ) (flows : List ℕ) →
+    first_failing (conditions net known (Act code duration flows)) ≡ None → is_within_capacity net known.acts flows ≡ true
+capacity_kept net known code duration flows none =
     let a = known.acts in
     let seg = frame known in
     let behind_code = (holds_first (has_act_code net a code flows) _ 4 none).1 in
     let behind_room = (holds_first (has_room net seg 0 a && has_room net seg (span seg) a) _ 6 behind_code).1 in
     let behind_duration = (holds_first (has_duration net known a duration) _ 7 behind_room).1 in
-    (holds_first (keeps_rises net a flows) _ 8 behind_duration).0
+    (holds_first (is_within_capacity net a flows) _ 8 behind_duration).0
 
 pub again_passes : {net : PricedNetwork} {known : Known} {passed : Passed} (code : List ℕ) →
     has_act_code net known.acts code passed.flows ≡ true → ComesAgain net known passed → HasPassed net known.acts passed
@@ -224,7 +224,7 @@ again_passes {net} {known} {passed} code has_code again has =
     let slack = sym (still_slack net seg a passed.flows again.still) ∙ has.slack head tail within in
     let e : passed.duration ≡ lesser_of net.network net.terms known.time a = has.lasts (known.time (to_of arcs a)) (known.time (from_of arcs a)) again.within in
     let lasts : has_duration net known a passed.duration ≡ true = rw (eq-eqb passed.duration (lesser_of net.network net.terms known.time a) e, again.later) refl in
-    rw (has_code, room, lasts, has.rises, slack, again.long) refl
+    rw (has_code, room, lasts, has.capacity, slack, again.long) refl
 
 pub across_passes : {net : PricedNetwork} {known : Known} {passed : Passed} (code : List ℕ) →
     has_act_code net known.acts code passed.flows ≡ true → PassesAcross net known passed → HasPassed net known.acts passed
@@ -246,4 +246,4 @@ across_passes {net} {known} {passed} code has_code across has =
     } in
     let e : passed.duration ≡ lesser_of net.network net.terms known.time a = has.lasts (known.time (to_of arcs a)) (known.time (from_of arcs a)) within in
     let lasts : has_duration net known a passed.duration ≡ true = rw (eq-eqb passed.duration (lesser_of net.network net.terms known.time a) e, across.later) refl in
-    rw (has_code, at_upper, at_lower, lasts, has.rises, slack_upper, slack_lower, across.long) refl
+    rw (has_code, at_upper, at_lower, lasts, has.capacity, slack_upper, slack_lower, across.long) refl

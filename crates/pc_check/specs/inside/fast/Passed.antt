@@ -13,7 +13,7 @@ use Rattle.pc_check.specs.declared.fast.passed.Passed.{Passed}
 use Rattle.pc_cert.specs.declared.line.CertLine.{CertLine}
 use Rattle.pc_cert.specs.declared.line.CertLine.TheVariants.{Act}
 use Rattle.pc_cert.specs.inside.Known.{HasText, IsTextOf}
-use Rattle.pc_check.specs.Conditions.{has_act_code, is_first, is_one_length, is_slack_in, keeps_rises}
+use Rattle.pc_check.specs.Conditions.{has_act_code, is_first, is_one_length, is_slack_in, is_within_capacity}
 use Rattle.pc_check.specs.Known.{Known, frame}
 use Rattle.pc_check.specs.inside.KneeTests.{flow_sum}
 
@@ -43,7 +43,7 @@ pub record HasPassed (net : PricedNetwork) (a : ℕ) (passed : Passed) : Type 0 
   pub line : Option CertLine
   pub own : IsLineOf net a passed.duration passed.flows line
   pub text : IsTextOf line passed.text
-  pub rises : keeps_rises net a passed.flows ≡ true
+  pub capacity : is_within_capacity net a passed.flows ≡ true
   pub bare : crash_of net.terms a ≤ passed.least
   pub fits : (head tail : ℕ) → IsWithin passed.least passed.most head tail → is_slack_in net head tail a passed.flows ≡ true
   pub room : crash_of net.terms a ≤ passed.low
