@@ -170,6 +170,7 @@ impl Book {
         requires togos { AreMoney (length accounts.now) togos.now }
         ensures entries { IfOk result (λ book. AreEntriesOf accounts.now charges.now togos.now as_of book) }
         ensures whole { IfOk result (λ book. entry_of_all book ≡ entry_of_project accounts.now charges.now as_of book) }
+        ensures small { IfOk result AreEntriesWithinLimits }
         ensures once { OnOk result ((k : ℕ) → IsRepeated togos.now k → ⊥) }
         ensures refused { IfErr result (IsRefusal togos.now) }
     {
