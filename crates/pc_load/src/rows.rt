@@ -12,9 +12,18 @@ use crate::loading::PrintedLoad;
 use crate::table::Table;
 use pc_days::{Day, date_of_sixths, day_text};
 use pc_edges::Sink;
-use pc_edges::page::{Cell, Page, Rows, put_row, put_rows};
+use pc_edges::page::{Cell, Fill, Page, Rows, put_row, put_rows};
 use pc_project::Project;
 use pc_text::Code;
+
+/// Codes, and the word of a row that has none.
+const NAME: Fill = Fill::Left(16);
+
+/// Numbers of periods.
+const PERIOD: Fill = Fill::Right(6);
+
+/// Parts of amounts.
+const PART: Fill = Fill::Right(14);
 
 /// A row for each period.
 #[derive(Clone, Copy)]
@@ -122,12 +131,8 @@ impl<'a> Rows for AmountRows<'a> {
 fn put_period<O: Sink>(page: &mut Page, sink: &mut O, k: u64, date: &[u8; 10])
     ensures { Puts O.taken O.faults page.old sink.old page.new sink.new (period_cells k date.now) }
 {
-    let cells = [
-        Cell::Left(16, b"PERIOD"),
-        Cell::Number(6, k),
-        Cell::Text(date),
-    ];
-    put_row(page, sink, &cells);
+    let cells = [Cell::Text(b"PERIOD"), Cell::Number(k), Cell::Text(date)];
+    put_row(page, sink, &[NAME, PERIOD, Fill::Plain], &cells);
 }
 
 fn put_amount<O: Sink>(page: &mut Page, sink: &mut O, code: &Code, k: u64, amount: u64)
@@ -135,11 +140,11 @@ fn put_amount<O: Sink>(page: &mut Page, sink: &mut O, code: &Code, k: u64, amoun
     ensures { Puts O.taken O.faults page.old sink.old page.new sink.new (amount_row code.now k (pos amount)) }
 {
     let cells = [
-        Cell::Left(16, code.bytes()),
-        Cell::Number(6, k),
-        Cell::Number(14, amount),
+        Cell::Text(code.bytes()),
+        Cell::Number(k),
+        Cell::Number(amount),
     ];
-    put_row(page, sink, &cells);
+    put_row(page, sink, &[NAME, PERIOD, PART], &cells);
 }
 
 /// Returns the date `days` days after a day, or ten hyphens if it is past the days that are printed.

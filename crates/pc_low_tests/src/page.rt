@@ -2,8 +2,8 @@
 
 use crate::cases::expect_ok_none;
 use pc_edges::page::{
-    Cell, PAGE_ROOM, Page, Rows, put_code, put_line, put_named, put_number, put_pair, put_row,
-    put_rows,
+    Cell, Fill, PAGE_ROOM, Page, Rows, put_code, put_head, put_line, put_named, put_number,
+    put_pair, put_row, put_rows,
 };
 use pc_edges::{MemSink, Sink};
 use pc_text::Code;
@@ -77,24 +77,35 @@ fn few_pushes_and_a_flush(rt: HostRuntime) {
     expect_ok_none(&rt, first_wrong_on_a_page(rt.alloc()));
 }
 
+const COLUMNS: [Fill; 6] = [
+    Fill::Left(4),
+    Fill::Right(3),
+    Fill::Left(2),
+    Fill::Plain,
+    Fill::Right(4),
+    Fill::Right(4),
+];
+
 /// Whether each kind of piece is put.
 fn are_put(page: &mut Page, sink: &mut MemSink) -> bool {
     let cells = [
-        Cell::Left(4, b"AB"),
-        Cell::Right(3, b"C"),
-        Cell::Left(2, b"DEFG"),
+        Cell::Text(b"AB"),
+        Cell::Text(b"C"),
+        Cell::Text(b"DEFG"),
         Cell::Text(b"longer than the page"),
-        Cell::Number(4, 17),
-        Cell::Signed(4, -6),
+        Cell::Number(17),
+        Cell::Signed(-6),
     ];
-    put_row(page, sink, &cells);
+    put_head(page, sink, &COLUMNS, &[b"A", b"B", b"C", b"D", b"E"]);
+    put_row(page, sink, &COLUMNS, &cells);
     page.put_signed(sink, -37);
     page.put(sink, b"\n");
     put_rows(page, sink, &NumberLines { below: 3 });
     page.finish(sink).is_ok()
 }
 
-const PIECES: &[u8] = b"AB     C DEFG longer than the page   17   -6\n-37\n0\n1\n2\n";
+const PIECES: &[u8] =
+    b"A      B C  D    E\nAB     C DEFG longer than the page   17   -6\n-37\n0\n1\n2\n";
 
 fn puts_pieces(alloc: Global) -> Result<bool, AllocError> {
     let mut page = Page::with_capacity(alloc, 10)?;

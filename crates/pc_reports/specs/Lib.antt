@@ -1,4 +1,5 @@
 pub mod Lines
+pub mod Columns
 pub mod Schedule
 pub mod Check
 pub mod Times

@@ -2,31 +2,38 @@
 use Rattle.std.specs.Prelude.{◌≡◌, ℕ, ◌+◌, List, [], ◌∷◌, ◌++◌, length, slice_index_or, codes, decimal}
 use Rattle.std.specs.Fmt.{signed_decimal}
 use Rattle.pc_edges.specs.Texts.{texts_to}
-use Rattle.pc_edges.specs.page.Cells.{left, right, row}
+use Rattle.pc_edges.specs.page.Cells.{plain, row_in}
 use Rattle.pc_accounts.specs.Amounts.{entry_of_project}
 use Rattle.pc_project.specs.Project.{Project}
 use Rattle.pc_rollup.specs.declared.figures.summary.SummaryAmounts.{SummaryAmounts}
+use Rattle.pc_reports.specs.Columns.{code_column, level_column, amount_column}
 use Rattle.pc_reports.specs.Lines.{dated_line}
 use Rattle.pc_rollup.specs.figures.Outline.{row_at}
 use Rattle.pc_rollup.specs.figures.Summary.{Summary, IsSummaryOf, CountsOnce, item_amounts, level_amounts}
 
+-- the layout of the items and levels: the code, the level, five amounts, and the title as it is
+abbrev pub summary_layout : List (List ℕ → List ℕ)
+summary_layout = code_column ∷ level_column ∷ amount_column ∷ amount_column ∷ amount_column ∷ amount_column ∷ amount_column ∷ plain ∷ []
+
 -- the words above the items
 abbrev pub summary_head : List ℕ
 summary_head =
-    row (left 16 (codes "ITEM") ∷ right 2 (codes "LV") ∷ right 14 (codes "BUDGET") ∷ right 14 (codes "ACTUAL") ∷ right 14 (codes "TO-GO")
-    ∷ right 14 (codes "LATEST") ∷ right 14 (codes "OVERRUN") ∷ codes "TITLE" ∷ [])
+    row_in summary_layout
+    (codes "ITEM" ∷ codes "LV" ∷ codes "BUDGET" ∷ codes "ACTUAL" ∷ codes "TO-GO" ∷ codes "LATEST" ∷ codes "OVERRUN" ∷ codes "TITLE" ∷ [])
 
 -- the row of an item: its code, its level, its amounts, and its title
 abbrev pub item_cells : List ℕ → ℕ → SummaryAmounts → List ℕ → List ℕ
 item_cells code level amounts title =
-    row (left 16 code ∷ right 2 (decimal level) ∷ right 14 (signed_decimal amounts.budget) ∷ right 14 (signed_decimal amounts.actual)
-    ∷ right 14 (signed_decimal amounts.to_go) ∷ right 14 (signed_decimal amounts.latest) ∷ right 14 (signed_decimal amounts.overrun) ∷ title ∷ [])
+    row_in summary_layout
+    (code ∷ decimal level ∷ signed_decimal amounts.budget ∷ signed_decimal amounts.actual ∷ signed_decimal amounts.to_go
+    ∷ signed_decimal amounts.latest ∷ signed_decimal amounts.overrun ∷ title ∷ [])
 
--- the row of a level: its number and its amounts
+-- the row of a level: its number and its amounts, and no title
 abbrev pub level_cells : ℕ → SummaryAmounts → List ℕ
 level_cells level amounts =
-    row (left 16 (codes "LEVEL") ∷ right 2 (decimal level) ∷ right 14 (signed_decimal amounts.budget) ∷ right 14 (signed_decimal amounts.actual)
-    ∷ right 14 (signed_decimal amounts.to_go) ∷ right 14 (signed_decimal amounts.latest) ∷ right 14 (signed_decimal amounts.overrun) ∷ [])
+    row_in summary_layout
+    (codes "LEVEL" ∷ decimal level ∷ signed_decimal amounts.budget ∷ signed_decimal amounts.actual ∷ signed_decimal amounts.to_go
+    ∷ signed_decimal amounts.latest ∷ signed_decimal amounts.overrun ∷ [])
 
 -- the row of the k-th item of the outline
 abbrev pub item_row : Project → Summary → ℕ → List ℕ

@@ -4,32 +4,41 @@ use Rattle.std.specs.Fmt.{signed_decimal}
 use Rattle.pc_edges.specs.Texts.{texts_to}
 use Rattle.pc_model.specs.Walk.{from_of, to_of, walk_sum}
 use Rattle.pc_project.specs.Project.{Project}
-use Rattle.pc_edges.specs.page.Cells.{left, right, row}
+use Rattle.pc_edges.specs.page.Cells.{plain, row_in}
 use Rattle.pc_edges.specs.page.Lines.{word_line, number_line}
+use Rattle.pc_reports.specs.Columns.{code_column, time_column, variance_column}
 use Rattle.pc_reports.specs.Times.{Times, IsTimes, date_of}
+
+-- the layout of the events: the code, three times, and the date as it is
+abbrev pub event_layout : List (List ℕ → List ℕ)
+event_layout = code_column ∷ time_column ∷ time_column ∷ time_column ∷ plain ∷ []
 
 -- the words above the events
 abbrev pub event_head : List ℕ
-event_head = row (left 16 (codes "EVENT") ∷ right 12 (codes "TE") ∷ right 12 (codes "TL") ∷ right 12 (codes "SLACK") ∷ codes "DATE" ∷ [])
+event_head = row_in event_layout (codes "EVENT" ∷ codes "TE" ∷ codes "TL" ∷ codes "SLACK" ∷ codes "DATE" ∷ [])
 
 -- the row of an event: its code, its earliest and its latest time, the difference, and the date
 abbrev pub event_cells : List ℕ → ℕ → ℤ → List ℕ → List ℕ
 event_cells code early late date =
-    row (left 16 code ∷ right 12 (decimal early) ∷ right 12 (signed_decimal late) ∷ right 12 (signed_decimal (late -ℤ pos early)) ∷ date ∷ [])
+    row_in event_layout (code ∷ decimal early ∷ signed_decimal late ∷ signed_decimal (late -ℤ pos early) ∷ date ∷ [])
 
 -- the row of event e
 abbrev pub event_row : Project → Times → ℕ → List ℕ
 event_row project times e =
     event_cells (slice_index_or project.events e []) (slice_index times.early e) (slice_index_or times.late e (pos 0)) (date_of project.heading.start_day (slice_index times.early e))
 
+-- the layout of the activities: the code, the expected time, the variance of that, and the slack
+abbrev pub activity_layout : List (List ℕ → List ℕ)
+activity_layout = code_column ∷ time_column ∷ variance_column ∷ time_column ∷ []
+
 -- the words above the activities
 abbrev pub activity_head : List ℕ
-activity_head = row (left 16 (codes "ACTIVITY") ∷ right 12 (codes "EXPECTED") ∷ right 16 (codes "VARIANCE") ∷ right 12 (codes "SLACK") ∷ [])
+activity_head = row_in activity_layout (codes "ACTIVITY" ∷ codes "EXPECTED" ∷ codes "VARIANCE" ∷ codes "SLACK" ∷ [])
 
 -- the row of an activity: its code, its expected time, the variance of that, and its slack
 abbrev pub activity_cells : List ℕ → ℕ → ℕ → ℤ → List ℕ
 activity_cells code expected variance slack =
-    row (left 16 code ∷ right 12 (decimal expected) ∷ right 16 (decimal variance) ∷ right 12 (signed_decimal slack) ∷ [])
+    row_in activity_layout (code ∷ decimal expected ∷ decimal variance ∷ signed_decimal slack ∷ [])
 
 -- how long activity a can wait: the time from the earliest of the event where it begins to the latest of the event
 -- where it ends, less its expected time

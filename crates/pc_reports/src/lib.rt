@@ -2,6 +2,7 @@
 #![tactic(auto)]
 
 mod check;
+mod columns;
 mod dates;
 mod forecasts;
 mod outlook_report;

@@ -6,17 +6,15 @@ ghost use Rattle.pc_edges.specs.inside.page.Puts.{Puts};
 ghost use Rattle.pc_reports.specs.OutlookText.{IsOutlook, outlook_text};
 ghost use Rattle.pc_reports.specs.inside.OutlookText.{AreCostsIn, IsOutlookFor, IsPricedNetOf, TellsTop};
 
-use crate::outlook_rows::OutlookRows;
+use crate::outlook_rows::{COLUMNS, OutlookRows, WORDS};
 use crate::report::Report;
 use pc_crash::CrashNet;
-use pc_edges::page::{Page, put_rows};
+use pc_edges::page::{Page, put_head, put_rows};
 use pc_edges::{Failed, Sink};
 use pc_project::Project;
 use pc_rollup::figures::Outlook;
 use std::alloc::{AllocError, Global};
 use std::marker::Model;
-
-const HEAD: &[u8] = b"ITEM             LV         BUDGET        OUTLOOK         CHANGE TITLE\n";
 
 /// The outlook of a project: what its items will cost if its activities have given durations.
 ///
@@ -101,7 +99,7 @@ impl OutlookReport {
         ensures { Puts O.taken O.faults page.old sink.old page.new sink.new (outlook_text project.now self.now) }
     {
         let outlook = &self.outlook;
-        page.put(sink, HEAD);
+        put_head(page, sink, &COLUMNS, &WORDS);
         put_rows(page, sink, &OutlookRows { project, outlook });
     }
 }

@@ -4,11 +4,18 @@ ghost use Rattle.pc_edges.specs.inside.page.Puts.{Puts};
 ghost use Rattle.pc_reports.specs.OutlookText.{outlook_cells, outlook_row};
 ghost use Rattle.pc_reports.specs.inside.OutlookText.{IsOutlookFor};
 
+use crate::columns::{AMOUNT, CODE, LEVEL, TEXT};
 use pc_edges::Sink;
-use pc_edges::page::{Cell, Page, Rows, put_row};
+use pc_edges::page::{Cell, Fill, Page, Rows, put_row};
 use pc_project::Project;
 use pc_rollup::figures::{Outlook, OutlookAmounts};
 use pc_text::{Code, Title};
+
+/// The columns of the items.
+pub(crate) const COLUMNS: [Fill; 6] = [CODE, LEVEL, AMOUNT, AMOUNT, AMOUNT, TEXT];
+
+/// The words above them.
+pub(crate) const WORDS: [&[u8]; 6] = [b"ITEM", b"LV", b"BUDGET", b"OUTLOOK", b"CHANGE", b"TITLE"];
 
 /// A row for each item, in preorder.
 #[derive(Clone, Copy)]
@@ -49,12 +56,12 @@ fn put_amounts<'r, O: Sink>(
         (outlook_cells code.now level amounts.now title.now) }
 {
     let cells = [
-        Cell::Left(16, code.bytes()),
-        Cell::Number(2, level as u64),
-        Cell::Signed(14, amounts.budget),
-        Cell::Signed(14, amounts.outlook),
-        Cell::Signed(14, amounts.change),
+        Cell::Text(code.bytes()),
+        Cell::Number(level as u64),
+        Cell::Signed(amounts.budget),
+        Cell::Signed(amounts.outlook),
+        Cell::Signed(amounts.change),
         Cell::Text(title.bytes()),
     ];
-    put_row(page, sink, &cells);
+    put_row(page, sink, &COLUMNS, &cells);
 }

@@ -6,16 +6,13 @@ ghost use Rattle.pc_reports.specs.SummaryText.{IsSummary, ChargesCountOnce, summ
 
 use crate::dates::put_dated;
 use crate::report::Report;
-use crate::summary_rows::{ItemRows, LevelRows};
-use pc_edges::page::{Page, put_rows};
+use crate::summary_rows::{COLUMNS, ItemRows, LevelRows, WORDS};
+use pc_edges::page::{Page, put_head, put_rows};
 use pc_edges::{Failed, Sink};
 use pc_project::Project;
 use pc_rollup::figures::Summary;
 use std::alloc::{AllocError, Global};
 use std::marker::Model;
-
-const HEAD: &[u8] =
-    b"ITEM             LV         BUDGET         ACTUAL          TO-GO         LATEST        OVERRUN TITLE\n";
 
 /// The management summary of a project: budget, actual cost, cost to go, latest estimate and overrun of each item and
 /// level.
@@ -73,7 +70,7 @@ impl SummaryReport {
     {
         let summary = &self.summary;
         put_dated(page, sink, b"SUMMARY ", &project.code(), project.as_of());
-        page.put(sink, HEAD);
+        put_head(page, sink, &COLUMNS, &WORDS);
         put_rows(page, sink, &ItemRows { project, summary });
         put_rows(page, sink, &LevelRows { project, summary });
     }

@@ -3,11 +3,20 @@ ghost use Rattle.std.specs.Prelude.{length};
 ghost use Rattle.pc_edges.specs.inside.page.Puts.{Puts};
 ghost use Rattle.pc_reports.specs.SummaryText.{IsSummary, item_cells, item_row, level_cells, level_row};
 
+use crate::columns::{AMOUNT, CODE, LEVEL, TEXT};
 use pc_edges::Sink;
-use pc_edges::page::{Cell, Page, Rows, put_row};
+use pc_edges::page::{Cell, Fill, Page, Rows, put_row};
 use pc_project::Project;
 use pc_rollup::figures::{Summary, SummaryAmounts};
 use pc_text::{Code, Title};
+
+/// The columns of the items and of the levels, which have no title.
+pub(crate) const COLUMNS: [Fill; 8] = [CODE, LEVEL, AMOUNT, AMOUNT, AMOUNT, AMOUNT, AMOUNT, TEXT];
+
+/// The words above them.
+pub(crate) const WORDS: [&[u8]; 8] = [
+    b"ITEM", b"LV", b"BUDGET", b"ACTUAL", b"TO-GO", b"LATEST", b"OVERRUN", b"TITLE",
+];
 
 /// A row for each item, in preorder.
 #[derive(Clone, Copy)]
@@ -72,29 +81,29 @@ fn put_item<'r, O: Sink>(
         (item_cells code.now level amounts.now title.now) }
 {
     let cells = [
-        Cell::Left(16, code.bytes()),
-        Cell::Number(2, level as u64),
-        Cell::Signed(14, amounts.budget),
-        Cell::Signed(14, amounts.actual),
-        Cell::Signed(14, amounts.to_go),
-        Cell::Signed(14, amounts.latest),
-        Cell::Signed(14, amounts.overrun),
+        Cell::Text(code.bytes()),
+        Cell::Number(level as u64),
+        Cell::Signed(amounts.budget),
+        Cell::Signed(amounts.actual),
+        Cell::Signed(amounts.to_go),
+        Cell::Signed(amounts.latest),
+        Cell::Signed(amounts.overrun),
         Cell::Text(title.bytes()),
     ];
-    put_row(page, sink, &cells);
+    put_row(page, sink, &COLUMNS, &cells);
 }
 
 fn put_level<O: Sink>(page: &mut Page, sink: &mut O, level: u64, amounts: &SummaryAmounts)
     ensures { Puts O.taken O.faults page.old sink.old page.new sink.new (level_cells level amounts.now) }
 {
     let cells = [
-        Cell::Left(16, b"LEVEL"),
-        Cell::Number(2, level),
-        Cell::Signed(14, amounts.budget),
-        Cell::Signed(14, amounts.actual),
-        Cell::Signed(14, amounts.to_go),
-        Cell::Signed(14, amounts.latest),
-        Cell::Signed(14, amounts.overrun),
+        Cell::Text(b"LEVEL"),
+        Cell::Number(level),
+        Cell::Signed(amounts.budget),
+        Cell::Signed(amounts.actual),
+        Cell::Signed(amounts.to_go),
+        Cell::Signed(amounts.latest),
+        Cell::Signed(amounts.overrun),
     ];
-    put_row(page, sink, &cells);
+    put_row(page, sink, &COLUMNS, &cells);
 }

@@ -11,17 +11,26 @@ ghost use Rattle.pc_reports.specs.TimesText.{
 };
 ghost use Rattle.pc_reports.specs.inside.View.{IsShownOf, as_shown};
 
+use crate::columns::{CODE, TEXT, TIME, VARIANCE};
 use crate::dates::{DATE_LENGTH, date_text};
 use crate::view::TimesView;
 use pc_edges::Sink;
-use pc_edges::page::{Cell, Page, put_code, put_number, put_row};
+use pc_edges::page::{Cell, Fill, Page, put_code, put_head, put_number, put_row};
 use pc_project::Project;
 use pc_text::Code;
 use pc_times::slack;
 
-const EVENT_HEAD: &[u8] = b"EVENT                      TE           TL        SLACK DATE\n";
+/// The columns of the events.
+const EVENT_COLUMNS: [Fill; 5] = [CODE, TIME, TIME, TIME, TEXT];
 
-const ACTIVITY_HEAD: &[u8] = b"ACTIVITY             EXPECTED         VARIANCE        SLACK\n";
+/// The words above them.
+const EVENT_WORDS: [&[u8]; 5] = [b"EVENT", b"TE", b"TL", b"SLACK", b"DATE"];
+
+/// The columns of the activities.
+const ACTIVITY_COLUMNS: [Fill; 4] = [CODE, TIME, VARIANCE, TIME];
+
+/// The words above them.
+const ACTIVITY_WORDS: [&[u8]; 4] = [b"ACTIVITY", b"EXPECTED", b"VARIANCE", b"SLACK"];
 
 /// Puts a row for each event, in card order.
 pub(crate) fn put_events<O: Sink, V: TimesView>(
@@ -35,7 +44,7 @@ pub(crate) fn put_events<O: Sink, V: TimesView>(
         (event_table (as_shown project.now (V.shown view.now)) (V.shown view.now).times) }
 {
     let start = project.start_day();
-    page.put(sink, EVENT_HEAD);
+    put_head(page, sink, &EVENT_COLUMNS, &EVENT_WORDS);
     for (e, code) in project.event_codes().iter().enumerate() {
         let early = view.early(e as u32);
         let late = view.late(e as u32);
@@ -54,7 +63,7 @@ pub(crate) fn put_activities<O: Sink, V: TimesView>(
     ensures { Puts O.taken O.faults page.old sink.old page.new sink.new
         (activity_table (as_shown project.now (V.shown view.now)) (V.shown view.now).times) }
 {
-    page.put(sink, ACTIVITY_HEAD);
+    put_head(page, sink, &ACTIVITY_COLUMNS, &ACTIVITY_WORDS);
     for (i, code) in project.activity_codes().iter().enumerate() {
         let a = i as u32;
         let slack = activity_slack(project, view, a);
@@ -98,13 +107,13 @@ fn put_event<'r, O: Sink>(
     ensures { Puts O.taken O.faults page.old sink.old page.new sink.new (event_cells code.now early late date.now) }
 {
     let cells = [
-        Cell::Left(16, code.bytes()),
-        Cell::Number(12, early),
-        Cell::Signed(12, late),
-        Cell::Signed(12, slack(late, early)),
+        Cell::Text(code.bytes()),
+        Cell::Number(early),
+        Cell::Signed(late),
+        Cell::Signed(slack(late, early)),
         Cell::Text(date),
     ];
-    put_row(page, sink, &cells);
+    put_row(page, sink, &EVENT_COLUMNS, &cells);
 }
 
 fn put_activity<O: Sink>(
@@ -119,12 +128,12 @@ fn put_activity<O: Sink>(
         (activity_cells code.now expected variance slack) }
 {
     let cells = [
-        Cell::Left(16, code.bytes()),
-        Cell::Number(12, expected),
-        Cell::Number(16, variance),
-        Cell::Signed(12, slack),
+        Cell::Text(code.bytes()),
+        Cell::Number(expected),
+        Cell::Number(variance),
+        Cell::Signed(slack),
     ];
-    put_row(page, sink, &cells);
+    put_row(page, sink, &ACTIVITY_COLUMNS, &cells);
 }
 
 /// Returns the slack of an activity in sixths of a day: the time between its events, less its expected time.

@@ -9,18 +9,15 @@ ghost use Rattle.pc_rollup.specs.figures.Outline.{row_at};
 use crate::dates::put_dated;
 use crate::forecasts::Forecasts;
 use crate::report::Report;
-use crate::value_rows::{ForecastRows, WorthRows};
-use pc_edges::page::{Page, put_rows};
+use crate::value_rows::{
+    FORECAST_COLUMNS, FORECAST_WORDS, ForecastRows, WORTH_COLUMNS, WORTH_WORDS, WorthRows,
+};
+use pc_edges::page::{Page, put_head, put_rows};
 use pc_edges::{Failed, Sink};
 use pc_project::Project;
 use pc_rollup::figures::{OutlineRow, Worth, outline_of};
 use std::alloc::{AllocError, Global};
 use std::marker::Model;
-
-const EVENT_HEAD: &[u8] = b"EVENT                FORECAST       FSLACK DATE\n";
-
-const ITEM_HEAD: &[u8] =
-    b"ITEM             LV         BUDGET         ACTUAL          VALUE        OVERRUN       FSLACK TITLE\n";
 
 /// The report of a project's forecast and of the value of its work: the forecast of each event, and for each item the
 /// value of its work and its slack.
@@ -81,10 +78,10 @@ impl ValueReport {
         ensures { Puts O.taken O.faults page.old sink.old page.new sink.new (value_text project.now self.now) }
     {
         put_dated(page, sink, b"VALUE ", &project.code(), project.as_of());
-        page.put(sink, EVENT_HEAD);
+        put_head(page, sink, &FORECAST_COLUMNS, &FORECAST_WORDS);
         let forecasts = self.forecasts();
         put_rows(page, sink, &ForecastRows { project, forecasts });
-        page.put(sink, ITEM_HEAD);
+        put_head(page, sink, &WORTH_COLUMNS, &WORTH_WORDS);
         let report = self;
         put_rows(page, sink, &WorthRows { project, report });
     }

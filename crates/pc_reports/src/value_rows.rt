@@ -1,20 +1,36 @@
 //! The rows of the report of the value of work.
 ghost use Rattle.std.specs.Prelude.{◌≡◌, ◌<◌, ◌≤◌, ◌^◌, length, unsigned_abs};
-ghost use Rattle.pc_edges.specs.page.Cells.{right};
 ghost use Rattle.pc_edges.specs.inside.page.Cells.{cell_text};
 ghost use Rattle.pc_edges.specs.inside.page.Puts.{Puts};
 ghost use Rattle.pc_times.specs.declared.TheConstants.{MAX_TIME};
 ghost use Rattle.pc_reports.specs.Earned.{AreForecasts, IsEarned};
 ghost use Rattle.pc_reports.specs.ValueText.{forecast_cells, forecast_row, slack_text, worth_cells, worth_row};
 
+use crate::columns::{AMOUNT, CODE, LEVEL, TEXT, TIME};
 use crate::forecasts::Forecasts;
 use crate::value_report::ValueReport;
 use pc_edges::Sink;
-use pc_edges::page::{Cell, Page, Rows, put_row};
+use pc_edges::page::{Cell, Fill, Page, Rows, put_row};
 use pc_project::Project;
 use pc_rollup::figures::WorthAmounts;
 use pc_text::{Code, Title};
 use pc_times::slack;
+
+/// The columns of the events.
+pub(crate) const FORECAST_COLUMNS: [Fill; 4] = [CODE, TIME, TIME, TEXT];
+
+/// The words above them.
+pub(crate) const FORECAST_WORDS: [&[u8]; 4] = [b"EVENT", b"FORECAST", b"FSLACK", b"DATE"];
+
+/// The columns of the items.
+pub(crate) const WORTH_COLUMNS: [Fill; 8] = [
+    CODE, LEVEL, AMOUNT, AMOUNT, AMOUNT, AMOUNT, TIME, TEXT,
+];
+
+/// The words above them.
+pub(crate) const WORTH_WORDS: [&[u8]; 8] = [
+    b"ITEM", b"LV", b"BUDGET", b"ACTUAL", b"VALUE", b"OVERRUN", b"FSLACK", b"TITLE",
+];
 
 /// A row for each event.
 #[derive(Clone, Copy)]
@@ -83,12 +99,12 @@ fn put_forecast<'r, O: Sink>(
     ensures { Puts O.taken O.faults page.old sink.old page.new sink.new (forecast_cells code.now time late date.now) }
 {
     let cells = [
-        Cell::Left(16, code.bytes()),
-        Cell::Number(12, time),
-        Cell::Signed(12, slack(late, time)),
+        Cell::Text(code.bytes()),
+        Cell::Number(time),
+        Cell::Signed(slack(late, time)),
         Cell::Text(date),
     ];
-    put_row(page, sink, &cells);
+    put_row(page, sink, &FORECAST_COLUMNS, &cells);
 }
 
 fn put_worth<'r, O: Sink>(
@@ -104,24 +120,24 @@ fn put_worth<'r, O: Sink>(
         (worth_cells code.now level amounts.now slack title.now) }
 {
     let cells = [
-        Cell::Left(16, code.bytes()),
-        Cell::Number(2, level as u64),
-        Cell::Signed(14, amounts.budget),
-        Cell::Signed(14, amounts.actual),
-        Cell::Signed(14, amounts.value),
-        Cell::Signed(14, amounts.overrun),
+        Cell::Text(code.bytes()),
+        Cell::Number(level as u64),
+        Cell::Signed(amounts.budget),
+        Cell::Signed(amounts.actual),
+        Cell::Signed(amounts.value),
+        Cell::Signed(amounts.overrun),
         slack_cell(slack),
         Cell::Text(title.bytes()),
     ];
-    put_row(page, sink, &cells);
+    put_row(page, sink, &WORTH_COLUMNS, &cells);
 }
 
 /// Returns the cell of an item's slack: a hyphen if it has none.
 fn slack_cell(slack: Option<i64>) -> Cell<'static>
-    ensures { cell_text result ≡ right 12 (slack_text slack) }
+    ensures { cell_text result ≡ slack_text slack }
 {
     match slack {
-        Some(slack) => Cell::Signed(12, slack),
-        None => Cell::Right(12, b"-"),
+        Some(slack) => Cell::Signed(slack),
+        None => Cell::Text(b"-"),
     }
 }

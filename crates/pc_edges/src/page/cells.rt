@@ -1,37 +1,61 @@
 //! Rows of cells.
-ghost use Rattle.std.specs.Prelude.{◌-◌, map};
+ghost use Rattle.std.specs.Prelude.{◌-◌, ◌≤◌, length, map};
 ghost use Rattle.pc_edges.specs.inside.page.Puts.{Puts};
-ghost use Rattle.pc_edges.specs.page.Cells.{left, right, row};
+ghost use Rattle.pc_edges.specs.page.Cells.{left, right, row_in};
 ghost use Rattle.pc_text.specs.Line.{spaces};
-ghost use Rattle.pc_edges.specs.inside.page.Cells.{cell_text, gap_before};
+ghost use Rattle.pc_edges.specs.inside.page.Cells.{cell_text, filled, gap_before};
 
 use crate::Sink;
 use crate::page::Page;
 use pc_text::{digits, signed};
 
-/// A cell of a row: a text, or a number in decimal form. Spaces fill it to a width in bytes. A longer one is put as it
-/// is.
+/// A column of a table: how wide it is, in bytes, and at which side its texts are. Spaces fill a text to the width. A
+/// longer one is put as it is.
 #[derive(Clone, Copy)]
-pub enum Cell<'a> {
-    /// The text as it is.
-    Text(&'a [u8]),
-    /// The text at the left of the width.
-    Left(u8, &'a [u8]),
-    /// The text at the right of the width.
-    Right(u8, &'a [u8]),
-    /// The number at the right of the width.
-    Number(u8, u64),
-    /// The number at the right of the width, with `-` in front if it is negative.
-    Signed(u8, i64),
+pub enum Fill {
+    /// Each text as it is.
+    Plain,
+    /// Texts at the left of the width.
+    Left(u8),
+    /// Texts at the right of the width.
+    Right(u8),
 }
 
-/// Puts the cells with a space between each two, and the end of the line.
-pub fn put_row<O: Sink>(page: &mut Page, sink: &mut O, cells: &[Cell<'_>])
-    ensures { Puts O.taken O.faults page.old sink.old page.new sink.new (row (map cell_text cells.now)) }
+/// What a cell of a row says: a text, or a number in decimal form.
+#[derive(Clone, Copy)]
+pub enum Cell<'a> {
+    /// The text.
+    Text(&'a [u8]),
+    /// The number.
+    Number(u64),
+    /// The number, with `-` in front if it is negative.
+    Signed(i64),
+}
+
+/// Puts the words above the columns of a table, each as a cell of its column, with a space between each two, and the end of
+/// the line.
+pub fn put_head<O: Sink>(page: &mut Page, sink: &mut O, columns: &[Fill], words: &[&[u8]])
+    requires { length words.now ≤ length columns.now }
+    ensures { Puts O.taken O.faults page.old sink.old page.new sink.new
+        (row_in (map filled columns.now) (map (λ word. word.now) words.now)) }
+{
+    for (i, &word) in words.iter().enumerate() {
+        put_gap(page, sink, i);
+        put_text(page, sink, columns[i], word);
+    }
+    page.put(sink, b"\n");
+}
+
+/// Puts the cells, each in its column, with a space between each two, and the end of the line. A row may have fewer cells
+/// than its table has columns.
+pub fn put_row<O: Sink>(page: &mut Page, sink: &mut O, columns: &[Fill], cells: &[Cell<'_>])
+    requires { length cells.now ≤ length columns.now }
+    ensures { Puts O.taken O.faults page.old sink.old page.new sink.new
+        (row_in (map filled columns.now) (map cell_text cells.now)) }
 {
     for (i, &cell) in cells.iter().enumerate() {
         put_gap(page, sink, i);
-        put_cell(page, sink, cell);
+        put_cell(page, sink, columns[i], cell);
     }
     page.put(sink, b"\n");
 }
@@ -45,16 +69,25 @@ fn put_gap<O: Sink>(page: &mut Page, sink: &mut O, i: usize)
     }
 }
 
-/// Puts a cell, filled to its width.
-fn put_cell<O: Sink>(page: &mut Page, sink: &mut O, cell: Cell<'_>)
-    ensures { Puts O.taken O.faults page.old sink.old page.new sink.new (cell_text cell.entry) }
+/// Puts a cell in a column.
+fn put_cell<O: Sink>(page: &mut Page, sink: &mut O, column: Fill, cell: Cell<'_>)
+    ensures { Puts O.taken O.faults page.old sink.old page.new sink.new (filled column (cell_text cell.entry)) }
 {
     match cell {
-        Cell::Text(text) => page.put(sink, text),
-        Cell::Left(width, text) => put_left(page, sink, width, text),
-        Cell::Right(width, text) => put_right(page, sink, width, text),
-        Cell::Number(width, number) => put_right(page, sink, width, digits(number).bytes()),
-        Cell::Signed(width, number) => put_right(page, sink, width, signed(number).bytes()),
+        Cell::Text(text) => put_text(page, sink, column, text),
+        Cell::Number(number) => put_text(page, sink, column, digits(number).bytes()),
+        Cell::Signed(number) => put_text(page, sink, column, signed(number).bytes()),
+    }
+}
+
+/// Puts a text in a column.
+fn put_text<O: Sink>(page: &mut Page, sink: &mut O, column: Fill, text: &[u8])
+    ensures { Puts O.taken O.faults page.old sink.old page.new sink.new (filled column text.now) }
+{
+    match column {
+        Fill::Plain => page.put(sink, text),
+        Fill::Left(width) => put_left(page, sink, width, text),
+        Fill::Right(width) => put_right(page, sink, width, text),
     }
 }
 

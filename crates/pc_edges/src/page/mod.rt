@@ -12,7 +12,7 @@ mod cells;
 mod lines;
 mod rows;
 
-pub use crate::page::cells::{Cell, put_row};
+pub use crate::page::cells::{Cell, Fill, put_head, put_row};
 pub use crate::page::lines::{put_code, put_line, put_named, put_number, put_pair};
 pub use crate::page::rows::{Rows, put_rows};
 use crate::{Failed, STREAM_ROOM, Sink, push_all};

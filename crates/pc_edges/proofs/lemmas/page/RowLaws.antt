@@ -1,8 +1,8 @@
 -- Rows of cells, cell by cell.
-use Rattle.std.proofs.Common.{◌≡◌, ℕ, ◌+◌, ◌<◌, List, [], ◌∷◌, ◌++◌, length, take, get_or, refl, sym, ap, ◌∙◌, append_assoc, arith}
+use Rattle.std.proofs.Common.{◌≡◌, ℕ, zero, suc, ◌+◌, ◌<◌, ◌≤◌, List, [], ◌∷◌, ◌++◌, length, take, get_or, refl, sym, ap, ◌∙◌, append_assoc, arith}
 use Rattle.std.specs.Prelude.{map}
-use Rattle.std.proofs.lemmas.List.{map-append, take_more, length-map, length-take-le}
-use Rattle.pc_edges.specs.page.Cells.{row}
+use Rattle.std.proofs.lemmas.List.{take_all, take_more, length-take-le}
+use Rattle.pc_edges.specs.page.Cells.{cells_in, row, row_in}
 use Rattle.pc_edges.specs.inside.page.Cells.{gap_before}
 
 -- the cells with a space between each two
@@ -12,25 +12,55 @@ joined (cell ∷ []) = cell
 joined (cell ∷ next ∷ cells) = cell ++ (32 ∷ joined (next ∷ cells))
 
 -- one more cell
-pub joined-more : (cells : List (List ℕ)) (cell : List ℕ) → joined cells ++ (gap_before (length cells) ++ cell) ≡ joined (cells ++ cell ∷ [])
+joined-more : (cells : List (List ℕ)) (cell : List ℕ) → joined cells ++ (gap_before (length cells) ++ cell) ≡ joined (cells ++ cell ∷ [])
 joined-more [] cell = refl
 joined-more (first ∷ []) cell = refl
 joined-more (first ∷ next ∷ cells) cell =
     append_assoc first (32 ∷ joined (next ∷ cells)) _ ∙ ap (λ rest. first ++ (32 ∷ rest)) (joined-more (next ∷ cells) cell)
 
 -- a row is its cells and the end of the line
-pub joined-row : (cells : List (List ℕ)) → joined cells ++ 10 ∷ [] ≡ row cells
+joined-row : (cells : List (List ℕ)) → joined cells ++ 10 ∷ [] ≡ row cells
 joined-row [] = refl
 joined-row (cell ∷ []) = refl
 joined-row (cell ∷ next ∷ cells) =
     append_assoc cell (32 ∷ joined (next ∷ cells)) (10 ∷ []) ∙ ap (λ rest. cell ++ (32 ∷ rest)) (joined-row (next ∷ cells))
 
--- the next cell of a list of cells
-pub joined-next : {A : Type 0} (text : A → List ℕ) (cells : List A) (i : ℕ) (d : A) → i < length cells
-    → joined (map text (take i cells)) ++ (gap_before i ++ text (get_or cells i d)) ≡ joined (map text (take (i + 1) cells))
-joined-next text cells i d lt =
-    let cell = text (get_or cells i d) in
-    let count : length (map text (take i cells)) ≡ i = length-map (take i cells) text ∙ length-take-le i cells (omega (arith, lt)) in
-    ap (λ n. joined (map text (take i cells)) ++ (gap_before n ++ cell)) (sym count)
-    ∙ joined-more (map text (take i cells)) cell
-    ∙ ap joined (sym (ap (map text) (take_more cells i d lt) ∙ map-append text (take i cells) (get_or cells i d ∷ [])))
+-- the next of the cells
+joined-next : (cells : List (List ℕ)) (i : ℕ) → i < length cells → joined (take i cells) ++ (gap_before i ++ get_or cells i []) ≡ joined (take (i + 1) cells)
+joined-next cells i lt =
+    ap (λ n. joined (take i cells) ++ (gap_before n ++ get_or cells i [])) (sym (length-take-le i cells (omega (arith, lt))))
+    ∙ joined-more (take i cells) (get_or cells i [])
+    ∙ ap joined (sym (take_more cells i [] lt))
+
+-- a row of no more texts than there are columns
+module _ {A B : Type 0} (fill : A → List ℕ → List ℕ) (text : B → List ℕ) where
+  -- there is a cell for each text
+  length-cells_in : (columns : List A) (texts : List B) → length texts ≤ length columns → length (cells_in (map fill columns) (map text texts)) ≡ length texts
+  length-cells_in [] [] few = refl
+  length-cells_in (column ∷ columns) [] few = refl
+  length-cells_in [] (first ∷ texts) few = absurd (omega (arith, few))
+  length-cells_in (column ∷ columns) (first ∷ texts) few = ap suc (length-cells_in columns texts (omega (arith, few)))
+
+  -- cell i is text i in column i
+  get_or-cells_in : (columns : List A) (texts : List B) (i : ℕ) (d : A) (e : B) → i < length texts → length texts ≤ length columns
+      → get_or (cells_in (map fill columns) (map text texts)) i [] ≡ fill (get_or columns i d) (text (get_or texts i e))
+  get_or-cells_in columns [] i d e lt few = absurd (omega (arith, lt))
+  get_or-cells_in [] (first ∷ texts) i d e lt few = absurd (omega (arith, few))
+  get_or-cells_in (column ∷ columns) (first ∷ texts) zero d e lt few = refl
+  get_or-cells_in (column ∷ columns) (first ∷ texts) (suc i) d e lt few = get_or-cells_in columns texts i d e (omega (arith, lt)) (omega (arith, few))
+
+  -- one more text in its column
+  pub row-next : (columns : List A) (texts : List B) (i : ℕ) (d : A) (e : B) → i < length texts → length texts ≤ length columns
+      → joined (take i (cells_in (map fill columns) (map text texts))) ++ (gap_before i ++ fill (get_or columns i d) (text (get_or texts i e)))
+      ≡ joined (take (i + 1) (cells_in (map fill columns) (map text texts)))
+  row-next columns texts i d e lt few =
+      let cells = cells_in (map fill columns) (map text texts) in
+      ap (λ cell. joined (take i cells) ++ (gap_before i ++ cell)) (sym (get_or-cells_in columns texts i d e lt few))
+      ∙ joined-next cells i (omega (arith, lt, length-cells_in columns texts few))
+
+  -- all texts and the end of the line
+  pub row-whole : (columns : List A) (texts : List B) (n : ℕ) → length texts ≤ n → length texts ≤ length columns
+      → joined (take n (cells_in (map fill columns) (map text texts))) ++ 10 ∷ [] ≡ row_in (map fill columns) (map text texts)
+  row-whole columns texts n all few =
+      let cells = cells_in (map fill columns) (map text texts) in
+      ap (λ row. joined row ++ 10 ∷ []) (take_all n cells (omega (arith, all, length-cells_in columns texts few))) ∙ joined-row cells

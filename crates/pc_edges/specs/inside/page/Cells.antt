@@ -1,17 +1,23 @@
 -- The texts of cells.
 use Rattle.std.specs.Prelude.{ℕ, zero, suc, List, [], ◌∷◌, decimal}
 use Rattle.std.specs.Fmt.{signed_decimal}
-use Rattle.pc_edges.specs.page.Cells.{left, right}
+use Rattle.pc_edges.specs.page.Cells.{left, plain, right}
 use Rattle.pc_edges.specs.declared.page.cells.Cell.{Cell}
-use Rattle.pc_edges.specs.declared.page.cells.Cell.TheVariants.{Text, Left, Right, Number, Signed}
+use Rattle.pc_edges.specs.declared.page.cells.Cell.TheVariants.{Text, Number, Signed}
+use Rattle.pc_edges.specs.declared.page.cells.Fill.{Fill}
+use Rattle.pc_edges.specs.declared.page.cells.Fill.TheVariants.{Plain, Left, Right}
 
--- what a cell says, filled to its width
+-- a text as a cell of the column
+abbrev pub filled : Fill → List ℕ → List ℕ
+filled Plain = plain
+filled (Left width) = left width
+filled (Right width) = right width
+
+-- what a cell says
 abbrev pub cell_text : Cell → List ℕ
 cell_text (Text text) = text.now
-cell_text (Left width text) = left width text.now
-cell_text (Right width text) = right width text.now
-cell_text (Number width number) = right width (decimal number)
-cell_text (Signed width number) = right width (signed_decimal number)
+cell_text (Number number) = decimal number
+cell_text (Signed number) = signed_decimal number
 
 -- what is before cell i of a row
 abbrev pub gap_before : ℕ → List ℕ

@@ -9,7 +9,7 @@ use Rattle.pc_reports.proofs.RowLaws.{activity_cells-same}
 use Rattle.pc_reports.proofs.times_rows.put_activities.Goals as goal
 
 pub loop-i-init : goal.loop-i-init
-loop-i-init g c = Adds-nil (desk g.O.Sink.taken g.O.Sink.faults c.put.new.self c.put.new.sink)
+loop-i-init g c = Adds-nil (desk g.O.Sink.taken g.O.Sink.faults c.put_head.new.page c.put_head.new.sink)
 
 pub loop-i-preserved : goal.loop-i-preserved
 loop-i-preserved g c =
@@ -29,5 +29,5 @@ returns g c =
     let project = c.args.project.now in
     let shown = g.V.TimesView.shown c.args.view.now in
     let all : c.loop-i.i ≡ length project.activities = omega (arith, c.loop-i-test.false, c.loop-i.auto, ap length c.activity_codes-code-items.ensures.codes) in
-    c.put.ensures ⨾ Adds-as (texts_to (length project.activities) (activity_row (as_shown project shown) shown.times))
+    c.put_head.ensures ⨾ Adds-as (texts_to (length project.activities) (activity_row (as_shown project shown) shown.times))
     (ap (λ n. texts_to n (activity_row (as_shown project shown) shown.times)) all) c.loop-i.invariant

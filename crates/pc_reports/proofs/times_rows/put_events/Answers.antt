@@ -16,7 +16,7 @@ pub late-late-requires : goal.late-late-requires
 late-late-requires g c = omega (arith, c.loop-e-test.true, c.requires.late_each, c.event_codes-code-items.ensures.each)
 
 pub loop-e-init : goal.loop-e-init
-loop-e-init g c = Adds-nil (desk g.O.Sink.taken g.O.Sink.faults c.put.new.self c.put.new.sink)
+loop-e-init g c = Adds-nil (desk g.O.Sink.taken g.O.Sink.faults c.put_head.new.page c.put_head.new.sink)
 
 pub loop-e-preserved : goal.loop-e-preserved
 loop-e-preserved g c =
@@ -36,5 +36,5 @@ returns g c =
     let project = c.args.project.now in
     let shown = g.V.TimesView.shown c.args.view.now in
     let all : c.loop-e.e ≡ length project.events = omega (arith, c.loop-e-test.false, c.loop-e.auto, ap length c.event_codes-code-items.ensures.codes) in
-    c.put.ensures ⨾ Adds-as (texts_to (length project.events) (event_row (as_shown project shown) shown.times))
+    c.put_head.ensures ⨾ Adds-as (texts_to (length project.events) (event_row (as_shown project shown) shown.times))
     (ap (λ n. texts_to n (event_row (as_shown project shown) shown.times)) all) c.loop-e.invariant

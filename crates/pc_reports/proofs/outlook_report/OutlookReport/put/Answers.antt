@@ -5,4 +5,4 @@ use Rattle.pc_reports.proofs.outlook_report.OutlookReport.put.Goals as goal
 
 pub returns : goal.returns
 unfolding outlook_text
-returns g c = Adds-as _ (ap (outlook_text c.args.project.now) c.self.view_is) (c.put.ensures ⨾ c.put_rows.ensures)
+returns g c = Adds-as _ (ap (outlook_text c.args.project.now) c.self.view_is) (c.put_head.ensures ⨾ c.put_rows.ensures)

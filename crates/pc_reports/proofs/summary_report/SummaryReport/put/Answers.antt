@@ -14,4 +14,4 @@ returns g c =
     Adds-as (dated_line (codes "SUMMARY ") heading.code heading.as_of)
     (ap (λ (k : List ℕ). dated_line (codes "SUMMARY ") k c.as_of.result) c.code.ensures
     ∙ ap (λ (d : ℤ). dated_line (codes "SUMMARY ") heading.code d) c.as_of.ensures) c.put_dated.ensures
-    ⨾ c.put.ensures ⨾ c.put_rows.ensures ⨾ c.put_rows-2.ensures)
+    ⨾ c.put_head.ensures ⨾ c.put_rows.ensures ⨾ c.put_rows-2.ensures)

@@ -15,10 +15,10 @@ returns g c =
     Adds-as (dated_line (codes "VALUE ") heading.code heading.as_of)
     (ap (λ (k : List ℕ). dated_line (codes "VALUE ") k c.as_of.result) c.code.ensures
     ∙ ap (λ (d : ℤ). dated_line (codes "VALUE ") heading.code d) c.as_of.ensures) c.put_dated.ensures
-    ⨾ (c.put.ensures ⨾ Adds-as (texts_to (length project.events) (forecast_row project c.args.self.now.forecasts))
+    ⨾ (c.put_head.ensures ⨾ Adds-as (texts_to (length project.events) (forecast_row project c.args.self.now.forecasts))
     (ap (λ (f : Forecasts). texts_to (length project.events) (forecast_row project f)) c.forecasts-forecasts.ensures)
     c.put_rows.ensures)
-    ⨾ (c.put-2.ensures ⨾ c.put_rows-2.ensures)
+    ⨾ (c.put_head-2.ensures ⨾ c.put_rows-2.ensures)
 
 pub put_rows-requires : goal.put_rows-requires
 put_rows-requires g c = rw c.forecasts-forecasts.ensures c.requires.forecasts
