@@ -1,7 +1,7 @@
 #!/usr/bin/env python3
 """Tries the must-fail edits that a change reaches: the prover must refuse these wrong bodies.
 
-    tests/edits/run.py [--all] [--gate] [--list] [CRATE | EDIT ..]
+    tests/edits/run.py [--all | --goals] [--gate] [--list] [CRATE | EDIT ..]
     tests/edits/run.py --log FILE
 
 The edits that every gate tries are in crates/CRATE/must-fail/ (docs/gate.md says which), all others
@@ -10,11 +10,14 @@ the gate too. A crate stands for all its edits, of both places.
 
 tests/edits/state names for each edit the sources on which it was last refused: a sum over its
 crate, all crates below it and its own text, without lines that are comments; and the first goal
-that was not proved with it, if the run named one. An edit with the same sum is not tried again,
-unless --all is given. A refusal is
-written down at once, so that a run that was stopped goes on where it ended. --list says which edits
-would be tried, and tries none. --log writes down what `rt ci` or `rt must-fail` refused at the top
-of this checkout: FILE is what it printed, of these very sources.
+that was not proved with it, if a run named one. An edit with the same sum is not tried again,
+unless --all is given, or --goals and no run named a goal. What a crate's edits came to is written
+down when all of them were tried. Only an edit that the prover lets through loses its line: a
+refusal on earlier sources, and its goal, stay until the next one.
+
+--list says which edits would be tried, and how each was last refused, and tries none. --log writes
+down what `rt ci` or `rt must-fail` refused at the top of this checkout: FILE is what it printed, of
+these very sources.
 
 They are tried by `rt must-fail` in a copy of the sources, which begins with what `rt check` kept in
 crates/*/out/: large files are linked into the copy, small ones are copied.
@@ -23,6 +26,7 @@ crates/*/out/: large files are linked into the copy, small ones are copied.
 from __future__ import annotations
 
 import argparse
+import fcntl
 import hashlib
 import os
 import re
@@ -30,6 +34,8 @@ import shutil
 import subprocess
 import sys
 import tempfile
+from collections.abc import Iterator
+from contextlib import contextmanager
 from dataclasses import dataclass
 from pathlib import Path
 
@@ -49,6 +55,7 @@ STATE = TOP / "tests" / "edits" / "state"
 # what `rt must-fail` says of an edit
 SAID = re.compile(r"must-fail (\w+)/([\w.-]+\.edit): ([A-Za-z ]+)")
 REFUSED = "refused"
+LET_THROUGH = "NOT REFUSED"
 # the goal that `rt` names first: that of a clause, of an invariant or of a call
 GOAL = re.compile(r"\(`([\w+.-]+)`\)")
 # how a line begins that is a comment, in .rt and in .antt files
@@ -70,6 +77,22 @@ class Refusal:
         """Its text in the file."""
         return f"{self.total} {self.goal}".rstrip()
 
+    def or_goal_of(self, earlier: Refusal | None) -> Refusal:
+        """This refusal, with the goal of an earlier one if it names none itself."""
+        return Refusal(self.total, self.goal or (earlier.goal if earlier else ""))
+
+
+def settles(refusal: Refusal | None, total: str, by_goal: bool) -> bool:
+    """Whether a refusal is one on these sources, and one by a goal where that is asked for."""
+    return refusal is not None and refusal.total == total and (bool(refusal.goal) or not by_goal)
+
+
+def told(refusal: Refusal | None) -> str:
+    """How an edit was last refused, in words."""
+    if refusal is None:
+        return "never refused"
+    return f"refused by {refusal.goal}" if refusal.goal else "refused, no goal named"
+
 
 def read_state() -> dict[str, Refusal]:
     """For each edit how it was last refused."""
@@ -79,16 +102,28 @@ def read_state() -> dict[str, Refusal]:
     return {name: Refusal(*said) for name, *said in rows}
 
 
+@contextmanager
+def alone() -> Iterator[None]:
+    """Keeps out other runs in this checkout, which write into the same file."""
+    folder = os.open(STATE.parent, os.O_RDONLY)
+    try:
+        fcntl.flock(folder, fcntl.LOCK_EX)
+        yield
+    finally:
+        os.close(folder)
+
+
 def record(name: str, refusal: Refusal | None) -> None:
-    """Writes down how an edit was refused, or that it was not. Leaves out what is gone."""
-    state = read_state()
-    state.pop(name, None)
-    if refusal is not None:
-        state[name] = refusal
-    text = "".join(f"{it} {state[it]}\n" for it in sorted(state) if (TOP / it).exists())
-    beside = STATE.with_suffix(".new")
-    beside.write_text(text, encoding="utf-8")
-    beside.replace(STATE)
+    """Writes down how an edit was refused, or that it was let through. Leaves out what is gone."""
+    with alone():
+        state = read_state()
+        earlier = state.pop(name, None)
+        if refusal is not None:
+            state[name] = refusal.or_goal_of(earlier)
+        text = "".join(f"{it} {state[it]}\n" for it in sorted(state) if (TOP / it).exists())
+        beside = STATE.with_suffix(".new")
+        beside.write_text(text, encoding="utf-8")
+        beside.replace(STATE)
 
 
 def without_comments(path: Path) -> bytes:
@@ -217,7 +252,8 @@ def try_crate(edits: list[Edit], sums: Sums, room: str) -> tuple[int, list[str]]
                     record(name, Refusal(before[name], goal_in(line)))
                 else:
                     others[name] = line.strip()
-                    record(name, None)
+                    if said[3].startswith(LET_THROUGH):
+                        record(name, None)
     return len(edits) - len(others), list(others.values())
 
 
@@ -240,6 +276,7 @@ def words_of_command() -> argparse.Namespace:
         description=__doc__, formatter_class=argparse.RawDescriptionHelpFormatter
     )
     parser.add_argument("--all", action="store_true", help="also what no change reaches")
+    parser.add_argument("--goals", action="store_true", help="also what no goal is known of")
     parser.add_argument("--gate", action="store_true", help="also the edits that every gate tries")
     parser.add_argument("--list", action="store_true", help="say which would be tried")
     parser.add_argument("--log", type=Path, help="take the refusals from what the gate printed")
@@ -264,10 +301,10 @@ def main() -> int:
     wanted = [
         edit
         for edit in meant
-        if args.all or edit.name not in state or state[edit.name].total != sums.edit(edit)
+        if args.all or not settles(state.get(edit.name), sums.edit(edit), args.goals)
     ]
     if args.list:
-        print("".join(f"{edit.name}\n" for edit in wanted), end="")
+        print("".join(f"{edit.name}: {told(state.get(edit.name))}\n" for edit in wanted), end="")
         return 0
     if wanted and not shutil.which("rt"):
         print("edits: skipped, since rt is missing")
