@@ -7,7 +7,8 @@
 An edit names a file of its crate, and each text that it removes occurs there exactly once. The
 tables of docs/gate.md name the edits that every gate must refuse: exactly these, at most 100, are
 in crates/CRATE/must-fail/. Each has a comment with the case of tests/acceptance/ that it breaks and
-what the edited program prints there, or why there is none.
+what the edited program prints there, or why there is none. Each other edit has a comment that says
+what the edited program gets wrong.
 
 --meaning also runs the edited programs of the gate's edits, or of those named, so many at a time.
 It applies an edit to a copy of the sources, runs the program of its case there by `rt try`, which
@@ -135,6 +136,8 @@ def faults_of(edit: Edit) -> list[str]:
         found.append(str(error))
     if edit.is_of_gate and edit.row is None and edit.no_row is None:
         found.append("it says neither which case it breaks nor why there is none")
+    if not edit.is_of_gate and not edit.words:
+        found.append("no comment says what it gets wrong")
     return found
 
 

@@ -1,8 +1,8 @@
 """Must-fail edits: what their files say, which of them the gate tries, and how one is applied.
 
 An edit is a file NAME.edit with a line `file: src/..` and pairs of lines `old: ..` and `new: ..`,
-which change that file. Lines that begin with `#` are comments. Some of these say what the changed
-program answers (docs/gate.md):
+which change that file. Lines that begin with `#` are comments: what the changed program gets wrong,
+in words, and some of a fixed form that say what it answers (CONTRIBUTING.md):
 
     # row: CASE         a case of tests/acceptance/ whose answer the edit must break, or
     # row: test CRATE FILE::NAME    a test that must fail
@@ -48,6 +48,7 @@ class Edit:
     prints: tuple[str, ...]
     prints_as: str | None
     status: int | None
+    words: str
 
     @property
     def name(self) -> str:
@@ -67,6 +68,7 @@ def read_edit(path: Path) -> Edit:
     old: str | None = None
     changes: list[Change] = []
     prints: list[str] = []
+    words: list[str] = []
     said: dict[str, str] = {}
     for line in path.read_text(encoding="utf-8").splitlines():
         # (a `new:` line may be empty behind the colon)
@@ -84,7 +86,9 @@ def read_edit(path: Path) -> Edit:
             prints.append(rest)
         elif word in ("# row", "# no row", "# prints as", "# status"):
             said[word[2:]] = rest
-        elif line.strip() and not line.startswith("#"):
+        elif line.startswith("#"):
+            words.append(line[1:].strip())
+        elif line.strip():
             raise EditError(f"not read: {line.strip()}")
     if not changes:
         raise EditError("it changes nothing")
@@ -92,7 +96,9 @@ def read_edit(path: Path) -> Edit:
         raise EditError(f"no status: {said['status']}")
     status = int(said["status"]) if "status" in said else None
     row, no_row, prints_as = said.get("row"), said.get("no row"), said.get("prints as")
-    return Edit(path, crate, tuple(changes), row, no_row, tuple(prints), prints_as, status)
+    return Edit(
+        path, crate, tuple(changes), row, no_row, tuple(prints), prints_as, status, " ".join(words)
+    )
 
 
 def changed_texts(edit: Edit, top: Path = TOP) -> dict[Path, str]:
