@@ -56,8 +56,9 @@ STATE = TOP / "tests" / "edits" / "state"
 SAID = re.compile(r"must-fail (\w+)/([\w.-]+\.edit): ([A-Za-z ]+)")
 REFUSED = "refused"
 LET_THROUGH = "NOT REFUSED"
-# the goal that `rt` names first: that of a clause, of an invariant or of a call
-GOAL = re.compile(r"\(`([\w+.-]+)`\)")
+# the goal that `rt` names first, of a clause, an invariant or a call: one that has no proof, or one
+# whose proof is wrong with the edit
+GOAL = re.compile(r"\(`([\w+.-]+)`\)|error: `([\w+.-]+)`")
 # how a line begins that is a comment, in .rt and in .antt files
 COMMENTS = (b"//", b"--")
 # files of fewer bytes are copied
@@ -219,7 +220,7 @@ def is_refused(line: str) -> bool:
 def goal_in(line: str) -> str:
     """The goal that a refusal names, or nothing."""
     said = GOAL.search(line)
-    return said[1] if said else ""
+    return said[1] or said[2] if said else ""
 
 
 def try_crate(edits: list[Edit], sums: Sums, room: str) -> tuple[int, list[str]]:
