@@ -1,6 +1,9 @@
 -- A kind of cards: what it asks of its cards, what they say, and how they are written. Each kind's own file gives its
 -- entry, over the lists in which a deck has its cards.
 use Rattle.std.specs.Prelude.{ℕ, Bool, ◌==◌, List, [], Option, Some, None, if◌then◌else◌}
+use Rattle.pc_faults.specs.declared.fault.Fault.{Fault}
+use Rattle.pc_faults.specs.declared.target.Target.{Target}
+use Rattle.pc_faults.specs.declared.target.Target.TheVariants.{Activity, Task}
 use Rattle.pc_cards.specs.Forms.{Slot}
 use Rattle.pc_cards.specs.Named.{HeldBy}
 use Rattle.pc_cards.specs.declared.sort.Sort.{Sort}
@@ -40,6 +43,34 @@ in_tasks limit = by_sort (up_to 0) limit
 abbrev pub no_code : {C : Type 0} → C → List ℕ
 no_code card = []
 
+-- what a card names by a code: what it is, and the code
+pub record Reference : Type 0 where
+  pub target : Target
+  pub code : List ℕ
+
+-- what the work in a deck of a sort is: activities in a plan, tasks in a deck of tasks
+abbrev pub work_target : Sort → Target
+work_target Plan = Activity
+work_target Tasks = Task
+
+-- no references
+abbrev pub no_names : {C : Type 0} → Sort → C → List Reference
+no_names sort card = []
+
+-- no fault by itself
+abbrev pub no_flaws : {C : Type 0} → Sort → C → Fault → Type 0
+no_flaws sort card fault = ⊥
+
+-- the faults of a kind that only plans have
+abbrev pub flaws_in_plans : {C : Type 0} → (C → Fault → Type 0) → Sort → C → Fault → Type 0
+flaws_in_plans flaws Plan card fault = flaws card fault
+flaws_in_plans flaws Tasks card fault = ⊥
+
+-- the faults of a kind that only decks of tasks have
+abbrev pub flaws_in_tasks : {C : Type 0} → (C → Fault → Type 0) → Sort → C → Fault → Type 0
+flaws_in_tasks flaws Plan card fault = ⊥
+flaws_in_tasks flaws Tasks card fault = flaws card fault
+
 -- a kind of cards
 pub record Entry (Lists : Type 0) : Type 1 where
   -- a card as plain data
@@ -62,6 +93,12 @@ pub record Entry (Lists : Type 0) : Type 1 where
   pub is_coded : Bool
   -- that code
   pub code : Card → List ℕ
+  -- the record of a card
+  pub row : Card → ℕ
+  -- what a card names in a deck of a sort, in the order in which it is looked up
+  pub names : Sort → Card → List Reference
+  -- the faults that a card has by itself in a deck of a sort, whatever it names
+  pub flaws : Sort → Card → Fault → Type 0
 
 -- how the cards of a kind are written
 pub record Written (Card : Type 0) : Type 0 where

@@ -7,6 +7,7 @@ pub mod SoFarLemmas
 pub mod WithinLemmas
 pub mod NumberLemmas
 pub mod TargetLaws
+pub mod MisfitLaws
 pub mod SeenLemmas
 pub mod RefusalLemmas
 pub mod ToldLemmas

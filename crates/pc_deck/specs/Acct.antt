@@ -7,6 +7,7 @@ use Rattle.pc_cards.specs.Forms.{money, number_in}
 use Rattle.pc_cards.specs.declared.form.FieldForm.TheVariants as form
 use Rattle.pc_deck.specs.declared.kinds.acct.AcctCard.{AcctCard}
 use Rattle.pc_deck.specs.declared.kinds.CardLists.{CardLists}
+use Rattle.pc_faults.specs.declared.target.Target.TheVariants.{Item}
 use Rattle.pc_deck.specs.Builders.{named_kind}
 
 -- the card that a record spells
@@ -22,6 +23,7 @@ account_card row fields = record {
 -- the kind
 abbrev pub account_kind : Entry CardLists
 account_kind =
-    named_kind account_card (λ account. account.code)
+    record (named_kind account_card (λ account. account.row) (λ account. account.code)
     (in_both ((2, form.Code) ∷ (3, form.Code) ∷ (4, money) ∷ (5, form.Title) ∷ [])) 5
-    (λ lists. lists.accounts) (in_both (up_to MAX_ACCOUNTS))
+    (λ lists. lists.accounts) (in_both (up_to MAX_ACCOUNTS)))
+    { names = λ sort account. record { target = Item; code = account.item } ∷ [] }

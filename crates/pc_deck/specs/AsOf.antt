@@ -14,4 +14,4 @@ as_of_card row fields = record { row = row; day = day_in (text_at fields 1) }
 
 -- the kind
 abbrev pub as_of_kind : Entry CardLists
-as_of_kind = single_kind as_of_card (in_both ((2, form.Date) ∷ [])) 2 2 (λ lists. lists.as_of)
+as_of_kind = single_kind as_of_card (λ card. card.row) (in_both ((2, form.Date) ∷ [])) 2 2 (λ lists. lists.as_of)

@@ -1,14 +1,14 @@
 -- How the entry of a kind of cards is made, from what varies among the kinds.
 use Rattle.std.specs.Prelude.{ℕ, List, Option, false, true}
-use Rattle.pc_cards.specs.Entry.{Entry, Limit, in_both, no_code, unlimited}
+use Rattle.pc_cards.specs.Entry.{Entry, Limit, in_both, no_code, no_flaws, no_names, unlimited}
 use Rattle.pc_cards.specs.Forms.{Slot}
 use Rattle.pc_cards.specs.declared.sort.Sort.{Sort}
 use Rattle.pc_deck.specs.declared.kinds.CardLists.{CardLists}
 
--- a kind with at most one card in a deck: the card of a record, what its fields must be, how many fields it must have and how many it
--- may have, and where the lists have the card
-abbrev pub single_kind : {C : Type 0} → (ℕ → List (List ℕ) → C) → (Sort → List Slot) → ℕ → ℕ → (CardLists → Option C) → Entry CardLists
-single_kind {C} spelled slots least most held = record {
+-- a kind with at most one card in a deck: the card of a record, the record of a card, what its fields must be, how many fields it must
+-- have and how many it may have, and where the lists have the card; it names nothing and has no fault by itself
+abbrev pub single_kind : {C : Type 0} → (ℕ → List (List ℕ) → C) → (C → ℕ) → (Sort → List Slot) → ℕ → ℕ → (CardLists → Option C) → Entry CardLists
+single_kind {C} spelled row slots least most held = record {
   Card = C;
   spelled = spelled;
   slots = slots;
@@ -19,12 +19,15 @@ single_kind {C} spelled slots least most held = record {
   limit = in_both unlimited;
   is_coded = false;
   code = no_code;
+  row = row;
+  names = no_names;
+  flaws = no_flaws;
 }
 
--- a kind with a list of cards: the card of a record, what its fields must be, how many it has, where the lists have the cards, and how
--- many there may be
-abbrev pub listed_kind : {C : Type 0} → (ℕ → List (List ℕ) → C) → (Sort → List Slot) → ℕ → (CardLists → List C) → (Sort → Limit) → Entry CardLists
-listed_kind {C} spelled slots width held limit = record {
+-- a kind with a list of cards: the card of a record, the record of a card, what its fields must be, how many it has, where the lists have
+-- the cards, and how many there may be; it names nothing and has no fault by itself
+abbrev pub listed_kind : {C : Type 0} → (ℕ → List (List ℕ) → C) → (C → ℕ) → (Sort → List Slot) → ℕ → (CardLists → List C) → (Sort → Limit) → Entry CardLists
+listed_kind {C} spelled row slots width held limit = record {
   Card = C;
   spelled = spelled;
   slots = slots;
@@ -35,8 +38,11 @@ listed_kind {C} spelled slots width held limit = record {
   limit = limit;
   is_coded = false;
   code = no_code;
+  row = row;
+  names = no_names;
+  flaws = no_flaws;
 }
 
--- a kind as by `listed_kind` whose cards have codes of their own; the second argument is the code of a card
-abbrev pub named_kind : {C : Type 0} → (ℕ → List (List ℕ) → C) → (C → List ℕ) → (Sort → List Slot) → ℕ → (CardLists → List C) → (Sort → Limit) → Entry CardLists
-named_kind spelled code slots width held limit = record (listed_kind spelled slots width held limit) { is_coded = true; code = code }
+-- a kind as by `listed_kind` whose cards have codes of their own; the third argument is the code of a card
+abbrev pub named_kind : {C : Type 0} → (ℕ → List (List ℕ) → C) → (C → ℕ) → (C → List ℕ) → (Sort → List Slot) → ℕ → (CardLists → List C) → (Sort → Limit) → Entry CardLists
+named_kind spelled row code slots width held limit = record (listed_kind spelled row slots width held limit) { is_coded = true; code = code }

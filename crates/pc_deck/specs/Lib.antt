@@ -1,4 +1,5 @@
 pub mod Builders
+pub mod Durations
 pub mod Project
 pub mod AsOf
 pub mod Terms
@@ -17,6 +18,7 @@ pub mod Kinds
 pub mod WrittenKinds
 pub mod Deck
 pub mod Target
+pub mod Misfit
 pub mod Text
 pub mod Judged
 pub mod Within

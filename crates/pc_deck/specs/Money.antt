@@ -9,6 +9,7 @@ use Rattle.pc_cards.specs.Forms.{money, number_in, day_in}
 use Rattle.pc_cards.specs.declared.form.FieldForm.TheVariants as form
 use Rattle.pc_deck.specs.declared.kinds.money.MoneyCard.{MoneyCard}
 use Rattle.pc_deck.specs.declared.kinds.CardLists.{CardLists}
+use Rattle.pc_faults.specs.declared.target.Target.TheVariants.{Account}
 use Rattle.pc_deck.specs.Builders.{listed_kind}
 
 -- the card that a record spells
@@ -22,9 +23,10 @@ written_money card = card.account ∷ text_of_day card.day ∷ decimal card.amou
 -- the kind CHARGE
 abbrev pub charge_kind : Entry CardLists
 charge_kind =
-    listed_kind money_card
+    record (listed_kind money_card (λ card. card.row)
     (in_both ((2, form.Code) ∷ (3, form.Date) ∷ (4, money) ∷ [])) 4
-    (λ lists. lists.charges) (in_both (growing SMALL_CHARGES MAX_CHARGES))
+    (λ lists. lists.charges) (in_both (growing SMALL_CHARGES MAX_CHARGES)))
+    { names = λ sort card. record { target = Account; code = card.account } ∷ [] }
 
 -- the kind TOGO: the same card in a list of its own
 abbrev pub togo_kind : Entry CardLists

@@ -1,7 +1,7 @@
 -- STATUS,activity,S or F,date
 use Rattle.std.specs.Prelude.{ℕ, List, [], ◌∷◌, bytes_eq, codes}
 use Rattle.pc_model.specs.Codes.{text_at}
-use Rattle.pc_cards.specs.Entry.{Entry, growing, in_both}
+use Rattle.pc_cards.specs.Entry.{Entry, growing, in_both, work_target}
 use Rattle.pc_deck.specs.declared.limits.TheConstants.{SMALL_STATUSES}
 use Rattle.pc_model.specs.declared.limits.TheConstants.{MAX_STATUSES}
 use Rattle.pc_cards.specs.Forms.{day_in}
@@ -22,6 +22,7 @@ status_card row fields = record {
 -- the kind
 abbrev pub status_kind : Entry CardLists
 status_kind =
-    listed_kind status_card
+    record (listed_kind status_card (λ status. status.row)
     (in_both ((2, form.Code) ∷ (3, form.Letter) ∷ (4, form.Date) ∷ [])) 4
-    (λ lists. lists.statuses) (in_both (growing SMALL_STATUSES MAX_STATUSES))
+    (λ lists. lists.statuses) (in_both (growing SMALL_STATUSES MAX_STATUSES)))
+    { names = λ sort status. record { target = work_target sort; code = status.activity } ∷ [] }

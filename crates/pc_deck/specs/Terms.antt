@@ -27,6 +27,6 @@ terms_card row fields = record {
 -- the kind
 abbrev pub terms_kind : Entry CardLists
 terms_kind =
-    single_kind terms_card
+    single_kind terms_card (λ terms. terms.row)
     (in_both ((2, term) ∷ (3, term) ∷ (4, term) ∷ (5, term) ∷ [])) 5 5
     (λ lists. lists.terms)

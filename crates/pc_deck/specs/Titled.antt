@@ -20,7 +20,7 @@ written_titled card = card.code ∷ card.title ∷ []
 -- the kind EVENT
 abbrev pub event_kind : Entry CardLists
 event_kind =
-    named_kind titled_card (λ card. card.code)
+    named_kind titled_card (λ card. card.row) (λ card. card.code)
     (in_both ((2, form.Code) ∷ (3, form.Title) ∷ [])) 3
     (λ lists. lists.events) (in_plans (growing SMALL_EVENTS MAX_EVENTS))
 

@@ -4,6 +4,7 @@ ghost use Rattle.pc_faults.specs.First.{IsFirstFault};
 ghost use Rattle.pc_faults.specs.declared.fault.Fault.{Fault};
 ghost use Rattle.pc_model.specs.Codes.{IsNamedOnce};
 ghost use Rattle.pc_model.specs.declared.limits.TheConstants.{MAX_ACTIVITIES, MAX_EVENTS};
+ghost use Rattle.pc_cards.specs.Entry.{work_target};
 ghost use Rattle.pc_cards.specs.declared.sort.Sort.{Sort};
 ghost use Rattle.pc_cards.specs.declared.sort.Sort.TheVariants.{Plan, Tasks};
 ghost use Rattle.pc_deck.specs.Deck.{
@@ -30,6 +31,10 @@ use std::marker::{Model, PhantomData};
 /// A sort of decks, as a type.
 pub trait DeckSort {
     ghost sort: { Sort };
+
+    /// Returns what the work in such a deck is: activities or tasks.
+    fn work() -> Target
+        ensures { result ≡ work_target sort };
 }
 
 /// Plans.
@@ -37,6 +42,10 @@ pub struct Plans;
 
 impl DeckSort for Plans {
     ghost sort = { Plan };
+
+    fn work() -> Target {
+        Target::Activity
+    }
 }
 
 /// Decks of tasks.
@@ -44,6 +53,10 @@ pub struct TaskDecks;
 
 impl DeckSort for TaskDecks {
     ghost sort = { Tasks };
+
+    fn work() -> Target {
+        Target::Task
+    }
 }
 
 /// The cards of a deck of a sort, each kind in card order.

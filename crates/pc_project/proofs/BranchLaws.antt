@@ -5,21 +5,23 @@ use Rattle.std.proofs.lemmas.List.{get_or-map, length-map}
 use Rattle.pc_accounts.specs.Amounts.{account_at}
 use Rattle.pc_accounts.specs.declared.book.AcctRow.{AcctRow}
 use Rattle.pc_accounts.specs.declared.packages.WorkRow.{WorkRow}
+use Rattle.pc_cards.specs.declared.sort.Sort.TheVariants.{Plan}
 use Rattle.pc_deck.specs.Deck.{Deck, item_codes, number_among}
 use Rattle.pc_deck.specs.declared.kinds.acct.AcctCard.{AcctCard}
 use Rattle.pc_deck.specs.declared.kinds.act.ActCard.{ActCard}
+use Rattle.pc_deck.specs.Misfit.{HasNoMisfit}
 use Rattle.pc_faults.specs.Faults.{not_a_leaf}
 use Rattle.pc_faults.specs.declared.fault.Fault.{Fault}
 use Rattle.pc_wbs.specs.Climb.{IsLeaf}
 use Rattle.pc_wbs.specs.declared.tree.ItemRow.{ItemRow}
 use Rattle.pc_faults.specs.inside.First.{IsFirstIn, earliest}
-use Rattle.pc_project.specs.Misfit.{HasNoMisfit}
 use Rattle.pc_project.specs.PackageFaults.{HasLeafFault, HasNoLeafFault, StandsOnBranch, of_act, of_account}
 use Rattle.pc_project.specs.Project.{account_of, accounts_in, row_of, rows_of, work_of}
 use Rattle.pc_project.specs.inside.Project.{placement_of}
 use Rattle.pc_project.specs.declared.placed.Placement.{Placement}
 use Rattle.pc_faults.proofs.FirstLaws.{earliest-first}
-use Rattle.pc_project.proofs.FitLaws.{Any-at, account_item-read, act_item-within}
+use Rattle.pc_deck.proofs.MisfitLaws.{Any-at}
+use Rattle.pc_project.proofs.FitLaws.{account_item-read, act_item-within}
 use Rattle.pc_project.proofs.LoopLaws.{IsFirstBefore, first_more, first_of_all}
 
 -- an item that is not said to be no leaf is one
@@ -88,7 +90,7 @@ act_item deck placements a card same inside read =
     ∙ ap (λ (p : Placement). p.item) (get_or-map (placement_of deck) deck.acts a card (record { arc = record { from = 0; to = 0 }; item = 0 }) inside)
     ∙ ap (λ (c : ActCard). number_among (item_codes deck) c.item) (sym read)
 
-pub act_item-in_tree : (deck : Deck) (rows : List ItemRow) (placements : List Placement) (a : ℕ) (card : ActCard) → HasNoMisfit deck →
+pub act_item-in_tree : (deck : Deck) (rows : List ItemRow) (placements : List Placement) (a : ℕ) (card : ActCard) → HasNoMisfit Plan deck →
     rows ≡ rows_of deck → placements ≡ map (placement_of deck) deck.acts → a < length deck.acts → card ≡ get_or deck.acts a card →
     (get_or placements a (record { arc = record { from = 0; to = 0 }; item = 0 })).item < length rows
 act_item-in_tree deck rows placements a card none tree same inside read =
@@ -107,7 +109,7 @@ account_item deck accounts a card same inside read =
     ∙ ap (λ (r : AcctRow). r.item) (get_or-map (account_of deck) deck.accounts a card (record { item = 0; budget = 0 }) inside)
     ∙ ap (λ (c : AcctCard). number_among (item_codes deck) c.item) (sym read)
 
-pub account_item-in_tree : (deck : Deck) (rows : List ItemRow) (accounts : List AcctRow) (a : ℕ) (card : AcctCard) → HasNoMisfit deck →
+pub account_item-in_tree : (deck : Deck) (rows : List ItemRow) (accounts : List AcctRow) (a : ℕ) (card : AcctCard) → HasNoMisfit Plan deck →
     rows ≡ rows_of deck → accounts ≡ accounts_in deck → a < length deck.accounts → card ≡ get_or deck.accounts a card →
     (account_at accounts a).item < length rows
 account_item-in_tree deck rows accounts a card none tree same inside read =

@@ -11,6 +11,7 @@ use Rattle.pc_accounts.specs.declared.book.Entry.{Entry}
 use Rattle.pc_accounts.specs.declared.book.AcctRow.{AcctRow}
 use Rattle.pc_accounts.specs.declared.book.MoneyRow.{MoneyRow}
 use Rattle.pc_accounts.specs.declared.packages.WorkRow.{WorkRow}
+use Rattle.pc_cards.specs.declared.sort.Sort.TheVariants.{Plan}
 use Rattle.pc_deck.specs.Deck.{Deck}
 use Rattle.pc_deck.specs.Within.{IsWithinLimits}
 use Rattle.pc_deck.specs.declared.kinds.acct.AcctCard.{AcctCard}
@@ -18,6 +19,7 @@ use Rattle.pc_deck.specs.declared.kinds.act.ActCard.{ActCard}
 use Rattle.pc_deck.specs.declared.kinds.money.MoneyCard.{MoneyCard}
 use Rattle.pc_deck.specs.declared.kinds.status.StatusCard.{StatusCard}
 use Rattle.pc_deck.proofs.NumberLemmas.{accounts-within, acts-within, charges-within, togos-within}
+use Rattle.pc_deck.specs.Misfit.{HasNoMisfit}
 use Rattle.pc_model.specs.declared.limits.TheConstants.{MAX_COST}
 use Rattle.pc_accounts.specs.status.Statuses.{AreKnown, status_at}
 use Rattle.pc_accounts.specs.declared.status.StatusRow.{StatusRow}
@@ -25,7 +27,6 @@ use Rattle.pc_times.specs.declared.forecasts.ActState.{ActState}
 use Rattle.pc_wbs.specs.Climb.{IsLeaf}
 use Rattle.pc_project.specs.DisorderFaults.{as_of_in}
 use Rattle.pc_project.specs.Figures.{AreAccounts, AreFigures, AreStatesOf, work_rows}
-use Rattle.pc_project.specs.Misfit.{HasNoMisfit}
 use Rattle.pc_project.specs.PackageFaults.{HasNoLeafFault}
 use Rattle.pc_project.specs.Planned.{HasFigures}
 use Rattle.pc_project.specs.Project.{account_of, accounts_in, arc_of, charges_in, money_of, network_of, item_of_act, project_in}
@@ -63,13 +64,13 @@ module _ (deck : Deck) where
   status_there k inside = get_or-map (status_of deck) deck.statuses k no_status (record { activity = 0; finished = false; day = pos 0 }) inside
 
 -- the item of an activity's work is an item
-pub work_known : (deck : Deck) → HasNoMisfit deck → (a : ℕ) → a < length (work_in deck) → (work_at (work_in deck) a).item < length deck.items
+pub work_known : (deck : Deck) → HasNoMisfit Plan deck → (a : ℕ) → a < length (work_in deck) → (work_at (work_in deck) a).item < length deck.items
 work_known deck none a below =
     let inside : a < length deck.acts = omega (arith, below, length-map deck.acts (work_of deck)) in
     omega (arith, ap (λ (r : WorkRow). r.item) (work_there deck a inside), place_of-within deck none a inside)
 
 -- they are within their limits
-module _ (deck : Deck) (limits : IsWithinLimits deck) (none : HasNoMisfit deck) where
+module _ (deck : Deck) (limits : IsWithinLimits deck) (none : HasNoMisfit Plan deck) where
   pub accounts_known : (a : ℕ) → a < length (accounts_in deck) → (account_at (accounts_in deck) a).item < length (rows_of deck)
   accounts_known a below =
       let inside : a < length deck.accounts = omega (arith, below, length-map deck.accounts (account_of deck)) in

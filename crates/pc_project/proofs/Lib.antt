@@ -3,7 +3,6 @@ pub mod AnyLaws
 pub mod CardLaws
 pub mod FitLaws
 pub mod LoopLaws
-pub mod MisfitLaws
 pub mod NumberLaws
 mod PlannedLaws
 mod RangeLaws

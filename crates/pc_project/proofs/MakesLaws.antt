@@ -1,32 +1,30 @@
 -- The cards of a deck make a project exactly if no phase finds a fault.
-use Rattle.std.proofs.Common.{◌≡◌, ℕ, ◌+◌, ◌<◌, List, length, get_or, Option, Some, None, IsSome, refl, subst, inl, inr, arith}
+use Rattle.std.proofs.Common.{◌≡◌, ℕ, zero, suc, ◌+◌, ◌<◌, List, length, get_or, Option, refl, sym, ap, ◌∙◌, subst, inl, inr, arith}
 use Rattle.std.specs.Prelude.{All, ◌≤ℤ◌}
-use Rattle.std.specs.List.{Any}
 use Rattle.std.proofs.lemmas.Bool.{cases_lt}
 use Rattle.std.proofs.lemmas.Int.{ints}
 use Rattle.std.proofs.lemmas.List.{length-map}
 use Rattle.pc_crash.specs.Priced.{piece_at}
-use Rattle.pc_deck.specs.Deck.{Deck, act_codes, item_codes, named_among, number_among, resource_codes}
-use Rattle.pc_deck.specs.Target.{IsUnknown, target_codes}
+use Rattle.pc_cards.specs.declared.sort.Sort.TheVariants.{Plan}
+use Rattle.pc_deck.specs.Act.{HasActFlaw, durations, same_events}
+use Rattle.pc_deck.specs.Deck.{Deck, item_codes, list_of, number_among}
+use Rattle.pc_deck.specs.Durations.{crash_above, unordered}
+use Rattle.pc_deck.specs.Kinds.{CardOf, entry_of, kinds_of}
+use Rattle.pc_deck.specs.Misfit.{AreThere, HasNoMisfit, names_of}
 use Rattle.pc_deck.specs.declared.kinds.acct.AcctCard.{AcctCard}
 use Rattle.pc_deck.specs.declared.kinds.act.ActCard.{ActCard}
 use Rattle.pc_deck.specs.declared.kinds.as_of.AsOfCard.{AsOfCard}
-use Rattle.pc_deck.specs.declared.kinds.load.LoadCard.{LoadCard}
-use Rattle.pc_deck.specs.declared.kinds.money.MoneyCard.{MoneyCard}
-use Rattle.pc_deck.specs.declared.kinds.piece.PieceCard.{PieceCard}
-use Rattle.pc_deck.specs.declared.kinds.status.StatusCard.{StatusCard}
-use Rattle.pc_deck.specs.declared.kinds.wbs.ItemCard.{ItemCard}
+use Rattle.pc_deck.specs.declared.kinds.project.ProjectCard.{ProjectCard}
+use Rattle.pc_deck.proofs.MisfitLaws.{all_named, at_each, none_unknown}
 use Rattle.pc_faults.specs.declared.fault.Fault.{Fault}
-use Rattle.pc_faults.specs.declared.target.Target.{Target}
-use Rattle.pc_faults.specs.declared.target.Target.TheVariants.{Item, Account, Activity}
+use Rattle.pc_faults.specs.declared.kind.Kind.{Kind}
+use Rattle.pc_faults.specs.declared.kind.Kind.TheVariants.{Act, Project}
 use Rattle.pc_model.specs.declared.limits.TheConstants.{MAX_PIECES_EACH}
 use Rattle.pc_model.specs.Pieces.{slope_in, units_of}
 use Rattle.pc_model.specs.Schedule.{term_at}
 use Rattle.pc_wbs.specs.Climb.{IsLeaf}
 use Rattle.pc_project.specs.DisorderFaults.{HasDisorder, of_as_of, of_status}
 use Rattle.pc_project.specs.Makes.{AreSoundCards, IsFlawless, IsSoundAct, MakesProject}
-use Rattle.pc_project.specs.Misfit.{HasActFault, HasFigureFault, HasItemFault, HasListedFault, HasLoadFault, HasNoMisfit, HasProjectFault, listed, figure}
-use Rattle.pc_project.specs.Misfit as has
 use Rattle.pc_project.specs.PackageFaults.{HasLeafFault, of_account, of_act}
 use Rattle.pc_project.specs.PieceFaults.{HasNoPieceFault, HasPieceFault, none_left, not_rising, one_too_many, pieces_before}
 use Rattle.pc_project.specs.Project.{as_of_day, piece_of, pieces_in, rows_of, status_of, terms_in}
@@ -34,25 +32,12 @@ use Rattle.pc_project.specs.Refusal.{HasNoFault}
 use Rattle.pc_project.specs.TermsFaults.{HasTermsFault, bonus_above}
 use Rattle.pc_project.proofs.BranchLaws.{account_on_leaf, act_on_leaf}
 use Rattle.pc_project.proofs.DisorderLaws.{all_in_order, as_of-late}
-use Rattle.pc_project.proofs.FitLaws.{Any-at, all_fit, all_known, has_ends, known_target, load_activity, load_resource}
+use Rattle.pc_project.proofs.FitLaws.{all_fit, ends_apart}
 
 -- ---- no fault is found, so each part is sound
 
-sound_cards : (deck : Deck) → HasNoMisfit deck → AreSoundCards deck
-sound_cards deck none = record {
-  ends = has_ends deck none;
-  items = λ i d within code there.
-      known_target deck Item (get_or deck.items i d).row code
-      (λ fault is. none fault (listed (has.item (Any-at (λ card. HasItemFault deck card fault) deck.items i d within (has.unknown_parent code there is)))));
-  acts = all_fit deck none;
-  pieces = all_known deck Activity (λ (card : PieceCard). card.row) (λ card. card.activity) deck.pieces (λ fault h. none fault (listed (has.piece h)));
-  loads = load_activity deck none;
-  resources = load_resource deck none;
-  accounts = all_known deck Item (λ (card : AcctCard). card.row) (λ card. card.item) deck.accounts (λ fault h. none fault (listed (figure (has.account h))));
-  charges = all_known deck Account (λ (card : MoneyCard). card.row) (λ card. card.account) deck.charges (λ fault h. none fault (listed (figure (has.charge h))));
-  togos = all_known deck Account (λ (card : MoneyCard). card.row) (λ card. card.account) deck.togos (λ fault h. none fault (listed (figure (has.togo h))));
-  statuses = all_known deck Activity (λ (card : StatusCard). card.row) (λ card. card.activity) deck.statuses (λ fault h. none fault (listed (figure (has.status h))));
-}
+sound_cards : (deck : Deck) → HasNoMisfit Plan deck → AreSoundCards deck
+sound_cards deck none = record { named = λ n d within. all_named Plan deck none n d within; apart = ends_apart deck none; acts = all_fit deck none }
 
 -- no piece of a deck without faults of pieces has a flaw
 pub flawless : (deck : Deck) → HasNoPieceFault deck → (i : ℕ) → i < length (pieces_in deck) → IsFlawless (terms_in deck) (pieces_in deck) i
@@ -86,59 +71,29 @@ makes_project deck none = record {
 
 -- ---- each part is sound, so no fault is found
 
--- what is there is not missing
-missing : (o : Option ℕ) → IsSome o → o ≡ None → ⊥
-missing None some none = let some' = some in cc
-missing (Some n) some none = let none' = none in cc
-
--- what holds of all elements holds of each
-at_each : {X : Type 0} (P : X → Type 0) (xs : List X) → All P xs → (k : ℕ) (x : X) → k < length xs → get_or xs k x ≡ x → P x
-at_each P xs all k x within at = subst P at (all k x within)
-
 module _ (deck : Deck) (sound : AreSoundCards deck) where
-  -- what each card of a list names is there, so none has a fault by its name
-  all_there : {C : Type 0} (target : Target) (row : C → ℕ) (code : C → List ℕ) (cards : List C) → All (λ card. IsSome (named_among (target_codes deck target) (code card))) cards →
-      (fault : Fault) → Any (λ card. IsUnknown deck target (row card) (code card) fault) cards → ⊥
-  all_there target row code cards known fault (k, card, within, at, is) =
-      missing _ (at_each (λ c. IsSome (named_among (target_codes deck target) (code c))) cards known k card within at) is.missing
+  no_act_flaw : (card : ActCard) → IsSoundAct card → (fault : Fault) → HasActFlaw card fault → ⊥
+  no_act_flaw card fit fault (same_events same is) = fit.apart same
+  no_act_flaw card fit fault (durations (unordered not is)) = not fit.ordered
+  no_act_flaw card fit fault (durations (crash_above above is)) = omega (arith, above, fit.durations)
 
-  no_project_fault : (fault : Fault) → HasProjectFault deck deck.project fault → ⊥
-  no_project_fault fault (has.unknown_start is) = missing _ sound.ends.starts is.missing
-  no_project_fault fault (has.unknown_end known is) = missing _ sound.ends.ends is.missing
-  no_project_fault fault (has.same_ends same is) = sound.ends.apart same
+  -- a card whose names are there has no fault unless it is wrong by itself
+  no_flaw : (kind : Kind) (i : ℕ) (card : CardOf kind) → i < length (list_of deck kind) → get_or (list_of deck kind) i card ≡ card →
+      (fault : Fault) → (entry_of kind).flaws Plan card fault → ⊥
+  no_flaw Project zero card within at fault h = sound.apart (ap (λ (c : ProjectCard). c.start) at ∙ (h.0 ∙ sym (ap (λ (c : ProjectCard). c.end) at)))
+  no_flaw Project (suc i) card within at fault h = omega (arith, within)
+  no_flaw Act i card within at fault h = no_act_flaw card (at_each IsSoundAct deck.acts sound.acts i card within at) fault h
+  no_flaw other i card within at fault h = absurd (let h' = h in h')
 
-  no_act_fault : (card : ActCard) → IsSoundAct deck card → (fault : Fault) → HasActFault deck card fault → ⊥
-  no_act_fault card fit fault (has.unknown_from is) = missing _ fit.begins is.missing
-  no_act_fault card fit fault (has.unknown_to known is) = missing _ fit.ends is.missing
-  no_act_fault card fit fault (has.unknown_item is) = missing _ fit.placed is.missing
-  no_act_fault card fit fault (has.same_events same is) = fit.apart same
-  no_act_fault card fit fault (has.unordered not is) = not fit.ordered
-  no_act_fault card fit fault (has.crash_above above is) = omega (arith, above, fit.durations)
+  abbrev AreNamed : Kind → Type 0
+  AreNamed kind = All (λ card. AreThere deck (names_of Plan kind card)) (list_of deck kind)
 
-  no_load_fault : (card : LoadCard) → IsSome (named_among (act_codes deck) card.activity) → IsSome (named_among (resource_codes deck) card.resource)
-      → (fault : Fault) → HasLoadFault deck Activity card fault → ⊥
-  no_load_fault card known there fault (has.unknown_work is) = missing _ known is.missing
-  no_load_fault card known there fault (has.unknown_resource is) = missing _ there is.missing
-
-  no_figure_fault : (fault : Fault) → HasFigureFault deck fault → ⊥
-  no_figure_fault fault (has.account any) = all_there Item (λ (card : AcctCard). card.row) (λ card. card.item) deck.accounts sound.accounts fault any
-  no_figure_fault fault (has.charge any) = all_there Account (λ (card : MoneyCard). card.row) (λ card. card.account) deck.charges sound.charges fault any
-  no_figure_fault fault (has.togo any) = all_there Account (λ (card : MoneyCard). card.row) (λ card. card.account) deck.togos sound.togos fault any
-  no_figure_fault fault (has.status any) = all_there Activity (λ (card : StatusCard). card.row) (λ card. card.activity) deck.statuses sound.statuses fault any
-
-  no_listed_fault : (fault : Fault) → HasListedFault deck fault → ⊥
-  no_listed_fault fault (has.item (k, card, within, at, has.unknown_parent code there is)) =
-      missing _ (at_each (λ (c : ItemCard). (code : List ℕ) → c.parent ≡ Some code → IsSome (named_among (item_codes deck) code)) deck.items sound.items k card within at code there) is.missing
-  no_listed_fault fault (has.act (k, card, within, at, here)) = no_act_fault card (at_each (IsSoundAct deck) deck.acts sound.acts k card within at) fault here
-  no_listed_fault fault (has.piece any) = all_there Activity (λ (card : PieceCard). card.row) (λ card. card.activity) deck.pieces sound.pieces fault any
-  no_listed_fault fault (has.load (k, card, within, at, here)) =
-      no_load_fault card (at_each (λ (c : LoadCard). IsSome (named_among (act_codes deck) c.activity)) deck.loads sound.loads k card within at)
-      (at_each (λ (c : LoadCard). IsSome (named_among (resource_codes deck) c.resource)) deck.loads sound.resources k card within at) fault here
-  no_listed_fault fault (has.figure here) = no_figure_fault fault here
-
-  pub no_misfit : HasNoMisfit deck
-  no_misfit fault (has.project here) = no_project_fault fault here
-  no_misfit fault (has.listed here) = no_listed_fault fault here
+  pub no_misfit : HasNoMisfit Plan deck
+  no_misfit fault (k, kind, within, at, (i, card, inside, at_card, inl unknown)) =
+      let there = at_each AreNamed (kinds_of Plan) sound.named k kind within at in
+      none_unknown deck ((entry_of kind).row card) (names_of Plan kind card)
+      (at_each (λ card. AreThere deck (names_of Plan kind card)) (list_of deck kind) there i card inside at_card) fault unknown
+  no_misfit fault (k, kind, within, at, (i, card, inside, at_card, inr flaw)) = no_flaw kind i card inside at_card fault flaw
 
 module _ (deck : Deck) (makes : MakesProject deck) where
   no_leaf_fault : (fault : Fault) → HasLeafFault deck fault → ⊥

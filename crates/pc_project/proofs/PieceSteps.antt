@@ -9,15 +9,16 @@ use Rattle.pc_model.specs.declared.limits.TheConstants.{MAX_DURATION}
 use Rattle.pc_model.specs.Pieces.{slope_in, units_of}
 use Rattle.pc_model.specs.Schedule.{term_at}
 use Rattle.pc_crash.specs.Priced.{piece_at}
+use Rattle.pc_cards.specs.declared.sort.Sort.TheVariants.{Plan}
 use Rattle.pc_deck.specs.Deck.{Deck}
 use Rattle.pc_deck.specs.Within.{IsWithinLimits}
 use Rattle.pc_deck.specs.declared.kinds.piece.PieceCard.{PieceCard}
 use Rattle.pc_deck.proofs.NumberLemmas.{acts-within, pieces-within}
+use Rattle.pc_deck.specs.Misfit.{HasNoMisfit}
 use Rattle.pc_faults.specs.declared.kind.Kind.TheVariants.{Piece}
 use Rattle.pc_faults.specs.declared.fault.Fault.{Fault}
 use Rattle.pc_project.specs.declared.pieces.Run.{Run}
 use Rattle.pc_faults.specs.inside.First.{IsFirstIn}
-use Rattle.pc_project.specs.Misfit.{HasNoMisfit}
 use Rattle.pc_project.specs.PieceFaults.{HasFlaw, HasPieceFaultAt, pieces_before}
 use Rattle.pc_project.specs.Project.{piece_of, pieces_in, term_of, terms_in}
 use Rattle.pc_project.proofs.RunLaws.{AreRuns, IsRunOf}
@@ -25,7 +26,7 @@ use Rattle.pc_project.specs.inside.Runs.{HasFlawBehind, IsNext, run_at}
 use Rattle.pc_project.proofs.FitLaws.{no_act, piece_activity-within}
 use Rattle.pc_project.proofs.PlannedLaws.{no_piece, piece_there}
 
-module _ (deck : Deck) (none : HasNoMisfit deck) (limits : IsWithinLimits deck) (i : ℕ) (inside : i < length deck.pieces) where
+module _ (deck : Deck) (none : HasNoMisfit Plan deck) (limits : IsWithinLimits deck) (i : ℕ) (inside : i < length deck.pieces) where
   abbrev piece : PieceRow
   piece = piece_at (pieces_in deck) i
 

@@ -17,6 +17,7 @@ use Rattle.pc_accounts.specs.declared.book.Entry.{Entry}
 use Rattle.pc_times.proofs.EstimateLaws.{variance_small}
 use Rattle.pc_times.specs.Times.{AreLengths}
 use Rattle.pc_times.specs.declared.forecasts.ActState.{ActState}
+use Rattle.pc_cards.specs.declared.sort.Sort.TheVariants.{Plan}
 use Rattle.pc_deck.specs.declared.kinds.act.ActCard.{ActCard}
 use Rattle.pc_deck.specs.declared.kinds.load.LoadCard.{LoadCard}
 use Rattle.pc_deck.specs.declared.kinds.piece.PieceCard.{PieceCard}
@@ -24,12 +25,12 @@ use Rattle.pc_deck.specs.declared.kinds.terms.TermsCard.{TermsCard}
 use Rattle.pc_deck.specs.Deck.{Deck}
 use Rattle.pc_deck.proofs.NumberLemmas.{AreTermsWithin, acts-within, loads-within, pieces-within, project-within, terms-within}
 use Rattle.pc_deck.specs.Within.{IsWithinLimits}
+use Rattle.pc_deck.specs.Misfit.{HasNoMisfit}
 use Rattle.pc_project.specs.Project.{accounts_in, arc_of, expected_of, item_of_act, load_of, network_of, piece_of, pieces_in, project_in}
 use Rattle.pc_project.specs.Project.{row_of, rows_of, term_of, terms_in, time_terms_of, variance_in}
 use Rattle.pc_project.specs.declared.project.Project.TheInside.{Inside}
 use Rattle.pc_project.specs.inside.Numbered.{AreProjectLists}
 use Rattle.pc_project.specs.inside.Parts.{project_from}
-use Rattle.pc_project.specs.Misfit.{HasNoMisfit}
 use Rattle.pc_project.specs.declared.placed.LoadItem.{LoadItem}
 use Rattle.pc_project.specs.PieceFaults.{HasNoPieceFault}
 use Rattle.pc_project.specs.TermsFaults.{HasTermsFault, bonus_above}
@@ -55,7 +56,7 @@ expected_small opt likely pess unit low high most few =
     let times : opt + 4 * likely + pess ≤ 600000 = omega arith in
     mul-le-mul times few
 
-module _ (deck : Deck) (limits : IsWithinLimits deck) (none : HasNoMisfit deck) where
+module _ (deck : Deck) (limits : IsWithinLimits deck) (none : HasNoMisfit Plan deck) where
   inside_of : {X : Type 0} (f : ActCard → X) (a : ℕ) → a < length (map f deck.acts) → a < length deck.acts
   inside_of f a below = omega (arith, below, length-map deck.acts f)
 
@@ -115,7 +116,7 @@ pub piece_there : (deck : Deck) (i : ℕ) → i < length deck.pieces → piece_a
 piece_there deck i within = get_or-map (piece_of deck) deck.pieces i no_piece (record { activity = 0; units = 0; slope = 0 }) within
 
 -- the pieces of a deck without faults
-pub pieces_of_deck : (deck : Deck) → HasNoMisfit deck → HasNoPieceFault deck → ArePieces (terms_in deck) (pieces_in deck)
+pub pieces_of_deck : (deck : Deck) → HasNoMisfit Plan deck → HasNoPieceFault deck → ArePieces (terms_in deck) (pieces_in deck)
 pieces_of_deck deck cards none =
     ArePieces-flawless (terms_in deck) (pieces_in deck)
     (λ i within.
@@ -133,7 +134,7 @@ within_pieces deck limits = record {
 }
 
 -- the loads of a deck without faults
-loads_of_deck : (deck : Deck) (entries : List Entry) (states : List ActState) → HasNoMisfit deck → IsWithinLimits deck → All (IsLoad (project_in deck entries states)) (map (load_of deck) deck.loads)
+loads_of_deck : (deck : Deck) (entries : List Entry) (states : List ActState) → HasNoMisfit Plan deck → IsWithinLimits deck → All (IsLoad (project_in deck entries states)) (map (load_of deck) deck.loads)
 loads_of_deck deck entries states cards limits =
     All-from_get_or (IsLoad (project_in deck entries states)) (map (load_of deck) deck.loads) (record { activity = 0; resource = 0; quantity = 0 }) (λ i within.
     let inside : i < length deck.loads = omega (arith, within, length-map deck.loads (load_of deck)) in

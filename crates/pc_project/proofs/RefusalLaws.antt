@@ -1,5 +1,5 @@
 -- A deck is not both a project and refused, and each refusal can be told.
-use Rattle.std.proofs.Common.{◌≡◌, ◌≢◌, ℕ, List, refl, sym, ◌∙◌, subst, ap}
+use Rattle.std.proofs.Common.{◌≡◌, ◌≢◌, ℕ, List, [], ◌∷◌, refl, sym, ◌∙◌, subst, ap, inl, inr}
 use Rattle.std.specs.Prelude.{Result, Ok, Err, IfErr, IsErrAnd}
 use Rattle.pc_wbs.specs.declared.error.TreeError.{TreeError}
 use Rattle.pc_wbs.specs.declared.error.TreeError.TheVariants as tree
@@ -9,12 +9,19 @@ use Rattle.pc_wbs.proofs.ExactLaws.{IsTree-not_refused}
 use Rattle.pc_net.specs.declared.refusal.NetError.{NetError}
 use Rattle.pc_net.specs.declared.refusal.NetError.TheVariants as net
 use Rattle.pc_net.proofs.RefusalLaws.{refused_is_not_sound}
-use Rattle.pc_deck.specs.declared.kinds.act.ActCard.{ActCard}
+use Rattle.pc_cards.specs.Entry.{Reference}
+use Rattle.pc_cards.specs.declared.sort.Sort.{Sort}
+use Rattle.pc_cards.specs.declared.sort.Sort.TheVariants.{Plan, Tasks}
 use Rattle.pc_deck.specs.declared.kinds.wbs.ItemCard.{ItemCard}
-use Rattle.pc_deck.specs.declared.kinds.load.LoadCard.{LoadCard}
-use Rattle.pc_deck.specs.declared.kinds.project.ProjectCard.{ProjectCard}
 use Rattle.pc_deck.specs.Deck.{Deck}
 use Rattle.pc_deck.specs.Target.{IsUnknown}
+use Rattle.pc_deck.specs.Act.{durations, same_events}
+use Rattle.pc_deck.specs.Durations.{HasDurationFault, crash_above, unordered}
+use Rattle.pc_deck.specs.Kinds.{CardOf, entry_of}
+use Rattle.pc_deck.specs.Misfit.{HasMisfit, HasNoMisfit, HasUnknown, names_of}
+use Rattle.pc_faults.specs.declared.kind.Kind.{Kind}
+use Rattle.pc_faults.specs.declared.kind.Kind.TheVariants as kinds
+use Rattle.pc_faults.specs.declared.kind.Kind.TheVariants.{Act, After, Project}
 use Rattle.pc_faults.specs.Faults.{unknown_name}
 use Rattle.pc_faults.specs.declared.target.Target.{Target}
 use Rattle.pc_faults.specs.declared.target.Target.TheVariants.{Event, Item, Account, Activity, Task, Resource}
@@ -25,8 +32,6 @@ use Rattle.pc_faults.specs.declared.fault.Fault.{Fault as ADeckFault}
 use Rattle.pc_faults.specs.declared.fault.DeckError.{DeckError}
 use Rattle.pc_faults.specs.declared.fault.DeckError.TheVariants.{Fault, OutOfMemory}
 use Rattle.pc_project.specs.Project.{network_of, rows_of}
-use Rattle.pc_project.specs.Misfit.{HasProjectFault, HasItemFault, HasActFault, HasLoadFault, HasFigureFault, HasListedFault, HasMisfit, HasNoMisfit}
-use Rattle.pc_project.specs.Misfit as has
 use Rattle.pc_project.specs.DisorderFaults.{HasDisorder, HasNoDisorder, of_as_of, of_status}
 use Rattle.pc_project.specs.PackageFaults.{HasLeafFault, HasNoLeafFault, IsFirstUnevenFault, of_account, of_act}
 use Rattle.pc_project.specs.ToGoFaults.{IsFirstSecondToGo}
@@ -81,45 +86,37 @@ can_tell Activity row code = refl
 can_tell Task row code = refl
 can_tell Resource row code = refl
 
-pub told_of-unknown : (deck : Deck) (target : Target) (row : ℕ) (code : List ℕ) (fault : ADeckFault) → IsUnknown deck target row code fault → IsTold fault
+told_of-unknown : (deck : Deck) (target : Target) (row : ℕ) (code : List ℕ) (fault : ADeckFault) → IsUnknown deck target row code fault → IsTold fault
 told_of-unknown deck target row code fault is = told fault _ is.told (can_tell target row code)
 
-told_of-project : (deck : Deck) (card : ProjectCard) (fault : ADeckFault) → HasProjectFault deck card fault → IsTold fault
-told_of-project deck card fault (has.unknown_start is) = told_of-unknown deck Event _ _ fault is
-told_of-project deck card fault (has.unknown_end known is) = told_of-unknown deck Event _ _ fault is
-told_of-project deck card fault (has.same_ends same is) = told fault _ is refl
+told_of-names : (deck : Deck) (row : ℕ) (names : List Reference) (fault : ADeckFault) → HasUnknown deck row names fault → IsTold fault
+told_of-names deck row [] fault h = absurd h
+told_of-names deck row (named ∷ more) fault (inl is) = told_of-unknown deck named.target row named.code fault is
+told_of-names deck row (named ∷ more) fault (inr h) = told_of-names deck row more fault h.1
 
-pub told_of-item : (deck : Deck) (card : ItemCard) (fault : ADeckFault) → HasItemFault deck card fault → IsTold fault
-told_of-item deck card fault (has.unknown_parent code there is) = told_of-unknown deck Item _ _ fault is
+told_of-durations : (row opt likely pess normal crash : ℕ) (fault : ADeckFault) → HasDurationFault row opt likely pess normal crash fault → IsTold fault
+told_of-durations row opt likely pess normal crash fault (unordered not is) = told fault _ is refl
+told_of-durations row opt likely pess normal crash fault (crash_above above is) = told fault _ is refl
 
-told_of-act : (deck : Deck) (card : ActCard) (fault : ADeckFault) → HasActFault deck card fault → IsTold fault
-told_of-act deck card fault (has.unknown_from is) = told_of-unknown deck Event _ _ fault is
-told_of-act deck card fault (has.unknown_to known is) = told_of-unknown deck Event _ _ fault is
-told_of-act deck card fault (has.unknown_item is) = told_of-unknown deck Item _ _ fault is
-told_of-act deck card fault (has.same_events same is) = told fault _ is refl
-told_of-act deck card fault (has.unordered not is) = told fault _ is refl
-told_of-act deck card fault (has.crash_above above is) = told fault _ is refl
+told_of-plan_flaw : (kind : Kind) (card : CardOf kind) (fault : ADeckFault) → (entry_of kind).flaws Plan card fault → IsTold fault
+told_of-plan_flaw Project card fault h = told fault _ h.1 refl
+told_of-plan_flaw Act card fault (same_events same is) = told fault _ is refl
+told_of-plan_flaw Act card fault (durations h) = told_of-durations _ _ _ _ _ _ fault h
+told_of-plan_flaw other card fault h = absurd (let h' = h in h')
 
-pub told_of-load : (deck : Deck) (work : Target) (card : LoadCard) (fault : ADeckFault) → HasLoadFault deck work card fault → IsTold fault
-told_of-load deck work card fault (has.unknown_work is) = told_of-unknown deck work _ _ fault is
-told_of-load deck work card fault (has.unknown_resource is) = told_of-unknown deck Resource _ _ fault is
+told_of-task_flaw : (kind : Kind) (card : CardOf kind) (fault : ADeckFault) → (entry_of kind).flaws Tasks card fault → IsTold fault
+told_of-task_flaw Project card fault h = told fault _ h.1 refl
+told_of-task_flaw kinds.Task card fault h = told_of-durations _ _ _ _ _ _ fault h
+told_of-task_flaw After card fault h = told fault _ h.1 refl
+told_of-task_flaw other card fault h = absurd (let h' = h in h')
 
-told_of-figure : (deck : Deck) (fault : ADeckFault) → HasFigureFault deck fault → IsTold fault
-told_of-figure deck fault (has.account (k, card, within, at, here)) = told_of-unknown deck Item _ _ fault here
-told_of-figure deck fault (has.charge (k, card, within, at, here)) = told_of-unknown deck Account _ _ fault here
-told_of-figure deck fault (has.togo (k, card, within, at, here)) = told_of-unknown deck Account _ _ fault here
-told_of-figure deck fault (has.status (k, card, within, at, here)) = told_of-unknown deck Activity _ _ fault here
+told_of-flaw : (sort : Sort) (kind : Kind) (card : CardOf kind) (fault : ADeckFault) → (entry_of kind).flaws sort card fault → IsTold fault
+told_of-flaw Plan kind card fault h = told_of-plan_flaw kind card fault h
+told_of-flaw Tasks kind card fault h = told_of-task_flaw kind card fault h
 
-told_of-listed : (deck : Deck) (fault : ADeckFault) → HasListedFault deck fault → IsTold fault
-told_of-listed deck fault (has.item (k, card, within, at, here)) = told_of-item deck card fault here
-told_of-listed deck fault (has.act (k, card, within, at, here)) = told_of-act deck card fault here
-told_of-listed deck fault (has.piece (k, card, within, at, here)) = told_of-unknown deck Activity _ _ fault here
-told_of-listed deck fault (has.load (k, card, within, at, here)) = told_of-load deck Activity card fault here
-told_of-listed deck fault (has.figure here) = told_of-figure deck fault here
-
-told_of-misfit : (deck : Deck) (fault : ADeckFault) → HasMisfit deck fault → IsTold fault
-told_of-misfit deck fault (has.project here) = told_of-project deck deck.project fault here
-told_of-misfit deck fault (has.listed here) = told_of-listed deck fault here
+pub told_of-misfit : (sort : Sort) (deck : Deck) (fault : ADeckFault) → HasMisfit sort deck fault → IsTold fault
+told_of-misfit sort deck fault (n, kind, among, at, (k, card, within, is, inl h)) = told_of-names deck ((entry_of kind).row card) (names_of sort kind card) fault h
+told_of-misfit sort deck fault (n, kind, among, at, (k, card, within, is, inr h)) = told_of-flaw sort kind card fault h
 
 told_of-leaf : (deck : Deck) (fault : ADeckFault) → HasLeafFault deck fault → IsTold fault
 told_of-leaf deck fault (of_act (k, card, within, at, (branch, is))) = told fault _ is refl
@@ -166,7 +163,7 @@ told_of-net deck net.OutOfMemory fault is = absurd (no_fault fault is)
 
 -- the fault with which a deck is refused has a line
 pub told_of-refused : (deck : Deck) (fault : ADeckFault) → IsRefusedWith deck fault → IsTold fault
-told_of-refused deck fault (of_cards first) = told_of-misfit deck fault first.holds
+told_of-refused deck fault (of_cards first) = told_of-misfit Plan deck fault first.holds
 told_of-refused deck fault (of_tree cards at) = told_of-tree deck.items (rows_of deck) fault at
 told_of-refused deck fault (of_network cards items e refused is) = told_of-net deck e fault is
 told_of-refused deck fault (of_leaves plan first) = told_of-leaf deck fault first.holds
@@ -182,7 +179,7 @@ handed_on P (Ok value) error is has = tt
 handed_on P (Err e) error is has = subst P (sym is) has
 
 -- what a refusal that is told as one of the tree says
-pub refused_by_tree : (deck : Deck) (result : DeckError) → HasNoMisfit deck → Refuses (IsTreeFault deck.items (rows_of deck)) result → Refuses (IsRefusedWith deck) result
+pub refused_by_tree : (deck : Deck) (result : DeckError) → HasNoMisfit Plan deck → Refuses (IsTreeFault deck.items (rows_of deck)) result → Refuses (IsRefusedWith deck) result
 refused_by_tree deck (Fault fault) cards at = of_tree cards at
 refused_by_tree deck OutOfMemory cards at = tt
 

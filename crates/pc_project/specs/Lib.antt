@@ -1,7 +1,7 @@
 pub mod Project
+pub mod After
 pub mod Records
 pub mod Figures
-pub mod Misfit
 pub mod PackageFaults
 pub mod DisorderFaults
 pub mod ToGoFaults

@@ -1,6 +1,6 @@
 -- When the cards of a deck make a project, whatever a fault is called. The law `projects_have_no_fault` says that this is so exactly
 -- if the deck has none of the faults F13 to F31, F33 to F36 and F41.
-use Rattle.std.specs.Prelude.{◌≡◌, ◌≢◌, ℕ, ◌+◌, ◌<◌, ◌≤◌, ◌≤ℤ◌, List, length, All, IsSome, Some}
+use Rattle.std.specs.Prelude.{◌≡◌, ◌≢◌, ℕ, ◌+◌, ◌<◌, ◌≤◌, ◌≤ℤ◌, List, length, All, Some}
 use Rattle.pc_model.specs.declared.PieceRow.{PieceRow}
 use Rattle.pc_model.specs.declared.Term.{Term}
 use Rattle.pc_model.specs.declared.limits.TheConstants.{MAX_PIECES_EACH}
@@ -10,42 +10,29 @@ use Rattle.pc_model.specs.Schedule.{term_at}
 use Rattle.pc_crash.specs.Priced.{piece_at}
 use Rattle.pc_wbs.specs.Climb.{IsLeaf, IsTree}
 use Rattle.pc_accounts.specs.status.Statuses.{AreInOrder}
-use Rattle.pc_deck.specs.Deck.{Deck, account_codes, act_codes, event_codes, item_codes, named_among, number_among, resource_codes}
+use Rattle.pc_cards.specs.declared.sort.Sort.TheVariants.{Plan}
+use Rattle.pc_deck.specs.Deck.{Deck, item_codes, list_of, number_among}
+use Rattle.pc_deck.specs.Durations.{HasOrderedEstimates}
+use Rattle.pc_deck.specs.Kinds.{kinds_of}
+use Rattle.pc_deck.specs.Misfit.{AreThere, names_of}
 use Rattle.pc_deck.specs.declared.kinds.act.ActCard.{ActCard}
 use Rattle.pc_deck.specs.declared.kinds.terms.TermsCard.{TermsCard}
 use Rattle.pc_project.specs.DisorderFaults.{as_of_in}
-use Rattle.pc_project.specs.Misfit.{HasOrderedEstimates}
 use Rattle.pc_project.specs.PieceFaults.{pieces_before}
 use Rattle.pc_project.specs.Project.{network_of, pieces_in, rows_of, statuses_in, terms_in}
 use Rattle.pc_project.specs.Refusal.{HasNoSecondToGo, IsEven}
 
--- the start and the end are two events
-pub record HasProjectEnds (deck : Deck) : Type 0 where
-  pub starts : IsSome (named_among (event_codes deck) deck.project.start)
-  pub ends : IsSome (named_among (event_codes deck) deck.project.end)
-  pub apart : deck.project.start ≢ deck.project.end
-
--- the activity leads from one event to another and is on an item, and its numbers are in order
-pub record IsSoundAct (deck : Deck) (card : ActCard) : Type 0 where
-  pub begins : IsSome (named_among (event_codes deck) card.from)
-  pub ends : IsSome (named_among (event_codes deck) card.to)
-  pub placed : IsSome (named_among (item_codes deck) card.item)
+-- the activity leads from one event to another one, and its numbers are in order
+pub record IsSoundAct (card : ActCard) : Type 0 where
   pub apart : card.from ≢ card.to
-  pub ordered : HasOrderedEstimates card
+  pub ordered : HasOrderedEstimates card.opt card.likely card.pess
   pub durations : card.crash ≤ card.normal
 
--- what each card names is there, and the numbers of activities are in order
+-- what each card names is there, the start and the end are two events, and the numbers of activities are in order
 pub record AreSoundCards (deck : Deck) : Type 0 where
-  pub ends : HasProjectEnds deck
-  pub items : All (λ item. (code : List ℕ) → item.parent ≡ Some code → IsSome (named_among (item_codes deck) code)) deck.items
-  pub acts : All (IsSoundAct deck) deck.acts
-  pub pieces : All (λ piece. IsSome (named_among (act_codes deck) piece.activity)) deck.pieces
-  pub loads : All (λ load. IsSome (named_among (act_codes deck) load.activity)) deck.loads
-  pub resources : All (λ load. IsSome (named_among (resource_codes deck) load.resource)) deck.loads
-  pub accounts : All (λ account. IsSome (named_among (item_codes deck) account.item)) deck.accounts
-  pub charges : All (λ charge. IsSome (named_among (account_codes deck) charge.account)) deck.charges
-  pub togos : All (λ togo. IsSome (named_among (account_codes deck) togo.account)) deck.togos
-  pub statuses : All (λ status. IsSome (named_among (act_codes deck) status.activity)) deck.statuses
+  pub named : All (λ kind. All (λ card. AreThere deck (names_of Plan kind card)) (list_of deck kind)) (kinds_of Plan)
+  pub apart : deck.project.start ≢ deck.project.end
+  pub acts : All IsSoundAct deck.acts
 
 -- the i-th piece is not one too many of its activity, its slope is above the one before, and the pieces up to it leave units to
 -- the activity's first slope

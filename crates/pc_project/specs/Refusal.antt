@@ -16,8 +16,10 @@ use Rattle.pc_wbs.specs.declared.error.TreeError.TheVariants as tree
 use Rattle.pc_net.specs.Refusals.{IsNetError as IsNetRefusal}
 use Rattle.pc_net.specs.declared.refusal.NetError.{NetError}
 use Rattle.pc_net.specs.declared.refusal.NetError.TheVariants as net
+use Rattle.pc_cards.specs.declared.sort.Sort.TheVariants.{Plan}
 use Rattle.pc_deck.specs.Deck.{Deck, act_codes, event_codes}
 use Rattle.pc_deck.specs.declared.kinds.wbs.ItemCard.{ItemCard}
+use Rattle.pc_deck.specs.Misfit.{HasMisfit, HasNoMisfit}
 use Rattle.pc_faults.specs.First.{IsFirstFault}
 use Rattle.pc_faults.specs.Faults.{no_top, second_top, item_loop, too_deep, enters_start, leaves_end, dangling, cycle}
 use Rattle.pc_faults.specs.declared.fault.Fault.{Fault as ADeckFault}
@@ -30,7 +32,6 @@ use Rattle.pc_project.specs.Project.{accounts_in, network_of, rows_of, togos_in,
 use Rattle.pc_project.specs.Records.{act_records, codes_among, codes_at, event_records, records_among}
 use Rattle.pc_project.specs.TermsFaults.{HasTermsFault}
 use Rattle.pc_project.specs.ToGoFaults.{IsFirstSecondToGo}
-use Rattle.pc_project.specs.Misfit.{HasMisfit, HasNoMisfit}
 
 -- the fault that reports a refusal of the tree of these items; its record is the card of the item that it names first
 abbrev pub tree_fault : List ItemCard → TreeError → DeckError
@@ -56,7 +57,7 @@ net_fault deck net.OutOfMemory = OutOfMemory
 
 -- the items are a tree and the network is sound, and no card by itself is wrong
 pub record HasSoundPlan (deck : Deck) : Type 0 where
-  pub cards : HasNoMisfit deck
+  pub cards : HasNoMisfit Plan deck
   pub tree : IsTree (rows_of deck)
   pub sound : IsSound (network_of deck)
 
@@ -79,7 +80,7 @@ pub record HasSoundFigures (deck : Deck) : Type 0 where
 -- no phase finds a fault: no card has one, the items are a tree, the network is sound, activities and accounts are on leaves, packages
 -- are even, statuses and as-of are in order, no amount to go is a second one, no piece has a fault, and the terms of time have none
 pub record HasNoFault (deck : Deck) : Type 0 where
-  pub cards : HasNoMisfit deck
+  pub cards : HasNoMisfit Plan deck
   pub tree : IsTree (rows_of deck)
   pub sound : IsSound (network_of deck)
   pub figures : HasSoundFigures deck
@@ -89,11 +90,11 @@ pub record HasNoFault (deck : Deck) : Type 0 where
 -- the fault with which a deck is refused if its cards make no project; a phase counts only if no phase before it has a fault
 pub data IsRefusedWith (deck : Deck) (fault : ADeckFault) : Type 0 where
   -- F13 to F19, F41: a card names what is not there, or its numbers are out of order
-  of_cards : IsFirstFault (HasMisfit deck) fault → IsRefusedWith deck fault
+  of_cards : IsFirstFault (HasMisfit Plan deck) fault → IsRefusedWith deck fault
   -- F20 to F23: the items are no tree
-  of_tree : HasNoMisfit deck → IsTreeFault deck.items (rows_of deck) fault → IsRefusedWith deck fault
+  of_tree : HasNoMisfit Plan deck → IsTreeFault deck.items (rows_of deck) fault → IsRefusedWith deck fault
   -- F24 to F27: the network is not sound
-  of_network : HasNoMisfit deck → IsTree (rows_of deck) → (e : NetError) → IsNetRefusal (network_of deck) e → net_fault deck e ≡ Fault fault → IsRefusedWith deck fault
+  of_network : HasNoMisfit Plan deck → IsTree (rows_of deck) → (e : NetError) → IsNetRefusal (network_of deck) e → net_fault deck e ≡ Fault fault → IsRefusedWith deck fault
   -- F28: an activity or an account is on an item that has items below it
   of_leaves : HasSoundPlan deck → IsFirstFault (HasLeafFault deck) fault → IsRefusedWith deck fault
   -- F29: a package has budgets that are not the costs of its activities

@@ -1,5 +1,6 @@
 -- What contracts within and between crates speak of besides what the clauses of the top calls and the laws reach.
 pub mod Project
+pub mod Placed
 pub mod Kept
 pub mod Refusal
 pub mod Numbered

@@ -2,10 +2,11 @@
 ghost use Rattle.std.specs.Prelude.{◌≡◌, ◌<◌, IfErr, OnOk, length, map};
 ghost use Rattle.std.specs.List.{Any};
 ghost use Rattle.pc_wbs.specs.Climb.{IsLeaf};
+ghost use Rattle.pc_cards.specs.declared.sort.Sort.TheVariants.{Plan};
+ghost use Rattle.pc_deck.specs.Misfit.{HasNoMisfit};
 ghost use Rattle.pc_faults.specs.Faults.{not_a_leaf};
 ghost use Rattle.pc_faults.specs.First.{IsFirstFault};
 ghost use Rattle.pc_faults.specs.inside.First.{IsFirstIn, Refuses};
-ghost use Rattle.pc_project.specs.Misfit.{HasNoMisfit};
 ghost use Rattle.pc_project.specs.inside.Numbered.{AreNumbersOf};
 ghost use Rattle.pc_project.specs.PackageFaults.{HasLeafFault, HasNoLeafFault, StandsOnBranch};
 ghost use Rattle.pc_project.specs.Project.{accounts_in, rows_of};
@@ -40,7 +41,7 @@ pub(crate) fn check_leaves(cards: &Cards, numbers: &Numbers, tree: &Tree) -> Res
 }
 
 fn act_fault(cards: &Cards, placements: &[Placement], tree: &Tree) -> Option<Fault>
-    requires faultless { HasNoMisfit cards.now }
+    requires faultless { HasNoMisfit Plan cards.now }
     requires placements { placements.now ≡ map (placement_of cards.now) cards.now.acts }
     requires tree { tree.now ≡ rows_of cards.now }
     ensures { IsFirstIn (λ fault. Any (λ act. StandsOnBranch cards.now act.row act.item fault) cards.now.acts) result }
@@ -56,7 +57,7 @@ fn act_fault(cards: &Cards, placements: &[Placement], tree: &Tree) -> Option<Fau
 }
 
 fn account_fault(cards: &Cards, accounts: &[AcctRow], tree: &Tree) -> Option<Fault>
-    requires faultless { HasNoMisfit cards.now }
+    requires faultless { HasNoMisfit Plan cards.now }
     requires accounts { accounts.now ≡ accounts_in cards.now }
     requires tree { tree.now ≡ rows_of cards.now }
     ensures { IsFirstIn (λ fault. Any

@@ -3,7 +3,7 @@ ghost use Rattle.std.specs.Prelude.{◌≡◌, ◌≤◌, All, map, IfOk};
 ghost use Rattle.pc_model.specs.declared.limits.TheConstants.{MAX_UNIT_DAYS};
 ghost use Rattle.pc_times.specs.Estimates.{expected_time, variance_of};
 ghost use Rattle.pc_deck.specs.inside.Act.{IsActWithin};
-ghost use Rattle.pc_project.specs.Misfit.{HasOrderedEstimates};
+ghost use Rattle.pc_deck.specs.Durations.{HasOrderedEstimates};
 ghost use Rattle.pc_project.specs.Project.{term_of};
 
 use crate::placed::Placement;
@@ -53,7 +53,7 @@ pub(crate) fn expected_times(
     unit_days: u64,
 ) -> Result<Vec<u64>, AllocError>
     requires unit { unit_days ≤ MAX_UNIT_DAYS }
-    requires ordered { All HasOrderedEstimates acts.now }
+    requires ordered { All (λ act. HasOrderedEstimates act.opt act.likely act.pess) acts.now }
     requires within { All IsActWithin acts.now }
     ensures { IfOk result (λ times. times.items
         ≡ map (λ act. expected_time act.opt act.likely act.pess unit_days) acts.now) }
@@ -72,7 +72,7 @@ pub(crate) fn variances(
     unit_days: u64,
 ) -> Result<Vec<u64>, AllocError>
     requires unit { unit_days ≤ MAX_UNIT_DAYS }
-    requires ordered { All HasOrderedEstimates acts.now }
+    requires ordered { All (λ act. HasOrderedEstimates act.opt act.likely act.pess) acts.now }
     requires within { All IsActWithin acts.now }
     ensures { IfOk result (λ variances. variances.items
         ≡ map (λ act. variance_of act.opt act.pess unit_days) acts.now) }

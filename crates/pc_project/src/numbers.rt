@@ -1,13 +1,14 @@
 //! The numbers of everything that the cards name, or the first fault of any card.
 ghost use Rattle.std.specs.Prelude.{◌≡◌, None, IfOk, IfErr, OnOk, []};
+ghost use Rattle.pc_cards.specs.declared.sort.Sort.TheVariants.{Plan};
 ghost use Rattle.pc_deck.specs.Within.{IsWithinLimits};
+ghost use Rattle.pc_deck.specs.Misfit.{HasMisfit};
 ghost use Rattle.pc_faults.specs.First.{IsFirstFault};
 ghost use Rattle.pc_faults.specs.inside.First.{IsFirstIn, Refuses};
-ghost use Rattle.pc_project.specs.Misfit.{HasListedFault, HasMisfit};
-ghost use Rattle.pc_project.specs.inside.Numbered.{AreListsOf, AreNumbersOf};
+ghost use Rattle.pc_project.specs.inside.Numbered.{AreListsOf, AreNumbersOf, HasListedFault};
 
 use crate::placed::{LoadItem, Placement, ends_of};
-use crate::refers::look_up_all;
+use crate::refers::{first_of_further, look_up_all};
 use pc_accounts::status::StatusRow;
 use pc_accounts::{AcctRow, MoneyRow};
 use pc_deck::Cards;
@@ -39,7 +40,7 @@ pub(crate) struct Numbers {
 /// The first fault of any card (F13 to F19, F41), or out of memory.
 pub(crate) fn numbers_of(alloc: Global, cards: &Cards) -> Result<Numbers, DeckError>
     ensures numbers { IfOk result (AreNumbersOf cards.now) }
-    ensures first { IfErr result (Refuses (IsFirstFault (HasMisfit cards.now))) }
+    ensures first { IfErr result (Refuses (IsFirstFault (HasMisfit Plan cards.now))) }
 {
     let mut numbers = Numbers {
         start: 0,
@@ -90,12 +91,8 @@ impl Numbers {
         let charge = look_up_all(cards, cards.charges(), &mut self.charges)?;
         let togo = look_up_all(cards, cards.togos(), &mut self.togos)?;
         let status = look_up_all(cards, cards.statuses(), &mut self.statuses)?;
-        let of_acts = earliest(item, act);
-        let of_parts = earliest(piece, load);
-        let of_spent = earliest(account, charge);
-        let of_rest = earliest(togo, status);
-        let of_plan = earliest(of_acts, of_parts);
-        let of_figures = earliest(of_spent, of_rest);
-        Ok(earliest(of_plan, of_figures))
+        let of_further = first_of_further(piece, account, charge, togo, status, load);
+        let of_works = earliest(act, of_further);
+        Ok(earliest(item, of_works))
     }
 }

@@ -1,8 +1,9 @@
 //! Whether the budgets of each package are the costs of its activities.
 ghost use Rattle.std.specs.Prelude.{◌≡◌, map, IfOk, IfErr, OnOk};
 ghost use Rattle.pc_accounts.specs.inside.Packages.{IsFirstUneven};
+ghost use Rattle.pc_cards.specs.declared.sort.Sort.TheVariants.{Plan};
+ghost use Rattle.pc_deck.specs.Misfit.{HasNoMisfit};
 ghost use Rattle.pc_faults.specs.inside.First.{Refuses};
-ghost use Rattle.pc_project.specs.Misfit.{HasNoMisfit};
 ghost use Rattle.pc_project.specs.inside.Numbered.{AreNumbersOf};
 ghost use Rattle.pc_project.specs.PackageFaults.{IsFirstUnevenFault};
 ghost use Rattle.pc_project.specs.Project.{accounts_in, rows_of, work_in};
@@ -39,7 +40,7 @@ pub(crate) fn check_packages(
 
 /// Returns the fault that reports an uneven package.
 fn fault_of(cards: &Cards, uneven: Uneven) -> DeckError
-    requires faultless { HasNoMisfit cards.now }
+    requires faultless { HasNoMisfit Plan cards.now }
     requires first { IsFirstUneven (accounts_in cards.now) (work_in cards.now) uneven }
     ensures { Refuses (IsFirstUnevenFault cards.now) result }
 {

@@ -1,8 +1,9 @@
 //! Whether the pieces of the activities' costs have a fault.
 ghost use Rattle.std.specs.Prelude.{◌≡◌, ◌+◌, ◌^◌, ◌<◌, IfOk, IfErr, OnOk, map, slice_set};
+ghost use Rattle.pc_cards.specs.declared.sort.Sort.TheVariants.{Plan};
+ghost use Rattle.pc_deck.specs.Misfit.{HasNoMisfit};
 ghost use Rattle.pc_faults.specs.First.{IsFirstFault};
 ghost use Rattle.pc_faults.specs.inside.First.{IsFirstIn, Refuses};
-ghost use Rattle.pc_project.specs.Misfit.{HasNoMisfit};
 ghost use Rattle.pc_project.specs.PieceFaults.{HasFlaw, HasNoPieceFault, HasPieceFault};
 ghost use Rattle.pc_project.specs.Project.{pieces_in, term_of};
 ghost use Rattle.pc_project.specs.inside.Runs.{HasFlawBehind, IsNext, run_at, run_with};
@@ -31,7 +32,7 @@ pub(crate) fn check_pieces(
     pieces: &[PieceRow],
 ) -> Result<(), DeckError>
     requires numbers { pieces.now ≡ pieces_in cards.now }
-    requires faultless { HasNoMisfit cards.now }
+    requires faultless { HasNoMisfit Plan cards.now }
     ensures none { OnOk result (HasNoPieceFault cards.now) }
     ensures first { IfErr result (Refuses (IsFirstFault (HasPieceFault cards.now))) }
 {

@@ -8,7 +8,7 @@ use Rattle.pc_model.specs.Network.{Network}
 use Rattle.pc_net.specs.Firmness.{IsFirm}
 use Rattle.pc_net.specs.Refusals.{IsNetError}
 use Rattle.pc_net.specs.declared.refusal.NetError.TheVariants as net
-use Rattle.pc_tasks.specs.declared.network.AfterRow.{AfterRow}
+use Rattle.pc_project.specs.declared.placed.AfterRow.{AfterRow}
 use Rattle.pc_tasks.specs.network.Arrows.{after_arc, first_arc, last_arc, last_event, task_arc, wide_arrows, wide_links}
 
 pub length-wide : (n : ℕ) (afters : List AfterRow) → length (wide_arrows n afters).arcs ≡ n + (length afters + (n + n))

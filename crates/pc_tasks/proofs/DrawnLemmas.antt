@@ -10,7 +10,8 @@ use Rattle.pc_deck.specs.declared.kinds.after.AfterCard.{AfterCard}
 use Rattle.pc_deck.specs.Deck.{Deck}
 use Rattle.pc_tasks.specs.Drawn.{arrows_deck}
 use Rattle.pc_tasks.specs.Known.{CanBeDrawn}
-use Rattle.pc_tasks.specs.Lists.{after_row, afters_in, task_pieces, task_term, task_terms}
+use Rattle.pc_project.specs.After.{after_row}
+use Rattle.pc_tasks.specs.Lists.{afters_in, task_pieces, task_term, task_terms}
 use Rattle.pc_tasks.proofs.NetworkLemmas.{network-is, task_number-within}
 use Rattle.pc_tasks.proofs.PieceLemmas.{pieces-within}
 

@@ -7,7 +7,7 @@ use Rattle.std.proofs.lemmas.List.Elements.{All-append, All-cons, All-head, All-
 use Rattle.std.proofs.lemmas.Str.{IsUtf8-nil}
 use Rattle.std.proofs.lemmas.List.{length-map}
 use Rattle.pc_tasks.specs.network.Arrows.{firsts, lasts}
-use Rattle.pc_tasks.specs.declared.network.AfterRow.{AfterRow}
+use Rattle.pc_project.specs.declared.placed.AfterRow.{AfterRow}
 use Rattle.pc_cards.specs.Forms.{Fits, is_reserved}
 use Rattle.pc_cards.specs.declared.form.FieldForm.TheVariants as form
 use Rattle.pc_cards.specs.declared.sort.Sort.TheVariants.{Plan, Tasks}
@@ -24,7 +24,8 @@ use Rattle.pc_deck.proofs.WrittenLemmas.{field-text}
 use Rattle.pc_tasks.specs.Codes.{after_code, begin_code, end_code, first_code, last_code, links_code}
 use Rattle.pc_tasks.specs.Drawn.{after_links, drawn_event, first_link, last_link, link, links_of, task_act, task_acts, task_events}
 use Rattle.pc_tasks.specs.Known.{IsKnownAfter}
-use Rattle.pc_tasks.specs.Lists.{after_row, afters_in}
+use Rattle.pc_project.specs.After.{after_row}
+use Rattle.pc_tasks.specs.Lists.{afters_in}
 use Rattle.pc_tasks.proofs.NetworkLemmas.{IsRow, firsts-below, lasts-below, rows-known}
 use Rattle.pc_tasks.proofs.SpelledLemmas.{code-text, drawn-code}
 

@@ -4,7 +4,7 @@ use Rattle.std.specs.Prelude.{◌↔◌}
 use Rattle.pc_model.specs.Cost.{IsLeastCost}
 use Rattle.pc_model.specs.Pieces.{knees_of}
 use Rattle.pc_model.specs.Schedule.{HasSchedule}
-use Rattle.pc_tasks.specs.declared.network.AfterRow.{AfterRow}
+use Rattle.pc_project.specs.declared.placed.AfterRow.{AfterRow}
 use Rattle.pc_tasks.specs.network.Tasks.{AreAmong, HasTaskSchedule, IsLeastTaskCost}
 use Rattle.pc_cards.specs.declared.sort.Sort.TheVariants.{Tasks}
 use Rattle.pc_deck.specs.Deck.{Deck}
@@ -13,12 +13,12 @@ use Rattle.pc_deck.specs.Within.{IsWithin, IsWithinLimits}
 use Rattle.pc_deck.specs.declared.kinds.act.ActCard.{ActCard}
 use Rattle.pc_deck.specs.declared.kinds.titled.TitledCard.{TitledCard}
 use Rattle.pc_deck.specs.declared.kinds.wbs.ItemCard.{ItemCard}
+use Rattle.pc_deck.specs.Misfit.{HasNoMisfit}
 use Rattle.pc_project.specs.Figures.{IsProjectOfDeck}
 use Rattle.pc_project.specs.Project.{Project, network_of, pieces_in, terms_in}
 use Rattle.pc_tasks.specs.Drawn.{arrows_deck, events_of, links_item, links_of, task_acts}
 use Rattle.pc_tasks.specs.Known.{CanBeDrawn}
 use Rattle.pc_tasks.specs.Lists.{afters_in, task_pieces, task_terms}
-use Rattle.pc_tasks.specs.Misfit.{HasNoTaskMisfit}
 use Rattle.pc_tasks.specs.Text.{KeepsTasks}
 use Rattle.pc_tasks.proofs.DrawnLemmas.{afters-among, tasks-terms}
 use Rattle.pc_tasks.proofs.KnownLemmas.{can_be_drawn}
@@ -34,7 +34,7 @@ made-drawn deck items events acts same_items same_events same_acts =
     ∙ ap (drawn_with deck (deck.items ++ links_item deck ∷ []) (events_of deck)) same_acts)
 
 pub made-within : (deck : Deck) (items : List ItemCard) (events : List TitledCard) (acts : List ActCard) → IsWithin Tasks deck →
-    HasNoTaskMisfit deck → items ≡ deck.items ++ links_item deck ∷ [] → events ≡ events_of deck →
+    HasNoMisfit Tasks deck → items ≡ deck.items ++ links_item deck ∷ [] → events ≡ events_of deck →
     acts ≡ task_acts 0 deck.tasks ++ links_of deck → IsWithinLimits (drawn_with deck items events acts)
 made-within deck items events acts within none same_items same_events same_acts =
     subst IsWithinLimits (sym (made-drawn deck items events acts same_items same_events same_acts)) (drawn-within deck within (can_be_drawn deck none within))

@@ -13,7 +13,6 @@ pub mod OnceLemmas
 pub mod FitLemmas
 pub mod WithinLemmas
 pub mod DrawLemmas
-mod MisfitLemmas
 pub mod KnownLemmas
 pub mod KeepLemmas
 pub mod PhaseLemmas

@@ -7,7 +7,7 @@ use Rattle.std.proofs.lemmas.List.Elements.{All-filter, All-from_get_or, All-hea
 use Rattle.std.proofs.lemmas.List.FromFn.{get_or-range_with_len, length-range_with_len}
 use Rattle.pc_model.specs.declared.Arc.{Arc}
 use Rattle.pc_model.specs.Network.{Network}
-use Rattle.pc_tasks.specs.declared.network.AfterRow.{AfterRow}
+use Rattle.pc_project.specs.declared.placed.AfterRow.{AfterRow}
 use Rattle.pc_tasks.specs.network.Arrows.{after_arc, arrows, begin_event, comes_after, comes_before, end_event, first_arc, firsts, last_arc, last_event, lasts, links, task_arc}
 use Rattle.pc_project.specs.Project.{arc_of, network_of}
 use Rattle.pc_deck.specs.declared.kinds.after.AfterCard.{AfterCard}
@@ -16,7 +16,8 @@ use Rattle.pc_deck.specs.Deck.{Deck, event_codes, number_among, task_codes}
 use Rattle.pc_tasks.specs.Codes.{begin_code, end_code}
 use Rattle.pc_tasks.specs.Drawn.{after_links, arrows_deck, first_link, last_link, links_of, task_acts}
 use Rattle.pc_tasks.specs.Known.{CanBeDrawn, IsKnownAfter}
-use Rattle.pc_tasks.specs.Lists.{after_row, afters_in}
+use Rattle.pc_project.specs.After.{after_row}
+use Rattle.pc_tasks.specs.Lists.{afters_in}
 use Rattle.pc_tasks.proofs.EventLemmas as events
 use Rattle.pc_project.proofs.NumberLaws.{has_number}
 

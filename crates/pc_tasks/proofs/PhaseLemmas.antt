@@ -4,7 +4,7 @@ use Rattle.std.specs.Prelude.{All}
 use Rattle.std.proofs.lemmas.List.Elements.{All-cons, All-nil}
 use Rattle.pc_tasks.specs.network.Cycles.{IsFirstTaskCycle, IsTaskWalk}
 use Rattle.pc_tasks.specs.network.Tasks.{AreAmong}
-use Rattle.pc_tasks.specs.declared.network.AfterRow.{AfterRow}
+use Rattle.pc_project.specs.declared.placed.AfterRow.{AfterRow}
 
 -- the tasks of a walk are among those that there are
 walk_known : (n : ℕ) (afters : List AfterRow) → AreAmong n afters → (s t : ℕ) (tasks : List ℕ) → IsTaskWalk afters s tasks t → All (λ task. task < n) tasks

@@ -1,48 +1,35 @@
 -- The plan that is drawn of tasks without faults is sound: no card of it has a fault, its items are a tree, and its network is sound.
 use Rattle.std.proofs.Common.{◌≡◌, ◌≢◌, ℕ, zero, suc, ◌+◌, ◌<◌, ◌≤◌, List, [], ◌∷◌, ◌++◌, length, map, get_or, Option, Some, None, inl, inr, refl, sym, ap, ◌∙◌, subst, arith}
 use Rattle.std.specs.Prelude.{All, IsSome, find, is_none, option_and_then, unwrap_or}
-use Rattle.std.specs.List.{Any}
 use Rattle.std.proofs.lemmas.Bool.{cases_lt, false≢true}
 use Rattle.std.proofs.lemmas.List.{get_or-map, get_or_push, length-append, length-map, map-append}
 use Rattle.std.proofs.lemmas.List.Elements.{All-append, All-cons, All-head, All-nil, All-tail}
 use Rattle.pc_tasks.specs.network.Arrows.{arrows, firsts, lasts}
-use Rattle.pc_tasks.specs.declared.network.AfterRow.{AfterRow}
-use Rattle.pc_cards.specs.declared.sort.Sort.TheVariants.{Tasks}
-use Rattle.pc_faults.specs.declared.kind.Kind.TheVariants.{Wbs}
-use Rattle.pc_deck.specs.Deck.{Deck, act_codes, event_codes, item_codes, named_among, number_among, task_codes}
-use Rattle.pc_deck.specs.Target.{IsUnknown}
+use Rattle.pc_project.specs.declared.placed.AfterRow.{AfterRow}
+use Rattle.pc_cards.specs.declared.sort.Sort.TheVariants.{Plan, Tasks}
+use Rattle.pc_faults.specs.declared.fault.Fault.{Fault}
+use Rattle.pc_faults.specs.declared.kind.Kind.{Kind}
+use Rattle.pc_faults.specs.declared.kind.Kind.TheVariants.{Project, AsOf, Terms, Wbs, Event, Act, Task, Piece, Acct, Charge, ToGo, Status, Res, Load, End}
+use Rattle.pc_deck.specs.Deck.{Deck, act_codes, event_codes, item_codes, list_of, named_among, number_among, task_codes}
+use Rattle.pc_deck.specs.Durations.{crash_above, unordered}
+use Rattle.pc_deck.specs.Kinds.{further_kinds, kinds_of}
+use Rattle.pc_deck.specs.Misfit.{AreThere, HasCardFault, HasNoMisfit, names_of}
+use Rattle.pc_deck.specs.Wbs.{names_parent}
 use Rattle.pc_deck.specs.Within.{IsWithin}
-use Rattle.pc_deck.specs.declared.kinds.acct.AcctCard.{AcctCard}
 use Rattle.pc_deck.specs.declared.kinds.act.ActCard.{ActCard}
-use Rattle.pc_deck.specs.declared.kinds.load.LoadCard.{LoadCard}
-use Rattle.pc_deck.specs.declared.kinds.money.MoneyCard.{MoneyCard}
-use Rattle.pc_deck.specs.declared.kinds.piece.PieceCard.{PieceCard}
-use Rattle.pc_deck.specs.declared.kinds.status.StatusCard.{StatusCard}
 use Rattle.pc_deck.specs.declared.kinds.task.TaskCard.{TaskCard}
 use Rattle.pc_deck.specs.declared.kinds.wbs.ItemCard.{ItemCard}
-use Rattle.pc_faults.specs.declared.fault.Fault.{Fault}
-use Rattle.pc_faults.specs.declared.target.Target.TheVariants.{Item, Account, Activity, Task}
+use Rattle.pc_deck.proofs.MisfitLaws.{Any-at, all_named, at_accounts, at_charges, at_items, at_loads, at_pieces, at_statuses, at_tasks, at_togos, no_fault_of, there_unless}
 use Rattle.pc_model.specs.Codes.{IsNamedOnce, text_at}
 use Rattle.pc_model.specs.Network.{IsSound}
-use Rattle.pc_project.specs.Misfit as plan
-use Rattle.pc_project.specs.Misfit.{
-  HasActFault,
-  HasFigureFault,
-  HasItemFault,
-  HasListedFault,
-  HasLoadFault,
-  HasProjectFault,
-  HasOrderedEstimates,
-}
+use Rattle.pc_project.specs.Makes.{IsSoundAct}
 use Rattle.pc_project.specs.Project.{row_of, rows_of}
 use Rattle.pc_project.specs.Refusal.{HasSoundPlan}
-use Rattle.pc_project.proofs.FitLaws.{known_target}
+use Rattle.pc_project.proofs.MakesLaws.{no_misfit}
 use Rattle.pc_tasks.specs.Codes.{begin_code, end_code, links_code}
 use Rattle.pc_tasks.specs.Drawn.{after_links, code_of_top, arrows_deck, first_link, last_link, link, links_item, links_of, task_act, task_acts, top_code}
 use Rattle.pc_tasks.specs.Known.{CanBeDrawn}
 use Rattle.pc_tasks.specs.Lists.{afters_in}
-use Rattle.pc_tasks.specs.Misfit as has
-use Rattle.pc_tasks.specs.Misfit.{HasNoTaskMisfit, HasTaskFault}
 use Rattle.pc_tasks.proofs.CodeLemmas.{drawn_code-letter, given-not_drawn}
 use Rattle.pc_tasks.proofs.EventLemmas as events
 use Rattle.pc_tasks.proofs.KnownLemmas.{can_be_drawn, rows-in_range}
@@ -55,32 +42,9 @@ use Rattle.pc_wbs.specs.declared.tree.ItemRow.{ItemRow}
 
 -- ---- lists
 
--- what no element of a list is, none is
-none_of : {X : Type 0} (P : X → Type 0) (xs : List X) → All (λ x. P x → ⊥) xs → Any P xs → ⊥
-none_of P xs none (k, x, inside, at, holds) = none k x inside (subst P (sym at) holds)
-
--- what some element is, some is that
-any_of : {X : Type 0} (P Q : X → Type 0) (xs : List X) → ((x : X) → P x → Q x) → Any P xs → Any Q xs
-any_of P Q xs over (k, x, inside, at, holds) = (k, x, inside, at, over x holds)
-
--- what is found is not missing
-never : (o : Option ℕ) → IsSome o → o ≡ None → ⊥
-never None known none = false≢true known
-never (Some i) known none = absurd cc
-
 found : (o : Option ℕ) (i : ℕ) → o ≡ Some i → IsSome o
 found None i is = absurd cc
 found (Some j) i is = refl
-
-missing : (o : Option ℕ) → (IsSome o → ⊥) → o ≡ None
-missing None lacks = refl
-missing (Some i) lacks = absurd (lacks refl)
-
--- an element that is read is there
-itself : {X : Type 0} (xs : List X) (k : ℕ) (d : X) → k < length xs → get_or xs k (get_or xs k d) ≡ get_or xs k d
-itself [] k d inside = absurd (omega (arith, inside))
-itself (x ∷ xs) zero d inside = refl
-itself (x ∷ xs) (suc k) d inside = itself xs k d (omega (arith, inside))
 
 -- ---- the top
 
@@ -109,7 +73,7 @@ no_parent f (Some code) none = absurd cc
 
 -- ---- the plan
 
-module _ (deck : Deck) (within : IsWithin Tasks deck) (none : HasNoTaskMisfit deck) where
+module _ (deck : Deck) (within : IsWithin Tasks deck) (none : HasNoMisfit Tasks deck) where
   abbrev can : CanBeDrawn deck
   can = can_be_drawn deck none within
 
@@ -131,142 +95,92 @@ module _ (deck : Deck) (within : IsWithin Tasks deck) (none : HasNoTaskMisfit de
       found-there links_code (item_codes (arrows_deck deck)) (length items) (omega (arith, ap length items-are, length-append items (links_code ∷ [])))
       (ap (λ codes. text_at codes (length items)) items-are ∙ get_or_push items links_code [] (length items) refl)
 
-  -- the items that cards name are items
-  parent-known : (item : ItemCard) (k : ℕ) → k < length deck.items → get_or deck.items k item ≡ item → (code : List ℕ) → item.parent ≡ Some code → IsSome (named_among items code)
-  parent-known item k inside at code is =
-      known_target deck Item item.row code (λ fault unknown. none fault (has.item (k, item, inside, at, plan.unknown_parent code is unknown)))
+  -- what an activity that is drawn names is there, and its numbers are in order
+  abbrev plan : Deck
+  plan = arrows_deck deck
 
-  -- an activity that is drawn has no fault
-  act-sound : (act : ActCard) → IsSome (named_among (event_codes (arrows_deck deck)) act.from) → IsSome (named_among (event_codes (arrows_deck deck)) act.to)
-      → IsSome (named_among (item_codes (arrows_deck deck)) act.item) → act.from ≢ act.to → HasOrderedEstimates act → act.crash ≤ act.normal
-      → (fault : Fault) → HasActFault (arrows_deck deck) act fault → ⊥
-  act-sound act from to item apart ordered fits fault (plan.unknown_from is) = never _ from is.missing
-  act-sound act from to item apart ordered fits fault (plan.unknown_to known is) = never _ to is.missing
-  act-sound act from to item apart ordered fits fault (plan.unknown_item is) = never _ item is.missing
-  act-sound act from to item apart ordered fits fault (plan.same_events same is) = apart same
-  act-sound act from to item apart ordered fits fault (plan.unordered not is) = not ordered
-  act-sound act from to item apart ordered fits fault (plan.crash_above above is) = omega (arith, above, fits)
-
-  abbrev IsSoundAct : ActCard → Type 0
-  IsSoundAct act = (fault : Fault) → HasActFault (arrows_deck deck) act fault → ⊥
+  abbrev IsSoundDrawn : ActCard → Type 0
+  IsSoundDrawn act = AreThere plan (names_of Plan Act act) × IsSoundAct act
 
   abbrev n : ℕ
   n = length deck.tasks
 
   abbrev HasNoTaskFault : TaskCard → Type 0
-  HasNoTaskFault task = (fault : Fault) → HasTaskFault deck task fault → ⊥
+  HasNoTaskFault task = (fault : Fault) → HasCardFault Tasks deck Task task fault → ⊥
 
   not_below : (a b : ℕ) → (a < b → ⊥) → b ≤ a
   not_below a b never_below = elim (cases_lt a b) [ inl less ↦ absurd (never_below less) | inr more ↦ more ]
 
-  task-sound : (i : ℕ) (task : TaskCard) → i < n → HasNoTaskFault task → IsSoundAct (task_act i task)
-  task-sound i task inside faultless =
-      act-sound (task_act i task)
-      (found _ _ (events.named-begin deck can i inside)) (found _ _ (events.named-end deck can i inside))
-      (item-found task.item (known_target deck Item task.row task.item (λ fault is. faultless fault (has.unknown_item is))))
-      (λ same. omega (arith, drawn_code-letter 98 101 i i same))
-      (record { optimistic = order.0; pessimistic = order.1 })
-      (not_below task.normal task.crash (λ above. faultless _ (has.HasTaskFault.crash_above above refl)))
-    where
-      order : (task.opt ≤ task.likely) × (task.likely ≤ task.pess)
-      order = (
-        not_below task.likely task.opt (λ less. faultless _ (has.HasTaskFault.unordered (λ o. omega (arith, less, o.optimistic)) refl)),
-        not_below task.pess task.likely (λ less. faultless _ (has.HasTaskFault.unordered (λ o. omega (arith, less, o.pessimistic)) refl)),
-      )
+  task-sound : (i : ℕ) (task : TaskCard) → i < n → HasNoTaskFault task → IsSoundDrawn (task_act i task)
+  task-sound i task inside faultless = (
+    (
+      found _ _ (events.named-begin deck can i inside),
+      (found _ _ (events.named-end deck can i inside), (item-found task.item (there_unless deck task.row (names_of Tasks Task task) (λ fault h. faultless fault (inl h))).0, tt)),
+    ),
+    record {
+      apart = λ same. omega (arith, drawn_code-letter 98 101 i i same);
+      ordered = record {
+        optimistic = not_below task.likely task.opt (λ less. faultless _ (inr (unordered (λ o. omega (arith, less, o.optimistic)) refl)));
+        pessimistic = not_below task.pess task.likely (λ less. faultless _ (inr (unordered (λ o. omega (arith, less, o.pessimistic)) refl)));
+      };
+      durations = not_below task.normal task.crash (λ above. faultless _ (inr (crash_above above refl)));
+    },
+  )
 
-  tasks-sound : (i : ℕ) (tasks : List TaskCard) → i + length tasks ≤ n → All HasNoTaskFault tasks → All IsSoundAct (task_acts i tasks)
-  tasks-sound i [] few all = All-nil IsSoundAct
+  tasks-sound : (i : ℕ) (tasks : List TaskCard) → i + length tasks ≤ n → All HasNoTaskFault tasks → All IsSoundDrawn (task_acts i tasks)
+  tasks-sound i [] few all = All-nil IsSoundDrawn
   tasks-sound i (task ∷ tasks) few all =
-      All-cons IsSoundAct (task_act i task) (task_acts (i + 1) tasks) (task-sound i task (omega (arith, few)) (All-head HasNoTaskFault task tasks all))
+      All-cons IsSoundDrawn (task_act i task) (task_acts (i + 1) tasks) (task-sound i task (omega (arith, few)) (All-head HasNoTaskFault task tasks all))
       (tasks-sound (i + 1) tasks (omega (arith, few)) (All-tail HasNoTaskFault task tasks all))
 
-  link-sound : (code from to : List ℕ) → IsSome (named_among (event_codes (arrows_deck deck)) from) → IsSome (named_among (event_codes (arrows_deck deck)) to) → from ≢ to
-      → IsSoundAct (link code from to)
-  link-sound code from to begins ends apart = act-sound (link code from to) begins ends links-found apart (record { optimistic = omega arith; pessimistic = omega arith }) (omega arith)
+  link-sound : (code from to : List ℕ) → IsSome (named_among (event_codes plan) from) → IsSome (named_among (event_codes plan) to) → from ≢ to
+      → IsSoundDrawn (link code from to)
+  link-sound code from to begins ends apart = (
+    (begins, (ends, (links-found, tt))),
+    record { apart = apart; ordered = record { optimistic = omega arith; pessimistic = omega arith }; durations = omega arith },
+  )
 
-  afters-sound : (j : ℕ) (rows : List AfterRow) → All (IsRow n) rows → All IsSoundAct (after_links j rows)
-  afters-sound j [] all = All-nil IsSoundAct
+  afters-sound : (j : ℕ) (rows : List AfterRow) → All (IsRow n) rows → All IsSoundDrawn (after_links j rows)
+  afters-sound j [] all = All-nil IsSoundDrawn
   afters-sound j (row ∷ rows) all =
       let (task, before) = All-head (IsRow n) row rows all in
-      All-cons IsSoundAct _ (after_links (j + 1) rows)
+      All-cons IsSoundDrawn _ (after_links (j + 1) rows)
       (link-sound _ (end_code row.before) (begin_code row.task) (found _ _ (events.named-end deck can row.before before)) (found _ _ (events.named-begin deck can row.task task))
       (λ same. omega (arith, drawn_code-letter 101 98 row.before row.task same)))
       (afters-sound (j + 1) rows (All-tail (IsRow n) row rows all))
 
-  firsts-sound : (xs : List ℕ) → All (λ i. i < n) xs → All IsSoundAct (map (first_link deck) xs)
-  firsts-sound [] all = All-nil IsSoundAct
+  firsts-sound : (xs : List ℕ) → All (λ i. i < n) xs → All IsSoundDrawn (map (first_link deck) xs)
+  firsts-sound [] all = All-nil IsSoundDrawn
   firsts-sound (i ∷ xs) all =
-      All-cons IsSoundAct (first_link deck i) (map (first_link deck) xs)
+      All-cons IsSoundDrawn (first_link deck i) (map (first_link deck) xs)
       (link-sound _ deck.project.start (begin_code i) (found _ _ (events.named-start deck can)) (found _ _ (events.named-begin deck can i (All-head (λ i. i < n) i xs all)))
       (given-not_drawn deck.project.start 98 i can.start))
       (firsts-sound xs (All-tail (λ i. i < n) i xs all))
 
-  lasts-sound : (xs : List ℕ) → All (λ i. i < n) xs → All IsSoundAct (map (last_link deck) xs)
-  lasts-sound [] all = All-nil IsSoundAct
+  lasts-sound : (xs : List ℕ) → All (λ i. i < n) xs → All IsSoundDrawn (map (last_link deck) xs)
+  lasts-sound [] all = All-nil IsSoundDrawn
   lasts-sound (i ∷ xs) all =
-      All-cons IsSoundAct (last_link deck i) (map (last_link deck) xs)
+      All-cons IsSoundDrawn (last_link deck i) (map (last_link deck) xs)
       (link-sound _ (end_code i) deck.project.end (found _ _ (events.named-end deck can i (All-head (λ i. i < n) i xs all))) (found _ _ (events.named-last deck can))
       (λ same. given-not_drawn deck.project.end 101 i can.end (sym same)))
       (lasts-sound xs (All-tail (λ i. i < n) i xs all))
 
   faultless-tasks : All HasNoTaskFault deck.tasks
   faultless-tasks = λ k d inside fault h.
-      none fault (has.task (k, get_or deck.tasks k d, inside, itself deck.tasks k d inside, h))
+      no_fault_of Tasks deck none at_tasks End (omega arith) fault (Any-at (λ task. HasCardFault Tasks deck Task task fault) deck.tasks k d inside h)
 
-  acts-sound : All IsSoundAct (arrows_deck deck).acts
+  acts-sound : All IsSoundDrawn plan.acts
   acts-sound =
       let rows = afters_in deck in
-      All-append IsSoundAct (task_acts 0 deck.tasks) (links_of deck) (tasks-sound 0 deck.tasks (omega arith) faultless-tasks)
-      (All-append IsSoundAct (after_links 0 rows) (map (first_link deck) (firsts n rows) ++ map (last_link deck) (lasts n rows))
+      All-append IsSoundDrawn (task_acts 0 deck.tasks) (links_of deck) (tasks-sound 0 deck.tasks (omega arith) faultless-tasks)
+      (All-append IsSoundDrawn (after_links 0 rows) (map (first_link deck) (firsts n rows) ++ map (last_link deck) (lasts n rows))
       (afters-sound 0 rows (rows-known deck can.afters))
-      (All-append IsSoundAct (map (first_link deck) (firsts n rows)) (map (last_link deck) (lasts n rows))
+      (All-append IsSoundDrawn (map (first_link deck) (firsts n rows)) (map (last_link deck) (lasts n rows))
       (firsts-sound (firsts n rows) (firsts-below n rows)) (lasts-sound (lasts n rows) (lasts-below n rows))))
 
   -- a task is found among the activities
   act-found : (code : List ℕ) → IsSome (named_among (task_codes deck) code) → IsSome (named_among (act_codes (arrows_deck deck)) code)
   act-found code known = subst IsSome (sym (task-named deck code known)) known
-
-  act-missing : (code : List ℕ) → named_among (act_codes (arrows_deck deck)) code ≡ None → named_among (task_codes deck) code ≡ None
-  act-missing code lacks = missing (named_among (task_codes deck) code) (λ known. never _ (act-found code known) lacks)
-
-  item-missing : (code : List ℕ) → named_among (item_codes (arrows_deck deck)) code ≡ None → named_among items code ≡ None
-  item-missing code lacks = missing (named_among items code) (λ known. never _ (item-found code known) lacks)
-
-  -- ---- the other cards
-
-  project-sound : (fault : Fault) → HasProjectFault (arrows_deck deck) (arrows_deck deck).project fault → ⊥
-  project-sound fault (plan.unknown_start is) = never _ (found _ _ (events.named-start deck can)) is.missing
-  project-sound fault (plan.unknown_end known is) = never _ (found _ _ (events.named-last deck can)) is.missing
-  project-sound fault (plan.same_ends same is) = can.apart same
-
-  figure-sound : (fault : Fault) → HasFigureFault (arrows_deck deck) fault → ⊥
-  figure-sound fault (plan.account any) =
-      none fault (has.account (any_of (λ (card : AcctCard). IsUnknown (arrows_deck deck) Item card.row card.item fault) (λ card. IsUnknown deck Item card.row card.item fault) deck.accounts
-      (λ card is. record { missing = item-missing card.item is.missing; told = is.told }) any))
-  figure-sound fault (plan.charge any) =
-      none fault (has.charge (any_of (λ (card : MoneyCard). IsUnknown (arrows_deck deck) Account card.row card.account fault) (λ card. IsUnknown deck Account card.row card.account fault) deck.charges
-      (λ card is. record { missing = is.missing; told = is.told }) any))
-  figure-sound fault (plan.togo any) =
-      none fault (has.togo (any_of (λ (card : MoneyCard). IsUnknown (arrows_deck deck) Account card.row card.account fault) (λ card. IsUnknown deck Account card.row card.account fault) deck.togos
-      (λ card is. record { missing = is.missing; told = is.told }) any))
-  figure-sound fault (plan.status any) =
-      none fault (has.status (any_of (λ (card : StatusCard). IsUnknown (arrows_deck deck) Activity card.row card.activity fault)
-      (λ card. IsUnknown deck Task card.row card.activity fault) deck.statuses
-      (λ card is. record { missing = act-missing card.activity is.missing; told = is.told }) any))
-
-  listed-sound : (fault : Fault) → (Any (λ card. HasItemFault (arrows_deck deck) card fault) (arrows_deck deck).items → ⊥) → HasListedFault (arrows_deck deck) fault → ⊥
-  listed-sound fault items_sound (plan.item any) = items_sound any
-  listed-sound fault items_sound (plan.act any) = none_of (λ (act : ActCard). HasActFault (arrows_deck deck) act fault) (arrows_deck deck).acts (λ k d inside h. acts-sound k d inside fault h) any
-  listed-sound fault items_sound (plan.piece any) =
-      none fault (has.piece (any_of (λ (card : PieceCard). IsUnknown (arrows_deck deck) Activity card.row card.activity fault) (λ card. IsUnknown deck Task card.row card.activity fault) deck.pieces
-      (λ card is. record { missing = act-missing card.activity is.missing; told = is.told }) any))
-  listed-sound fault items_sound (plan.load any) =
-      none fault (has.load (any_of (λ (card : LoadCard). HasLoadFault (arrows_deck deck) Activity card fault) (λ card. HasLoadFault deck Task card fault) deck.loads (λ card h. over card h) any))
-    where
-      over : (card : LoadCard) → HasLoadFault (arrows_deck deck) Activity card fault → HasLoadFault deck Task card fault
-      over card (plan.unknown_work is) = plan.unknown_work (record { missing = act-missing card.activity is.missing; told = is.told })
-      over card (plan.unknown_resource is) = plan.unknown_resource (record { missing = is.missing; told = is.told })
-  listed-sound fault items_sound (plan.figure h) = figure-sound fault h
 
   -- ---- the items
 
@@ -306,22 +220,55 @@ module _ (deck : Deck) (within : IsWithin Tasks deck) (none : HasNoTaskMisfit de
     top-named : named_among items top_name ≡ Some top
     top-named = only_place-is top_name items first_top.0 once (omega (arith, first_top.1.0, length-map deck.items (λ (item : ItemCard). item.code))) code-at ∙ ap Some first_top-is
 
-    -- no item has a parent that is none
-    item-sound : (fault : Fault) (item : ItemCard) → ((code : List ℕ) → item.parent ≡ Some code → IsSome (named_among items code)) → HasItemFault (arrows_deck deck) item fault → ⊥
-    item-sound fault item known (plan.unknown_parent code is unknown) = never _ (item-found code (known code is)) unknown.missing
+    -- the parents of items are items
+    parent-there : (parent : Option (List ℕ)) → AreThere deck (names_parent parent) → AreThere plan (names_parent parent)
+    parent-there None there = tt
+    parent-there (Some code) there = (item-found code there.0, tt)
 
-    links-parent : (code : List ℕ) → (links_item deck).parent ≡ Some code → IsSome (named_among items code)
-    links-parent code is =
-        let same : code ≡ top_name = (let both : Some code ≡ Some top_name = sym is ∙ first_top.1.1.1 in cc) in
-        subst (λ c. IsSome (named_among items c)) (sym same) (found _ _ top-named)
+    abbrev HasParentThere : ItemCard → Type 0
+    HasParentThere item = AreThere plan (names_parent item.parent)
 
-    items-sound : (fault : Fault) → Any (λ card. HasItemFault (arrows_deck deck) card fault) (arrows_deck deck).items → ⊥
-    items-sound fault =
-        none_of (λ (card : ItemCard). HasItemFault (arrows_deck deck) card fault) (arrows_deck deck).items
-        (All-append (λ (card : ItemCard). HasItemFault (arrows_deck deck) card fault → ⊥) deck.items (links_item deck ∷ [])
-        (λ k d inside. item-sound fault (get_or deck.items k d) (parent-known (get_or deck.items k d) k inside (itself deck.items k d inside)))
-        (All-cons (λ (card : ItemCard). HasItemFault (arrows_deck deck) card fault → ⊥) (links_item deck) [] (item-sound fault (links_item deck) links-parent)
-        (All-nil (λ (card : ItemCard). HasItemFault (arrows_deck deck) card fault → ⊥))))
+    items-there : All HasParentThere plan.items
+    items-there =
+        All-append HasParentThere deck.items (links_item deck ∷ [])
+        (λ k d inside. parent-there (get_or deck.items k d).parent (all_named Tasks deck none at_items End (omega arith) k d inside))
+        (All-cons HasParentThere (links_item deck) []
+        (subst (λ parent. AreThere plan (names_parent parent)) (sym first_top.1.1.1) (item-found top_name (found _ _ top-named), tt)) (All-nil HasParentThere))
+
+    -- what each card of the plan names is there
+    abbrev AreNamed : Kind → Type 0
+    AreNamed kind = All (λ card. AreThere plan (names_of Plan kind card)) (list_of plan kind)
+
+    -- cards that name nothing
+    nothing-named : {C : Type 0} (cards : List C) → All (λ card. Unit {0}) cards
+    nothing-named cards = λ k d inside. tt
+
+    named-further : All AreNamed further_kinds
+    named-further =
+        All-cons AreNamed Piece _ (λ k d inside. (act-found (get_or deck.pieces k d).activity (all_named Tasks deck none at_pieces End (omega arith) k d inside).0, tt))
+        (All-cons AreNamed Acct _ (λ k d inside. (item-found (get_or deck.accounts k d).item (all_named Tasks deck none at_accounts End (omega arith) k d inside).0, tt))
+        (All-cons AreNamed Charge _ (λ k d inside. all_named Tasks deck none at_charges End (omega arith) k d inside)
+        (All-cons AreNamed ToGo _ (λ k d inside. all_named Tasks deck none at_togos End (omega arith) k d inside)
+        (All-cons AreNamed Status _ (λ k d inside. (act-found (get_or deck.statuses k d).activity (all_named Tasks deck none at_statuses End (omega arith) k d inside).0, tt))
+        (All-cons AreNamed Res _ (nothing-named plan.resources)
+        (All-cons AreNamed Load _ (λ k d inside.
+        let there = all_named Tasks deck none at_loads End (omega arith) k d inside in
+        (act-found (get_or deck.loads k d).activity there.0, there.1))
+        (All-cons AreNamed End [] (nothing-named (list_of plan End)) (All-nil AreNamed))))))))
+
+    all-named : All AreNamed (kinds_of Plan)
+    all-named =
+        All-cons AreNamed Project _ (λ k d inside. project-there k d inside)
+        (All-cons AreNamed AsOf _ (nothing-named (list_of plan AsOf))
+        (All-cons AreNamed Terms _ (nothing-named (list_of plan Terms))
+        (All-cons AreNamed Wbs _ items-there
+        (All-cons AreNamed Event _ (nothing-named plan.events)
+        (All-cons AreNamed Act _ (λ k d inside. (acts-sound k d inside).0) named-further)))))
+      where
+        project-there : AreNamed Project
+        project-there =
+            All-cons (λ card. AreThere plan (names_of Plan Project card)) plan.project []
+            (found _ _ (events.named-start deck can), (found _ _ (events.named-last deck can), tt)) (All-nil (λ card. AreThere plan (names_of Plan Project card)))
 
     -- the rows of the items, and the row of the links below the top
     default : (o : Option ℕ) (a b : ℕ) → IsSome o → unwrap_or o a ≡ unwrap_or o b
@@ -333,13 +280,13 @@ module _ (deck : Deck) (within : IsWithin Tasks deck) (none : HasNoTaskMisfit de
         ap (λ o. unwrap_or o (length (item_codes (arrows_deck deck)))) (item-named code known)
         ∙ default (named_among items code) (length (item_codes (arrows_deck deck))) (length items) known
 
-    same-parent : (parent : Option (List ℕ)) → ((code : List ℕ) → parent ≡ Some code → IsSome (named_among items code))
+    same-parent : (parent : Option (List ℕ)) → AreThere deck (names_parent parent)
         → option_and_then (λ code. Some (number_among (item_codes (arrows_deck deck)) code)) parent ≡ option_and_then (λ code. Some (number_among items code)) parent
     same-parent None known = refl
-    same-parent (Some code) known = ap Some (same-number code (known code refl))
+    same-parent (Some code) known = ap Some (same-number code known.0)
 
     abbrev HasKnownParent : ItemCard → Type 0
-    HasKnownParent item = (code : List ℕ) → item.parent ≡ Some code → IsSome (named_among items code)
+    HasKnownParent item = AreThere deck (names_parent item.parent)
 
     same-rows : (cards : List ItemCard) → All HasKnownParent cards → map (row_of (arrows_deck deck)) cards ≡ map (row_of deck) cards
     same-rows [] all = refl
@@ -357,19 +304,15 @@ module _ (deck : Deck) (within : IsWithin Tasks deck) (none : HasNoTaskMisfit de
     rows-are : rows_of (arrows_deck deck) ≡ rows_of deck ++ below top ∷ []
     rows-are =
         map-append (row_of (arrows_deck deck)) deck.items (links_item deck ∷ [])
-        ∙ (ap (λ front. front ++ row_of (arrows_deck deck) (links_item deck) ∷ []) (same-rows deck.items (λ k d inside. parent-known (get_or deck.items k d) k inside (itself deck.items k d inside)))
+        ∙ (ap (λ front. front ++ row_of (arrows_deck deck) (links_item deck) ∷ []) (same-rows deck.items (all_named Tasks deck none at_items End (omega arith)))
         ∙ ap (λ r. rows_of deck ++ r ∷ []) links-row)
 
     drawn-tree : IsTree (rows_of (arrows_deck deck))
     drawn-tree = subst IsTree (sym rows-are) (tree-more (rows_of deck) top (rows-in_range deck none) only tree)
 
-    misfit-sound : (fault : Fault) → plan.HasMisfit (arrows_deck deck) fault → ⊥
-    misfit-sound fault (plan.project h) = project-sound fault h
-    misfit-sound fault (plan.listed h) = listed-sound fault (items-sound fault) h
-
-    pub drawn-sound : IsSound (arrows n (afters_in deck)) → HasSoundPlan (arrows_deck deck)
+    pub drawn-sound : IsSound (arrows n (afters_in deck)) → HasSoundPlan plan
     drawn-sound sound = record {
-      cards = misfit-sound;
+      cards = no_misfit plan (record { named = all-named; apart = can.apart; acts = λ k d inside. (acts-sound k d inside).1 });
       tree = drawn-tree;
       sound = subst IsSound (sym (network-is deck can)) sound;
     }

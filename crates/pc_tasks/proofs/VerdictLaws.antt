@@ -1,17 +1,13 @@
 -- A deck of tasks does not both make arrows and be refused, it makes one project, and each refusal can be told.
 use Rattle.std.proofs.Common.{◌≡◌, length, refl, ap, arith}
+use Rattle.pc_cards.specs.declared.sort.Sort.TheVariants.{Tasks}
 use Rattle.pc_deck.specs.Deck.{Deck}
-use Rattle.pc_deck.specs.declared.kinds.after.AfterCard.{AfterCard}
-use Rattle.pc_deck.specs.declared.kinds.task.TaskCard.{TaskCard}
 use Rattle.pc_faults.specs.inside.FaultText.{IsTold}
 use Rattle.pc_faults.specs.declared.fault.Fault.{Fault as ADeckFault}
-use Rattle.pc_faults.specs.declared.target.Target.TheVariants.{Item, Account, Task}
 use Rattle.pc_project.specs.Project.{Project, rows_of}
 use Rattle.pc_project.proofs.OneProjectLaws.{one_project_of}
-use Rattle.pc_project.proofs.RefusalLaws.{makes_not_refused, no_tree, told, told_of-item, told_of-load, told_of-refused, told_of-tree, told_of-unknown}
+use Rattle.pc_project.proofs.RefusalLaws.{makes_not_refused, no_tree, told, told_of-misfit, told_of-refused, told_of-tree}
 use Rattle.pc_tasks.specs.Drawn.{arrows_deck}
-use Rattle.pc_tasks.specs.Misfit as has
-use Rattle.pc_tasks.specs.Misfit.{HasAfterFault, HasTaskMisfit, HasTaskFault}
 use Rattle.pc_tasks.specs.Refusal.{IsTasksRefusedWith, MakesArrows, of_cards, of_cycle, of_none, of_plan, of_top, of_tree}
 use Rattle.pc_tasks.specs.Text.{IsDrawnProject}
 
@@ -28,31 +24,9 @@ arrows_not_refused deck fault makes (of_plan sound refused) = makes_not_refused 
 pub one_drawn_project : (deck : Deck) (project other : Project) → IsDrawnProject deck project → IsDrawnProject deck other → project ≡ other
 one_drawn_project deck project other is also = one_project_of (arrows_deck deck) is.makes.plan.once project other is.is also.is
 
-told_of-task : (deck : Deck) (card : TaskCard) (fault : ADeckFault) → HasTaskFault deck card fault → IsTold fault
-told_of-task deck card fault (has.unknown_item is) = told_of-unknown deck Item _ _ fault is
-told_of-task deck card fault (has.unordered not is) = told fault _ is refl
-told_of-task deck card fault (has.crash_above above is) = told fault _ is refl
-
-told_of-after : (deck : Deck) (card : AfterCard) (fault : ADeckFault) → HasAfterFault deck card fault → IsTold fault
-told_of-after deck card fault (has.unknown_task is) = told_of-unknown deck Task _ _ fault is
-told_of-after deck card fault (has.unknown_before known is) = told_of-unknown deck Task _ _ fault is
-told_of-after deck card fault (has.same_task same is) = told fault _ is refl
-
-told_of-misfit : (deck : Deck) (fault : ADeckFault) → HasTaskMisfit deck fault → IsTold fault
-told_of-misfit deck fault (has.ends here) = told fault _ here.1 refl
-told_of-misfit deck fault (has.item (k, card, within, at, here)) = told_of-item deck card fault here
-told_of-misfit deck fault (has.task (k, card, within, at, here)) = told_of-task deck card fault here
-told_of-misfit deck fault (has.after (k, card, within, at, here)) = told_of-after deck card fault here
-told_of-misfit deck fault (has.piece (k, card, within, at, here)) = told_of-unknown deck Task _ _ fault here
-told_of-misfit deck fault (has.account (k, card, within, at, here)) = told_of-unknown deck Item _ _ fault here
-told_of-misfit deck fault (has.charge (k, card, within, at, here)) = told_of-unknown deck Account _ _ fault here
-told_of-misfit deck fault (has.togo (k, card, within, at, here)) = told_of-unknown deck Account _ _ fault here
-told_of-misfit deck fault (has.status (k, card, within, at, here)) = told_of-unknown deck Task _ _ fault here
-told_of-misfit deck fault (has.load (k, card, within, at, here)) = told_of-load deck Task card fault here
-
 -- the fault with which a deck of tasks is refused has a line
 pub told_of-refused_tasks : (deck : Deck) (fault : ADeckFault) → IsTasksRefusedWith deck fault → IsTold fault
-told_of-refused_tasks deck fault (of_cards first) = told_of-misfit deck fault first.holds
+told_of-refused_tasks deck fault (of_cards first) = told_of-misfit Tasks deck fault first.holds
 told_of-refused_tasks deck fault (of_tree cards at) = told_of-tree deck.items (rows_of deck) fault at
 told_of-refused_tasks deck fault (of_top cards items lone) = told fault _ lone.1 refl
 told_of-refused_tasks deck fault (of_none items none) = told fault _ none.1 refl

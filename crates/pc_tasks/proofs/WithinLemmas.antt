@@ -8,7 +8,7 @@ use Rattle.std.proofs.lemmas.List.Elements.{All-append, All-cons, All-head, All-
 use Rattle.std.proofs.lemmas.List.Filters.{length-filter_both}
 use Rattle.std.proofs.lemmas.List.FromFn.{get_or-range_with_len, length-range_with_len}
 use Rattle.pc_tasks.specs.network.Arrows.{comes_after, comes_before, firsts, lasts}
-use Rattle.pc_tasks.specs.declared.network.AfterRow.{AfterRow}
+use Rattle.pc_project.specs.declared.placed.AfterRow.{AfterRow}
 use Rattle.pc_tasks.proofs.lemmas.network.Kept.{AreOnce-filter}
 use Rattle.pc_cards.specs.Forms.{is_reserved}
 use Rattle.pc_cards.specs.declared.sort.Sort.TheVariants.{Plan, Tasks}
@@ -25,7 +25,8 @@ use Rattle.pc_deck.specs.declared.kinds.wbs.ItemCard.{ItemCard}
 use Rattle.pc_tasks.specs.Codes.{after_code, drawn_code, links_code}
 use Rattle.pc_tasks.specs.Drawn.{after_links, arrows_deck, drawn_event, first_link, last_link, links_item, links_of, task_acts, task_events, top_code, code_of_top}
 use Rattle.pc_tasks.specs.Known.{CanBeDrawn, IsGiven}
-use Rattle.pc_tasks.specs.Lists.{after_row, afters_in}
+use Rattle.pc_project.specs.After.{after_row}
+use Rattle.pc_tasks.specs.Lists.{afters_in}
 use Rattle.pc_tasks.proofs.EventLemmas as events
 use Rattle.pc_tasks.proofs.CodeLemmas.{given-not_drawn}
 use Rattle.pc_tasks.proofs.FitLemmas.{Given, event-fit, given-code, item-fit, links-fit, links_item-fit, project-fit, task_acts-fit, task_events-fit}

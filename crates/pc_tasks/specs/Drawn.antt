@@ -2,7 +2,7 @@
 -- no time and cost nothing. All other cards are kept. A card that is kept, or generated from a TASK card, keeps its record number.
 use Rattle.std.specs.Prelude.{ℕ, ◌+◌, List, [], ◌∷◌, ◌++◌, length, map, find, is_none, Option, Some, None}
 use Rattle.pc_tasks.specs.network.Arrows.{firsts, lasts}
-use Rattle.pc_tasks.specs.declared.network.AfterRow.{AfterRow}
+use Rattle.pc_project.specs.declared.placed.AfterRow.{AfterRow}
 use Rattle.pc_deck.specs.Deck.{Deck}
 use Rattle.pc_deck.specs.Made.{drawn_with}
 use Rattle.pc_deck.specs.declared.kinds.act.ActCard.{ActCard}

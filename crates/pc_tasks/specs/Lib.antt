@@ -2,7 +2,6 @@ pub mod Lists
 pub mod Codes
 pub mod Drawn
 pub mod Known
-pub mod Misfit
 pub mod Refusal
 pub mod Text
 pub mod network

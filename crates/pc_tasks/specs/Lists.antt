@@ -2,16 +2,13 @@
 use Rattle.std.specs.Prelude.{List, map}
 use Rattle.pc_model.specs.declared.Term.{Term}
 use Rattle.pc_model.specs.declared.PieceRow.{PieceRow}
-use Rattle.pc_tasks.specs.declared.network.AfterRow.{AfterRow}
+use Rattle.pc_project.specs.After.{after_row}
+use Rattle.pc_project.specs.declared.placed.AfterRow.{AfterRow}
 use Rattle.pc_deck.specs.Deck.{Deck, number_among, task_codes}
-use Rattle.pc_deck.specs.declared.kinds.after.AfterCard.{AfterCard}
 use Rattle.pc_deck.specs.declared.kinds.piece.PieceCard.{PieceCard}
 use Rattle.pc_deck.specs.declared.kinds.task.TaskCard.{TaskCard}
 
 -- which task comes after which, by their numbers
-abbrev pub after_row : Deck → AfterCard → AfterRow
-after_row deck after = record { task = number_among (task_codes deck) after.task; before = number_among (task_codes deck) after.before }
-
 abbrev pub afters_in : Deck → List AfterRow
 afters_in deck = map (after_row deck) deck.afters
 

@@ -5,7 +5,9 @@
 use Rattle.std.specs.Prelude.{◌≡◌, ℕ, ◌<◌, List, [], length, map, slice_index}
 use Rattle.pc_wbs.specs.Climb.{IsTree}
 use Rattle.pc_tasks.specs.network.Cycles.{HasNoTaskCycle, IsFirstTaskCycle}
+use Rattle.pc_cards.specs.declared.sort.Sort.TheVariants.{Tasks}
 use Rattle.pc_deck.specs.Deck.{Deck, task_codes}
+use Rattle.pc_deck.specs.Misfit.{HasMisfit, HasNoMisfit}
 use Rattle.pc_faults.specs.Faults.{childless_top, no_task, task_cycle}
 use Rattle.pc_faults.specs.First.{IsFirstFault}
 use Rattle.pc_faults.specs.declared.fault.Fault.{Fault as ADeckFault}
@@ -15,7 +17,6 @@ use Rattle.pc_project.specs.Makes.{MakesProject}
 use Rattle.pc_project.specs.Refusal.{IsRefusedWith, IsTreeFault}
 use Rattle.pc_tasks.specs.Drawn.{arrows_deck}
 use Rattle.pc_tasks.specs.Lists.{afters_in}
-use Rattle.pc_tasks.specs.Misfit.{HasTaskMisfit, HasNoTaskMisfit}
 
 -- the records of the tasks, in card order
 abbrev pub task_records : Deck → List ℕ
@@ -36,7 +37,7 @@ IsCycleFault deck fault =
 
 -- no card by itself is wrong, the items are a tree, and some item is below its top
 pub record HasSoundItems (deck : Deck) : Type 0 where
-  pub cards : HasNoTaskMisfit deck
+  pub cards : HasNoMisfit Tasks deck
   pub tree : IsTree (rows_of deck)
   pub branch : (fault : ADeckFault) → HasLoneTop deck fault → ⊥
 
@@ -54,11 +55,11 @@ pub record MakesArrows (deck : Deck) : Type 0 where
 -- the fault with which a deck of tasks is refused; a phase counts only if no phase before it has a fault
 pub data IsTasksRefusedWith (deck : Deck) (fault : ADeckFault) : Type 0 where
   -- F14 to F19, F41: a card names what is not there, or its numbers are out of order
-  of_cards : IsFirstFault (HasTaskMisfit deck) fault → IsTasksRefusedWith deck fault
+  of_cards : IsFirstFault (HasMisfit Tasks deck) fault → IsTasksRefusedWith deck fault
   -- F20 to F23: the items are no tree
-  of_tree : HasNoTaskMisfit deck → IsTreeFault deck.items (rows_of deck) fault → IsTasksRefusedWith deck fault
+  of_tree : HasNoMisfit Tasks deck → IsTreeFault deck.items (rows_of deck) fault → IsTasksRefusedWith deck fault
   -- F37: the top has no item below it
-  of_top : HasNoTaskMisfit deck → IsTree (rows_of deck) → HasLoneTop deck fault → IsTasksRefusedWith deck fault
+  of_top : HasNoMisfit Tasks deck → IsTree (rows_of deck) → HasLoneTop deck fault → IsTasksRefusedWith deck fault
   -- F39: there is no task
   of_none : HasSoundItems deck → HasNoTask deck fault → IsTasksRefusedWith deck fault
   -- F38: tasks wait for each other in a cycle

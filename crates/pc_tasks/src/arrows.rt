@@ -11,7 +11,7 @@ ghost use Rattle.pc_deck.specs.Within.{IsWithin};
 
 use crate::draw::{acts_of, events_of, items_of};
 use crate::laws::drawn_deck_keeps_least_costs;
-use crate::network::AfterRow;
+use pc_project::AfterRow;
 use crate::phases::sound_rows;
 use pc_deck::{Cards, TaskCards};
 use pc_faults::DeckError;

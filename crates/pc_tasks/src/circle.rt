@@ -5,9 +5,10 @@ ghost use Rattle.pc_tasks.specs.network.Cycles.{HasNoTaskCycle, IsFirstTaskCycle
 ghost use Rattle.pc_tasks.specs.network.Tasks.{AreAmong};
 ghost use Rattle.pc_deck.specs.declared.limits.TheConstants.{MAX_AFTERS, MAX_TASKS};
 
-use crate::network::{AfterRow, wide_arrows_have_the_cycles};
+use crate::network::wide_arrows_have_the_cycles;
 use pc_model::Arc;
 use pc_net::{Net, NetError};
+use pc_project::AfterRow;
 use std::alloc::{AllocError, Global};
 
 /// Returns the tasks of the first circle, if there is one: each comes after the one before it, and the first after the

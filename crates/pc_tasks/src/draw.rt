@@ -18,7 +18,7 @@ ghost use Rattle.pc_tasks.specs.Lists.{afters_in};
 
 use crate::codes::{after_code, begin_code, end_code, first_code, last_code, links_code, no_title};
 use crate::links::{firsts, lasts};
-use crate::network::AfterRow;
+use pc_project::AfterRow;
 use pc_deck::{ActCard, ItemCard, TaskCard, TaskCards, TitledCard};
 use pc_text::Code;
 use std::alloc::{AllocError, Global};

@@ -4,7 +4,7 @@ ghost use Rattle.pc_tasks.specs.network.Arrows.{firsts, lasts};
 ghost use Rattle.pc_tasks.specs.network.Tasks.{AreAmong};
 ghost use Rattle.std.specs.List.{range_with_len};
 
-use crate::network::AfterRow;
+use pc_project::AfterRow;
 use std::alloc::{AllocError, Global};
 
 /// Returns the tasks that come after no other, in card order. Linear in tasks and rows.

@@ -10,19 +10,12 @@ ghost use Rattle.pc_model.specs.Walk.{IsCycle};
 ghost use Rattle.pc_model.specs.Schedule.{HasSchedule};
 ghost use Rattle.pc_model.specs.Cost.{IsLeastCost};
 ghost use Rattle.pc_model.specs.Pieces.{knees_of};
-ghost use Rattle.pc_tasks.specs.declared.network.AfterRow.{AfterRow};
+ghost use Rattle.pc_project.specs.declared.placed.AfterRow.{AfterRow};
 ghost use Rattle.pc_tasks.specs.network.Tasks.{AreAmong, HasTaskSchedule, IsLeastTaskCost};
 ghost use Rattle.pc_tasks.specs.network.Arrows.{arrows, arrow_terms, tasks_of, wide_arrows};
 ghost use Rattle.pc_tasks.specs.network.Cycles.{HasNoTaskCycle, IsFirstTaskCycle, IsTaskCycle};
 ghost use Rattle.pc_net.specs.Cycles.{IsFirstCycle};
 ghost use Rattle.pc_net.specs.Firmness.{IsFirm};
-
-/// A task and one that must end before it begins, by their numbers, counted in card order from 0.
-#[derive(Clone, Copy, Debug, PartialEq, Eq)]
-pub struct AfterRow {
-    pub task: u32,
-    pub before: u32,
-}
 
 /// States that the arrows of tasks that do not wait for each other in a circle are a sound network.
 pub fn arrows_are_sound()

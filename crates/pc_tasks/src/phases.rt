@@ -1,13 +1,14 @@
 //! The phases in which a deck of tasks is judged.
 ghost use Rattle.std.specs.Prelude.{◌≡◌, ◌<◌, All, length, slice_index, IfOk, IfErr, MatchOption, OnOk};
 ghost use Rattle.pc_tasks.specs.network.Cycles.{HasNoTaskCycle};
+ghost use Rattle.pc_cards.specs.declared.sort.Sort.TheVariants.{Tasks};
 ghost use Rattle.pc_deck.specs.Deck.{task_codes};
+ghost use Rattle.pc_deck.specs.Misfit.{HasNoMisfit};
 ghost use Rattle.pc_faults.specs.Faults.{task_cycle};
 ghost use Rattle.pc_faults.specs.declared.fault.Fault.{Fault as ADeckFault};
 ghost use Rattle.pc_project.specs.Records.{codes_at};
 ghost use Rattle.pc_faults.specs.inside.First.{Refuses};
 ghost use Rattle.pc_tasks.specs.Lists.{afters_in};
-ghost use Rattle.pc_tasks.specs.Misfit.{HasNoTaskMisfit};
 ghost use Rattle.pc_tasks.specs.Refusal.{
   HasLoneTop,
   HasSoundItems,
@@ -19,7 +20,7 @@ ghost use Rattle.pc_tasks.specs.Refusal.{
 
 use crate::card_faults::look_up;
 use crate::circle::first_circle;
-use crate::network::AfterRow;
+use pc_project::AfterRow;
 use crate::tree::tree_of;
 use pc_deck::TaskCards;
 use pc_faults::{DeckError, Detail, Fault};
@@ -43,7 +44,7 @@ pub(crate) fn sound_rows(alloc: Global, cards: &TaskCards) -> Result<Vec<AfterRo
 
 /// Checks the tree of the items, and then that an item is below its top (F20 to F23, F37).
 fn check_items(alloc: Global, cards: &TaskCards) -> Result<(), DeckError>
-    requires { HasNoTaskMisfit cards.now }
+    requires { HasNoMisfit Tasks cards.now }
     ensures sound { OnOk result (HasSoundItems cards.now) }
     ensures refused { IfErr result (Refuses (IsTasksRefusedWith cards.now)) }
 {
@@ -88,7 +89,7 @@ fn circle_fault(
     cards: &TaskCards,
     afters: &[AfterRow],
 ) -> Result<Option<Fault>, AllocError>
-    requires faultless { HasNoTaskMisfit cards.now }
+    requires faultless { HasNoMisfit Tasks cards.now }
     requires some { 0 < length cards.now.tasks }
     requires afters { afters.now ≡ afters_in cards.now }
     ensures { IfOk result (λ found. MatchOption found

@@ -3,10 +3,10 @@ ghost use Rattle.std.specs.Prelude.{IfErr, OnOk, ◌≡◌, IfOk};
 ghost use Rattle.pc_faults.specs.inside.First.{Refuses};
 ghost use Rattle.pc_project.specs.Project.{rows_of, row_of};
 ghost use Rattle.pc_wbs.specs.Climb.{IsTree};
-ghost use Rattle.pc_tasks.specs.Misfit.{HasNoTaskMisfit};
 ghost use Rattle.pc_tasks.specs.Refusal.{IsTasksRefusedWith};
 ghost use Rattle.pc_cards.specs.declared.sort.Sort.TheVariants.{Tasks};
 ghost use Rattle.pc_deck.specs.Within.{IsWithin};
+ghost use Rattle.pc_deck.specs.Misfit.{HasNoMisfit};
 
 use pc_deck::{ItemCard, TaskCards};
 use pc_faults::{DeckError, Target};
@@ -19,7 +19,7 @@ use std::alloc::{AllocError, Global};
 /// # Errors
 /// The first fault of the tree (F20 to F23), or out of memory.
 pub(crate) fn tree_of(alloc: Global, cards: &TaskCards) -> Result<Tree, DeckError>
-    requires { HasNoTaskMisfit cards.now }
+    requires { HasNoMisfit Tasks cards.now }
     ensures tree { OnOk result (IsTree (rows_of cards.now)) }
     ensures refused { IfErr result (Refuses (IsTasksRefusedWith cards.now)) }
 {

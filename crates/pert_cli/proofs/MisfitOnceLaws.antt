@@ -1,108 +1,143 @@
--- Faults of single cards, of plans and of tasks, are determined by record and number.
-use Rattle.std.proofs.Common.{◌≡◌, ℕ, ◌==◌, List, [], Option, Some, None, is_none, unwrap_or, if◌then◌else◌, IsSome, refl, sym, ap, ◌∙◌, arith}
+-- Faults of single cards, in decks of either sort, are determined by record and number.
+use Rattle.std.proofs.Common.{◌≡◌, ℕ, ◌==◌, Bool, true, false, ◌&&◌, nat_le, List, [], ◌∷◌, Option, Some, None, is_none, if◌then◌else◌, IsSome, refl, sym, ap, ◌∙◌, inl, inr, ⊎_elim}
 use Rattle.std.specs.List.{Any}
 use Rattle.pc_cards.specs.Cards.{Numbered}
-use Rattle.pc_deck.specs.Deck.{Deck, event_codes, list_of, named_among, task_codes}
-use Rattle.pc_deck.specs.Kinds.{CardOf, card_of}
+use Rattle.pc_cards.specs.Entry.{Reference}
+use Rattle.pc_cards.specs.declared.sort.Sort.{Sort}
+use Rattle.pc_cards.specs.declared.sort.Sort.TheVariants.{Plan, Tasks}
+use Rattle.pc_deck.specs.Act as act
+use Rattle.pc_deck.specs.Deck.{Deck, list_of, named_among}
+use Rattle.pc_deck.specs.Durations.{HasDurationFault, crash_above, unordered}
+use Rattle.pc_deck.specs.Kinds.{CardOf, card_of, entry_of}
+use Rattle.pc_deck.specs.Misfit.{HasCardFault, HasMisfit, HasUnknown, names_of}
 use Rattle.pc_deck.specs.Says.{Says}
-use Rattle.pc_deck.specs.Target.{IsUnknown}
+use Rattle.pc_deck.specs.Target.{target_codes}
+use Rattle.pc_deck.proofs.MisfitLaws.{unknown_row}
 use Rattle.pc_faults.specs.Faults as fault
-use Rattle.pc_faults.specs.declared.fault.Detail.{Detail}
-use Rattle.pc_faults.specs.declared.fault.Detail.TheVariants.{Name, Plain}
+use Rattle.pc_faults.specs.Faults.{unknown_number}
+use Rattle.pc_faults.specs.declared.fault.Detail.TheVariants.{Plain}
 use Rattle.pc_faults.specs.declared.fault.Fault.{Fault}
 use Rattle.pc_faults.specs.declared.kind.Kind.{Kind}
-use Rattle.pc_faults.specs.declared.kind.Kind.TheVariants.{Project, Wbs, Act, Task, After, Piece, Acct, Charge, ToGo, Status, Load}
+use Rattle.pc_faults.specs.declared.kind.Kind.TheVariants as kinds
+use Rattle.pc_faults.specs.declared.kind.Kind.TheVariants.{Project, Act, After, Acct, End}
+use Rattle.pc_faults.specs.declared.target.Target.{Target}
 use Rattle.pc_faults.specs.declared.target.Target.TheVariants as target
-use Rattle.pc_project.specs.Misfit as plan
-use Rattle.pc_project.specs.Misfit.{HasActFault, HasItemFault, HasLoadFault, HasProjectFault}
 use Rattle.pc_project.specs.PackageFaults.{HasLeafFault, StandsOnBranch, of_account, of_act}
-use Rattle.pc_tasks.specs.Misfit as tasks
 use Rattle.pert_cli.proofs.CardOnceLaws.{Rises}
 use Rattle.pert_cli.proofs.FirstOnceLaws.{AreToldByPlace}
 use Rattle.pert_cli.proofs.RowsOnceLaws.{IsCardFault, card_fault_once, some_card}
 
--- a fault at a record, with a number and its detail
-abbrev at_row : ℕ → (ℕ → Detail) → ℕ → Fault
-at_row row detail n = record { row = row; number = n; detail = detail n }
+-- ---- what is named
 
--- one that is known, by its number
-told_by : (row : ℕ) (detail : ℕ → Detail) (f known : Fault) → f ≡ known → known ≡ at_row row detail known.number → f ≡ at_row row detail f.number
-told_by row detail f known is at = is ∙ (at ∙ ap (λ (h : Fault). at_row row detail h.number) (sym is))
+-- one fault where a name is not there, and another where it is
+abbrev unless_known : Option ℕ → Fault → Fault → Fault
+unless_known found missing other = if is_none found then missing else other
 
--- one code, or another where it is known
-abbrev unless_known : Option ℕ → List ℕ → List ℕ → List ℕ
-unless_known found code other = if is_none found then code else other
+where_known : (found : Option ℕ) (missing other : Fault) → IsSome found → other ≡ unless_known found missing other
+where_known None missing other some = absurd (let some' = some in cc)
+where_known (Some k) missing other some = refl
 
-first_unknown : (found : Option ℕ) (code other : List ℕ) → found ≡ None → code ≡ unless_known found code other
-first_unknown found code other none = ap (λ (o : Option ℕ). unless_known o code other) (sym none)
+-- the fault of the first of these names that is not there
+abbrev unknown_among : Deck → ℕ → List Reference → Fault
+unknown_among deck row [] = fault.no_top
+unknown_among deck row (named ∷ more) =
+    unless_known (named_among (target_codes deck named.target) named.code) (fault.unknown_name named.target row named.code) (unknown_among deck row more)
 
-second_unknown : (found : Option ℕ) (code other : List ℕ) → IsSome found → other ≡ unless_known found code other
-second_unknown None code other some = absurd (let some' = some in cc)
-second_unknown (Some k) code other some = refl
+unknown_is : (deck : Deck) (row : ℕ) (names : List Reference) (f : Fault) → HasUnknown deck row names f → f ≡ unknown_among deck row names
+unknown_is deck row [] f h = absurd h
+unknown_is deck row (named ∷ more) f (inl is) =
+    is.told ∙ ap (λ (found : Option ℕ). unless_known found (fault.unknown_name named.target row named.code) (unknown_among deck row more)) (sym is.missing)
+unknown_is deck row (named ∷ more) f (inr (there, h)) =
+    unknown_is deck row more f h
+    ∙ where_known (named_among (target_codes deck named.target) named.code) (fault.unknown_name named.target row named.code) (unknown_among deck row more) there
 
--- ---- plans
+-- ---- what is wrong with a card by itself, and the number that says which of the two it is
 
--- the faults of a card of a kind
-abbrev Faulty : Deck → (kind : Kind) → CardOf kind → Fault → Type 0
-Faulty deck Project card f = HasProjectFault deck card f
-Faulty deck Wbs card f = HasItemFault deck card f
-Faulty deck Act card f = HasActFault deck card f
-Faulty deck Piece card f = IsUnknown deck target.Activity card.row card.activity f
-Faulty deck Load card f = HasLoadFault deck target.Activity card f
-Faulty deck Acct card f = IsUnknown deck target.Item card.row card.item f
-Faulty deck Charge card f = IsUnknown deck target.Account card.row card.account f
-Faulty deck ToGo card f = IsUnknown deck target.Account card.row card.account f
-Faulty deck Status card f = IsUnknown deck target.Activity card.row card.activity f
-Faulty deck other card f = ⊥
+abbrev is_flaw : ℕ → Bool
+is_flaw n = nat_le 17 n && nat_le n 19
 
--- the detail of each, by its number
-abbrev detail_of : Deck → (kind : Kind) → CardOf kind → ℕ → Detail
-detail_of deck Project card n =
-    if n == 13 then Name (unless_known (named_among (event_codes deck) card.start) card.start card.end) else Name card.start
-detail_of deck Wbs card n = Name (unwrap_or card.parent [])
-detail_of deck Act card n =
-    if n == 13 then Name (unless_known (named_among (event_codes deck) card.from) card.from card.to)
-    else if n == 14 then Name card.item
-    else if n == 17 then Name card.from
-    else Plain
-detail_of deck Piece card n = Name card.activity
-detail_of deck Load card n = if n == 16 then Name card.activity else Name card.resource
-detail_of deck Acct card n = Name card.item
-detail_of deck Charge card n = Name card.account
-detail_of deck ToGo card n = Name card.account
-detail_of deck Status card n = Name card.activity
-detail_of deck other card n = Plain
+no_flaw_number : (named : Target) → is_flaw (unknown_number named) ≡ false
+no_flaw_number target.Event = refl
+no_flaw_number target.Item = refl
+no_flaw_number target.Account = refl
+no_flaw_number target.Activity = refl
+no_flaw_number target.Task = refl
+no_flaw_number target.Resource = refl
 
-abbrev told : Deck → Kind → Numbered → ℕ → Fault
-told deck kind c n = at_row c.0 (detail_of deck kind (card_of kind c.0 c.1)) n
+unknown_is_no_flaw : (deck : Deck) (row : ℕ) (names : List Reference) (f : Fault) → HasUnknown deck row names f → is_flaw f.number ≡ false
+unknown_is_no_flaw deck row [] f h = absurd h
+unknown_is_no_flaw deck row (named ∷ more) f (inl is) = ap (λ (g : Fault). is_flaw g.number) is.told ∙ no_flaw_number named.target
+unknown_is_no_flaw deck row (named ∷ more) f (inr (there, h)) = unknown_is_no_flaw deck row more f h
 
-told_is : (deck : Deck) (kind : Kind) (c : Numbered) (f : Fault) → Faulty deck kind (card_of kind c.0 c.1) f → f ≡ told deck kind c f.number
-told_is deck Project c f (plan.unknown_start is) =
-    told_by c.0 (detail_of deck Project (card_of Project c.0 c.1)) f _ is.told (ap (λ (code : List ℕ). fault.unknown_name target.Event c.0 code) (first_unknown _ _ _ is.missing))
-told_is deck Project c f (plan.unknown_end known is) =
-    told_by c.0 (detail_of deck Project (card_of Project c.0 c.1)) f _ is.told (ap (λ (code : List ℕ). fault.unknown_name target.Event c.0 code) (second_unknown _ _ _ known))
-told_is deck Project c f (plan.same_ends same is) = told_by c.0 (detail_of deck Project (card_of Project c.0 c.1)) f _ is refl
-told_is deck Wbs c f (plan.unknown_parent code there is) =
-    told_by c.0 (detail_of deck Wbs (card_of Wbs c.0 c.1)) f _ is.told (ap (λ (o : Option (List ℕ)). fault.unknown_name target.Item c.0 (unwrap_or o [])) (sym there))
-told_is deck Act c f (plan.unknown_from is) =
-    told_by c.0 (detail_of deck Act (card_of Act c.0 c.1)) f _ is.told (ap (λ (code : List ℕ). fault.unknown_name target.Event c.0 code) (first_unknown _ _ _ is.missing))
-told_is deck Act c f (plan.unknown_to known is) =
-    told_by c.0 (detail_of deck Act (card_of Act c.0 c.1)) f _ is.told (ap (λ (code : List ℕ). fault.unknown_name target.Event c.0 code) (second_unknown _ _ _ known))
-told_is deck Act c f (plan.unknown_item is) = told_by c.0 (detail_of deck Act (card_of Act c.0 c.1)) f _ is.told refl
-told_is deck Act c f (plan.same_events same is) = told_by c.0 (detail_of deck Act (card_of Act c.0 c.1)) f _ is refl
-told_is deck Act c f (plan.unordered not is) = told_by c.0 (detail_of deck Act (card_of Act c.0 c.1)) f _ is refl
-told_is deck Act c f (plan.crash_above above is) = told_by c.0 (detail_of deck Act (card_of Act c.0 c.1)) f _ is refl
-told_is deck Piece c f is = told_by c.0 (detail_of deck Piece (card_of Piece c.0 c.1)) f _ is.told refl
-told_is deck Load c f (plan.unknown_work is) = told_by c.0 (detail_of deck Load (card_of Load c.0 c.1)) f _ is.told refl
-told_is deck Load c f (plan.unknown_resource is) = told_by c.0 (detail_of deck Load (card_of Load c.0 c.1)) f _ is.told refl
-told_is deck Acct c f is = told_by c.0 (detail_of deck Acct (card_of Acct c.0 c.1)) f _ is.told refl
-told_is deck Charge c f is = told_by c.0 (detail_of deck Charge (card_of Charge c.0 c.1)) f _ is.told refl
-told_is deck ToGo c f is = told_by c.0 (detail_of deck ToGo (card_of ToGo c.0 c.1)) f _ is.told refl
-told_is deck Status c f is = told_by c.0 (detail_of deck Status (card_of Status c.0 c.1)) f _ is.told refl
-told_is deck other c f h = absurd (let h' = h in h')
+abbrev flaw_told : (kind : Kind) → CardOf kind → ℕ → Fault
+flaw_told Project card n = fault.one_event card.row card.start
+flaw_told Act card n = if n == 17 then fault.one_event card.row card.from else record { row = card.row; number = n; detail = Plain }
+flaw_told kinds.Task card n = record { row = card.row; number = n; detail = Plain }
+flaw_told After card n = fault.one_event card.row card.task
+flaw_told other card n = fault.no_top
 
-at_own_row : (deck : Deck) (kind : Kind) (c : Numbered) (f : Fault) → Faulty deck kind (card_of kind c.0 c.1) f → f.row ≡ c.0
-at_own_row deck kind c f h = ap (λ (g : Fault). g.row) (told_is deck kind c f h)
+-- such a fault is known by its number, and is at the card's record
+record IsFlawTold (kind : Kind) (card : CardOf kind) (f : Fault) : Type 0 where
+  is : f ≡ flaw_told kind card f.number
+  number : is_flaw f.number ≡ true
+  row : f.row ≡ (entry_of kind).row card
+
+told_by : (kind : Kind) (card : CardOf kind) (f known : Fault) → f ≡ known → known ≡ flaw_told kind card known.number → is_flaw known.number ≡ true →
+    known.row ≡ (entry_of kind).row card → IsFlawTold kind card f
+told_by kind card f known is at number row = record {
+  is = is ∙ (at ∙ ap (λ (h : Fault). flaw_told kind card h.number) (sym is));
+  number = ap (λ (h : Fault). is_flaw h.number) is ∙ number;
+  row = ap (λ (h : Fault). h.row) is ∙ row;
+}
+
+plan_flaw : (kind : Kind) (card : CardOf kind) (f : Fault) → (entry_of kind).flaws Plan card f → IsFlawTold kind card f
+plan_flaw Project card f h = told_by Project card f _ h.1 refl refl refl
+plan_flaw Act card f (act.same_events same is) = told_by Act card f _ is refl refl refl
+plan_flaw Act card f (act.durations (unordered not is)) = told_by Act card f _ is refl refl refl
+plan_flaw Act card f (act.durations (crash_above above is)) = told_by Act card f _ is refl refl refl
+plan_flaw other card f h = absurd (let h' = h in h')
+
+task_flaw : (kind : Kind) (card : CardOf kind) (f : Fault) → (entry_of kind).flaws Tasks card f → IsFlawTold kind card f
+task_flaw Project card f h = told_by Project card f _ h.1 refl refl refl
+task_flaw kinds.Task card f (unordered not is) = told_by kinds.Task card f _ is refl refl refl
+task_flaw kinds.Task card f (crash_above above is) = told_by kinds.Task card f _ is refl refl refl
+task_flaw After card f h = told_by After card f _ h.1 refl refl refl
+task_flaw other card f h = absurd (let h' = h in h')
+
+flaw_is : (sort : Sort) (kind : Kind) (card : CardOf kind) (f : Fault) → (entry_of kind).flaws sort card f → IsFlawTold kind card f
+flaw_is Plan kind card f h = plan_flaw kind card f h
+flaw_is Tasks kind card f h = task_flaw kind card f h
+
+-- ---- a card's faults
+
+abbrev told : Sort → Deck → Kind → Numbered → ℕ → Fault
+told sort deck kind c n =
+    if is_flaw n then flaw_told kind (card_of kind c.0 c.1) n
+    else unknown_among deck ((entry_of kind).row (card_of kind c.0 c.1)) (names_of sort kind (card_of kind c.0 c.1))
+
+by_test : (test known : Bool) (one other : Fault) → test ≡ known → (if known then one else other) ≡ (if test then one else other)
+by_test test known one other is = ap (λ (b : Bool). if b then one else other) (sym is)
+
+told_is : (sort : Sort) (deck : Deck) (kind : Kind) (c : Numbered) (f : Fault) → HasCardFault sort deck kind (card_of kind c.0 c.1) f → f ≡ told sort deck kind c f.number
+told_is sort deck kind c f (inl unknown) =
+    let card = card_of kind c.0 c.1 in
+    unknown_is deck ((entry_of kind).row card) (names_of sort kind card) f unknown
+    ∙ by_test (is_flaw f.number) false (flaw_told kind card f.number) (unknown_among deck ((entry_of kind).row card) (names_of sort kind card))
+    (unknown_is_no_flaw deck ((entry_of kind).row card) (names_of sort kind card) f unknown)
+told_is sort deck kind c f (inr flaw) =
+    let card = card_of kind c.0 c.1 in
+    let told = flaw_is sort kind card f flaw in
+    told.is ∙ by_test (is_flaw f.number) true (flaw_told kind card f.number) (unknown_among deck ((entry_of kind).row card) (names_of sort kind card)) told.number
+
+-- a card that has a fault is at its own record
+own_row : (sort : Sort) (deck : Deck) (kind : Kind) (c : Numbered) (f : Fault) → HasCardFault sort deck kind (card_of kind c.0 c.1) f → (entry_of kind).row (card_of kind c.0 c.1) ≡ c.0
+own_row sort deck End c f h = absurd (⊎_elim (λ x. x) (λ x. x) h)
+own_row sort deck other c f h = refl
+
+at_own_row : (sort : Sort) (deck : Deck) (kind : Kind) (c : Numbered) (f : Fault) → HasCardFault sort deck kind (card_of kind c.0 c.1) f → f.row ≡ c.0
+at_own_row sort deck kind c f h =
+    let card = card_of kind c.0 c.1 in
+    ⊎_elim (λ unknown. unknown_row deck ((entry_of kind).row card) (names_of sort kind card) f unknown) (λ flaw. (flaw_is sort kind card f flaw).row) h ∙ own_row sort deck kind c f h
 
 -- ---- cards on items that have items below them
 
@@ -126,86 +161,20 @@ branch_row deck Act c f h = ap (λ (g : Fault). g.row) h.1
 branch_row deck Acct c f h = ap (λ (g : Fault). g.row) h.1
 branch_row deck other c f h = absurd (let h' = h in h')
 
--- ---- tasks
-
-abbrev TaskFaulty : Deck → (kind : Kind) → CardOf kind → Fault → Type 0
-TaskFaulty deck Project card f = (card.start ≡ card.end) × (f ≡ fault.one_event card.row card.start)
-TaskFaulty deck Wbs card f = HasItemFault deck card f
-TaskFaulty deck Task card f = tasks.HasTaskFault deck card f
-TaskFaulty deck After card f = tasks.HasAfterFault deck card f
-TaskFaulty deck Piece card f = IsUnknown deck target.Task card.row card.activity f
-TaskFaulty deck Load card f = HasLoadFault deck target.Task card f
-TaskFaulty deck Acct card f = IsUnknown deck target.Item card.row card.item f
-TaskFaulty deck Charge card f = IsUnknown deck target.Account card.row card.account f
-TaskFaulty deck ToGo card f = IsUnknown deck target.Account card.row card.account f
-TaskFaulty deck Status card f = IsUnknown deck target.Task card.row card.activity f
-TaskFaulty deck other card f = ⊥
-
-abbrev task_detail : Deck → (kind : Kind) → CardOf kind → ℕ → Detail
-task_detail deck Project card n = Name card.start
-task_detail deck Wbs card n = Name (unwrap_or card.parent [])
-task_detail deck Task card n = if n == 14 then Name card.item else Plain
-task_detail deck After card n =
-    if n == 16 then Name (unless_known (named_among (task_codes deck) card.task) card.task card.before) else Name card.task
-task_detail deck Piece card n = Name card.activity
-task_detail deck Load card n = if n == 16 then Name card.activity else Name card.resource
-task_detail deck Acct card n = Name card.item
-task_detail deck Charge card n = Name card.account
-task_detail deck ToGo card n = Name card.account
-task_detail deck Status card n = Name card.activity
-task_detail deck other card n = Plain
-
-abbrev task_told : Deck → Kind → Numbered → ℕ → Fault
-task_told deck kind c n = at_row c.0 (task_detail deck kind (card_of kind c.0 c.1)) n
-
-task_is : (deck : Deck) (kind : Kind) (c : Numbered) (f : Fault) → TaskFaulty deck kind (card_of kind c.0 c.1) f → f ≡ task_told deck kind c f.number
-task_is deck Project c f h = told_by c.0 (task_detail deck Project (card_of Project c.0 c.1)) f _ h.1 refl
-task_is deck Wbs c f (plan.unknown_parent code there is) =
-    told_by c.0 (task_detail deck Wbs (card_of Wbs c.0 c.1)) f _ is.told (ap (λ (o : Option (List ℕ)). fault.unknown_name target.Item c.0 (unwrap_or o [])) (sym there))
-task_is deck Task c f (tasks.unknown_item is) = told_by c.0 (task_detail deck Task (card_of Task c.0 c.1)) f _ is.told refl
-task_is deck Task c f (tasks.HasTaskFault.unordered not is) = told_by c.0 (task_detail deck Task (card_of Task c.0 c.1)) f _ is refl
-task_is deck Task c f (tasks.HasTaskFault.crash_above above is) = told_by c.0 (task_detail deck Task (card_of Task c.0 c.1)) f _ is refl
-task_is deck After c f (tasks.unknown_task is) =
-    told_by c.0 (task_detail deck After (card_of After c.0 c.1)) f _ is.told (ap (λ (code : List ℕ). fault.unknown_name target.Task c.0 code) (first_unknown _ _ _ is.missing))
-task_is deck After c f (tasks.unknown_before known is) =
-    told_by c.0 (task_detail deck After (card_of After c.0 c.1)) f _ is.told (ap (λ (code : List ℕ). fault.unknown_name target.Task c.0 code) (second_unknown _ _ _ known))
-task_is deck After c f (tasks.HasAfterFault.same_task same is) = told_by c.0 (task_detail deck After (card_of After c.0 c.1)) f _ is refl
-task_is deck Piece c f is = told_by c.0 (task_detail deck Piece (card_of Piece c.0 c.1)) f _ is.told refl
-task_is deck Load c f (plan.unknown_work is) = told_by c.0 (task_detail deck Load (card_of Load c.0 c.1)) f _ is.told refl
-task_is deck Load c f (plan.unknown_resource is) = told_by c.0 (task_detail deck Load (card_of Load c.0 c.1)) f _ is.told refl
-task_is deck Acct c f is = told_by c.0 (task_detail deck Acct (card_of Acct c.0 c.1)) f _ is.told refl
-task_is deck Charge c f is = told_by c.0 (task_detail deck Charge (card_of Charge c.0 c.1)) f _ is.told refl
-task_is deck ToGo c f is = told_by c.0 (task_detail deck ToGo (card_of ToGo c.0 c.1)) f _ is.told refl
-task_is deck Status c f is = told_by c.0 (task_detail deck Status (card_of Status c.0 c.1)) f _ is.told refl
-task_is deck other c f h = absurd (let h' = h in h')
-
-task_row : (deck : Deck) (kind : Kind) (c : Numbered) (f : Fault) → TaskFaulty deck kind (card_of kind c.0 c.1) f → f.row ≡ c.0
-task_row deck kind c f h = ap (λ (g : Fault). g.row) (task_is deck kind c f h)
-
 -- ---- in a deck that was read
 
 module _ (cards : List Numbered) (deck : Deck) (rising : Rises 1 cards) (says : Says cards deck) where
-  abbrev Misfit : Fault → Type 0
-  Misfit f = IsCardFault cards deck rising says (Faulty deck) (told deck) (told_is deck) (at_own_row deck) f
+  module _ (sort : Sort) where
+    abbrev Misfit : Fault → Type 0
+    Misfit f = IsCardFault cards deck rising says (HasCardFault sort deck) (told sort deck) (told_is sort deck) (at_own_row sort deck) f
 
-  some_misfit : (kind : Kind) (f : Fault) → Any (λ card. Faulty deck kind card f) (list_of deck kind) → Misfit f
-  some_misfit kind f any = some_card cards deck rising says (Faulty deck) (told deck) (told_is deck) (at_own_row deck) kind f any
+    as_misfit : (f : Fault) → HasMisfit sort deck f → Misfit f
+    as_misfit f (n, kind, among, at, any) = some_card cards deck rising says (HasCardFault sort deck) (told sort deck) (told_is sort deck) (at_own_row sort deck) kind f any
 
-  as_misfit : (f : Fault) → plan.HasMisfit deck f → Misfit f
-  as_misfit f (plan.project h) = some_misfit Project f (0, deck.project, omega arith, refl, h)
-  as_misfit f (plan.listed (plan.item any)) = some_misfit Wbs f any
-  as_misfit f (plan.listed (plan.act any)) = some_misfit Act f any
-  as_misfit f (plan.listed (plan.piece any)) = some_misfit Piece f any
-  as_misfit f (plan.listed (plan.load any)) = some_misfit Load f any
-  as_misfit f (plan.listed (plan.figure (plan.account any))) = some_misfit Acct f any
-  as_misfit f (plan.listed (plan.figure (plan.charge any))) = some_misfit Charge f any
-  as_misfit f (plan.listed (plan.figure (plan.togo any))) = some_misfit ToGo f any
-  as_misfit f (plan.listed (plan.figure (plan.status any))) = some_misfit Status f any
-
-  -- the faults of the cards of a plan
-  pub misfit_once : AreToldByPlace (plan.HasMisfit deck)
-  misfit_once f g x y =
-      card_fault_once cards deck rising says (Faulty deck) (told deck) (told_is deck) (at_own_row deck) f g (as_misfit f x) (as_misfit g y)
+    -- the faults of the cards
+    pub misfit_once : AreToldByPlace (HasMisfit sort deck)
+    misfit_once f g x y =
+        card_fault_once cards deck rising says (HasCardFault sort deck) (told sort deck) (told_is sort deck) (at_own_row sort deck) f g (as_misfit f x) (as_misfit g y)
 
   abbrev LeafFault : Fault → Type 0
   LeafFault f = IsCardFault cards deck rising says (OnBranch deck) branch_of (branch_is deck) (branch_row deck) f
@@ -220,25 +189,3 @@ module _ (cards : List Numbered) (deck : Deck) (rising : Rises 1 cards) (says : 
   -- those of its activities and accounts that are on no leaf
   pub leaf_once : AreToldByPlace (HasLeafFault deck)
   leaf_once f g x y = card_fault_once cards deck rising says (OnBranch deck) branch_of (branch_is deck) (branch_row deck) f g (as_leaf f x) (as_leaf g y)
-
-  abbrev TaskMisfit : Fault → Type 0
-  TaskMisfit f = IsCardFault cards deck rising says (TaskFaulty deck) (task_told deck) (task_is deck) (task_row deck) f
-
-  some_task : (kind : Kind) (f : Fault) → Any (λ card. TaskFaulty deck kind card f) (list_of deck kind) → TaskMisfit f
-  some_task kind f any = some_card cards deck rising says (TaskFaulty deck) (task_told deck) (task_is deck) (task_row deck) kind f any
-
-  as_task : (f : Fault) → tasks.HasTaskMisfit deck f → TaskMisfit f
-  as_task f (tasks.ends h) = some_task Project f (0, deck.project, omega arith, refl, h)
-  as_task f (tasks.item any) = some_task Wbs f any
-  as_task f (tasks.task any) = some_task Task f any
-  as_task f (tasks.after any) = some_task After f any
-  as_task f (tasks.piece any) = some_task Piece f any
-  as_task f (tasks.account any) = some_task Acct f any
-  as_task f (tasks.charge any) = some_task Charge f any
-  as_task f (tasks.togo any) = some_task ToGo f any
-  as_task f (tasks.status any) = some_task Status f any
-  as_task f (tasks.load any) = some_task Load f any
-
-  -- the faults of the cards of a deck of tasks
-  pub task_once : AreToldByPlace (tasks.HasTaskMisfit deck)
-  task_once f g x y = card_fault_once cards deck rising says (TaskFaulty deck) (task_told deck) (task_is deck) (task_row deck) f g (as_task f x) (as_task g y)

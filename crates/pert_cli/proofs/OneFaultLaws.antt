@@ -32,7 +32,7 @@ of_plan bytes f g (plans.card_refusal short x) (plans.project_refusal deck few r
 of_plan bytes f g (plans.project_refusal deck short read refused) (plans.too_long long is) = absurd (omega (arith, long, short))
 of_plan bytes f g (plans.project_refusal deck short read refused) (plans.card_refusal few y) = absurd (not_both_as Plan bytes deck g read y)
 of_plan bytes f g (plans.project_refusal deck short read x) (plans.project_refusal other few too y) =
-    refused_alike deck (rows_of_read Plan bytes deck read) (misfit_once (deck_cards bytes) deck (deck_rises bytes) read.says)
+    refused_alike deck (rows_of_read Plan bytes deck read) (misfit_once (deck_cards bytes) deck (deck_rises bytes) read.says Plan)
     (leaf_once (deck_cards bytes) deck (deck_rises bytes) read.says) f g x
     (subst (λ (d : Deck). IsRefusedWith d g) (one_deck_as Plan bytes other deck too read) y)
 

@@ -6,10 +6,12 @@ use Rattle.pc_accounts.specs.declared.status.StatusRow.{StatusRow}
 use Rattle.pc_accounts.specs.status.Statuses.{IsReason, reason_rank}
 use Rattle.pc_accounts.specs.Packages.{IsUneven}
 use Rattle.pc_accounts.specs.Second.{IsRepeated}
+use Rattle.pc_cards.specs.declared.sort.Sort.TheVariants.{Plan}
 use Rattle.pc_deck.specs.Deck.{Deck}
 use Rattle.pc_deck.specs.declared.kinds.as_of.AsOfCard.{AsOfCard}
 use Rattle.pc_deck.specs.declared.kinds.terms.TermsCard.{TermsCard}
 use Rattle.pc_deck.specs.declared.kinds.wbs.ItemCard.{ItemCard}
+use Rattle.pc_deck.specs.Misfit.{HasMisfit, HasNoMisfit}
 use Rattle.pc_faults.specs.Faults as fault
 use Rattle.pc_faults.specs.First.{IsFirstFault}
 use Rattle.pc_faults.specs.declared.fault.DeckError.{DeckError}
@@ -26,7 +28,6 @@ use Rattle.pc_net.specs.declared.refusal.NetError.{NetError}
 use Rattle.pc_net.specs.declared.refusal.NetError.TheVariants as net
 use Rattle.pc_net.proofs.RefusalLaws.{refused_is_not_sound}
 use Rattle.pc_project.specs.DisorderFaults.{HasDisorder, HasNoDisorder, as_of_in, of_as_of, of_status}
-use Rattle.pc_project.specs.Misfit.{HasMisfit, HasNoMisfit}
 use Rattle.pc_project.specs.PackageFaults.{HasLeafFault, HasNoLeafFault, IsFirstUnevenFault, uneven_at}
 use Rattle.pc_project.specs.PieceFaults.{HasNoPieceFault, HasPieceFault, HasPieceFaultAt, none_left, not_rising, one_too_many}
 use Rattle.pc_project.specs.Project.{accounts_in, network_of, rows_of, statuses_in, togos_in, work_in}
@@ -241,7 +242,7 @@ module _ (deck : Deck) (rows : HasOwnRows deck) where
   FromTree f = IsTreeFault deck.items (rows_of deck) f ⊎ (IsTree (rows_of deck) × FromNetwork f)
 
   abbrev FromCards : Fault → Type 0
-  FromCards f = IsFirstFault (HasMisfit deck) f ⊎ (HasNoMisfit deck × FromTree f)
+  FromCards f = IsFirstFault (HasMisfit Plan deck) f ⊎ (HasNoMisfit Plan deck × FromTree f)
 
   behind_plan : (f : Fault) → HasSoundPlan deck → FromLeaves f → FromCards f
   behind_plan f plan rest = inr (plan.cards, inr (plan.tree, inr (plan.sound, rest)))
@@ -267,7 +268,7 @@ module _ (deck : Deck) (rows : HasOwnRows deck) where
   first_alike : (Has : Fault → Type 0) → AreToldByPlace Has → (f g : Fault) → IsFirstFault Has f → IsFirstFault Has g → AreAlike f g
   first_alike Has told f g x y = alike f g (first_once Has told f g x y)
 
-  module _ (misfits : AreToldByPlace (HasMisfit deck)) (leaves : AreToldByPlace (HasLeafFault deck)) where
+  module _ (misfits : AreToldByPlace (HasMisfit Plan deck)) (leaves : AreToldByPlace (HasLeafFault deck)) where
     from_pieces : (f g : Fault) → FromPieces f → FromPieces g → AreAlike f g
     from_pieces =
         settled (IsFirstFault (HasPieceFault deck)) FromTerms (first_alike (HasPieceFault deck) piece_told) (none_of (HasPieceFault deck))
@@ -296,7 +297,7 @@ module _ (deck : Deck) (rows : HasOwnRows deck) where
         (λ f x sound. no_tree deck.items (rows_of deck) f sound x) from_network
 
     from_cards : (f g : Fault) → FromCards f → FromCards g → AreAlike f g
-    from_cards = settled (IsFirstFault (HasMisfit deck)) FromTree (first_alike (HasMisfit deck) misfits) (none_of (HasMisfit deck)) from_tree
+    from_cards = settled (IsFirstFault (HasMisfit Plan deck)) FromTree (first_alike (HasMisfit Plan deck) misfits) (none_of (HasMisfit Plan deck)) from_tree
 
     -- the refusal of the deck is one fault
     pub refused_alike : (f g : Fault) → IsRefusedWith deck f → IsRefusedWith deck g → AreAlike f g

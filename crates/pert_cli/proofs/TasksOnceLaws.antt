@@ -6,6 +6,7 @@ use Rattle.std.proofs.lemmas.List.Elements.{All-append, All-cons, All-head, All-
 use Rattle.pc_records.specs.Deck.{deck_records}
 use Rattle.pc_cards.specs.Cards.{Numbered, deck_cards}
 use Rattle.pc_cards.specs.declared.sort.Sort.{Sort}
+use Rattle.pc_cards.specs.declared.sort.Sort.TheVariants.{Plan, Tasks}
 use Rattle.pc_deck.specs.Deck.{Deck}
 use Rattle.pc_deck.specs.Kinds.{CardOf, card_of}
 use Rattle.pc_deck.specs.Read.{IsReadAs}
@@ -24,12 +25,12 @@ use Rattle.pc_deck.proofs.ReadLemmas.{IsTextCard, deck_cards-text}
 use Rattle.pc_deck.proofs.RefusalLemmas.{first_of-read}
 use Rattle.pc_deck.proofs.SaysLemmas.{says_of-read}
 use Rattle.pc_deck.proofs.WithinLemmas.{deck_within, next_within, no_cards_within}
+use Rattle.pc_deck.specs.Misfit.{HasMisfit, HasNoMisfit}
 use Rattle.pc_faults.specs.Faults as fault
 use Rattle.pc_faults.specs.First.{IsFirstFault}
 use Rattle.pc_faults.specs.declared.fault.Fault.{Fault}
 use Rattle.pc_faults.specs.declared.kind.Kind.{Kind}
 use Rattle.pc_faults.specs.declared.kind.Kind.TheVariants.{Acct, Task}
-use Rattle.pc_project.specs.Misfit as plan
 use Rattle.pc_project.specs.PackageFaults.{HasLeafFault, StandsOnBranch, of_account, of_act}
 use Rattle.pc_project.specs.Project.{rows_of}
 use Rattle.pc_project.specs.Refusal.{HasSoundPlan, IsRefusedWith, IsTreeFault}
@@ -37,16 +38,15 @@ use Rattle.pc_project.proofs.RefusalLaws.{no_tree}
 use Rattle.pc_tasks.specs.Codes.{links_code}
 use Rattle.pc_tasks.specs.Drawn.{after_links, arrows_deck, first_link, last_link, links_of, task_acts}
 use Rattle.pc_tasks.specs.Lists.{afters_in}
-use Rattle.pc_tasks.specs.Misfit.{HasTaskMisfit, HasNoTaskMisfit}
 use Rattle.pc_tasks.specs.Refusal.{HasLoneTop, HasNoTask, HasSoundItems, HasSoundTasks, IsCycleFault, IsTasksRefusedWith, task_records}
 use Rattle.pc_tasks.specs.Refusal.{of_cards, of_cycle, of_none, of_plan, of_top, of_tree}
-use Rattle.pc_tasks.specs.declared.network.AfterRow.{AfterRow}
+use Rattle.pc_project.specs.declared.placed.AfterRow.{AfterRow}
 use Rattle.pc_tasks.specs.network.Arrows.{firsts, lasts}
 use Rattle.pc_tasks.specs.network.Cycles.{IsTaskCycle, LiesOnTaskCycle}
 use Rattle.pc_wbs.specs.Climb.{IsTree}
 use Rattle.pert_cli.proofs.CardOnceLaws.{Rises}
 use Rattle.pert_cli.proofs.FirstOnceLaws.{AreAlike, AreToldByPlace, alike, first_number_once, first_once, settled}
-use Rattle.pert_cli.proofs.MisfitOnceLaws.{task_once}
+use Rattle.pert_cli.proofs.MisfitOnceLaws.{misfit_once}
 use Rattle.pert_cli.proofs.PhaseOnceLaws.{refused_alike, tree_once}
 use Rattle.pert_cli.proofs.RowsOnceLaws.{HasOwnRows, IsCardFault, IsNamed, IsSpelled, Stands, card_fault_once, list_spelled, own_rows, some_of_all, stands_behind}
 
@@ -222,7 +222,7 @@ module _ (cards : List Numbered) (deck : Deck) (rising : Rises 1 cards) (says : 
   FromTree f = IsTreeFault deck.items (rows_of deck) f ⊎ (IsTree (rows_of deck) × FromTop f)
 
   abbrev FromCards : Fault → Type 0
-  FromCards f = IsFirstFault (HasTaskMisfit deck) f ⊎ (HasNoTaskMisfit deck × FromTree f)
+  FromCards f = IsFirstFault (HasMisfit Tasks deck) f ⊎ (HasNoMisfit Tasks deck × FromTree f)
 
   behind_items : (f : Fault) → HasSoundItems deck → FromNone f → FromCards f
   behind_items f items rest = inr (items.cards, inr (items.tree, inr (items.branch, rest)))
@@ -239,7 +239,7 @@ module _ (cards : List Numbered) (deck : Deck) (rising : Rises 1 cards) (says : 
     from_plan : (f g : Fault) → FromPlan f → FromPlan g → AreAlike f g
     from_plan f g (sound, x) (too, y) =
         let known = (drawn_sound sound).cards in
-        let misfits : AreToldByPlace (plan.HasMisfit (arrows_deck deck)) = λ h k has also row number. absurd (known h has) in
+        let misfits : AreToldByPlace (HasMisfit Plan (arrows_deck deck)) = λ h k has also row number. absurd (known h has) in
         refused_alike (arrows_deck deck) drawn_rows misfits drawn_leaf_told f g x y
 
     from_cycle : (f g : Fault) → FromCycle f → FromCycle g → AreAlike f g
@@ -259,7 +259,7 @@ module _ (cards : List Numbered) (deck : Deck) (rising : Rises 1 cards) (says : 
 
     from_cards : (f g : Fault) → FromCards f → FromCards g → AreAlike f g
     from_cards =
-        settled (IsFirstFault (HasTaskMisfit deck)) FromTree (λ f g x y. alike f g (first_once (HasTaskMisfit deck) (task_once cards deck rising says) f g x y))
+        settled (IsFirstFault (HasMisfit Tasks deck)) FromTree (λ f g x y. alike f g (first_once (HasMisfit Tasks deck) (misfit_once cards deck rising says Tasks) f g x y))
         (λ f x none. none f x.holds) from_tree
 
     -- the refusal of the deck is one fault

@@ -1,7 +1,7 @@
 -- Tasks that wait for each other in a cycle.
 use Rattle.std.specs.Prelude.{◌≡◌, ◌≢◌, ℕ, ◌<◌, List, [], ◌∷◌, length, slice_index}
 use Rattle.pc_model.specs.Greatest.{IsFirst, StandsBelow}
-use Rattle.pc_tasks.specs.declared.network.AfterRow.{AfterRow}
+use Rattle.pc_project.specs.declared.placed.AfterRow.{AfterRow}
 use Rattle.pc_tasks.specs.network.Tasks.{after_at}
 
 -- some row says that task t comes after task s

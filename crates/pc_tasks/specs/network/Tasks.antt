@@ -3,7 +3,7 @@ use Rattle.std.specs.Prelude.{◌≡◌, ℕ, ◌+◌, ◌<◌, ◌≤◌, List,
 use Rattle.pc_model.specs.declared.Term.{Term}
 use Rattle.pc_model.specs.Schedule.{normal_of, crash_of}
 use Rattle.pc_model.specs.Cost.{Knees, cost_of}
-use Rattle.pc_tasks.specs.declared.network.AfterRow.{AfterRow}
+use Rattle.pc_project.specs.declared.placed.AfterRow.{AfterRow}
 
 -- the j-th of the rows that say which task comes after which; past the end of the list, a row of zeros
 abbrev pub after_at : List AfterRow → ℕ → AfterRow

@@ -1,5 +1,5 @@
 -- Decks that say the same make a project alike: each fault of one is, at another record, a fault of the other.
-use Rattle.std.proofs.Common.{◌≡◌, ℕ, ℤ, ◌<◌, ◌<ℤ◌, List, length, get_or, map, Option, Some, None, refl, sym, ap, subst, ◌∙◌, arith}
+use Rattle.std.proofs.Common.{◌≡◌, ℕ, ℤ, ◌<◌, ◌<ℤ◌, List, [], ◌∷◌, length, get_or, map, Option, Some, None, refl, sym, ap, subst, ◌∙◌, inl, inr, ⊎_elim, arith}
 use Rattle.std.specs.Prelude.{IsSome}
 use Rattle.std.specs.List.{Any}
 use Rattle.std.proofs.lemmas.Int.{ints}
@@ -11,10 +11,10 @@ use Rattle.pc_model.specs.declared.PieceRow.{PieceRow}
 use Rattle.pc_model.specs.declared.Term.{Term}
 use Rattle.pc_accounts.specs.status.Statuses.{IsReason}
 use Rattle.pc_wbs.specs.Climb.{IsLeaf, IsTree}
-use Rattle.pc_faults.specs.Faults.{unknown_name}
 use Rattle.pc_faults.specs.declared.fault.Fault.{Fault}
-use Rattle.pc_faults.specs.declared.target.Target.{Target}
-use Rattle.pc_faults.specs.declared.target.Target.TheVariants.{Event, Item, Account, Activity, Resource}
+use Rattle.pc_faults.specs.declared.kind.Kind.{Kind}
+use Rattle.pc_faults.specs.declared.kind.Kind.TheVariants.{Project, Wbs, Act, Piece, Acct, Charge, ToGo, Status, Load}
+use Rattle.pc_cards.specs.declared.sort.Sort.TheVariants.{Plan}
 use Rattle.pc_deck.specs.declared.kinds.acct.AcctCard.{AcctCard}
 use Rattle.pc_deck.specs.declared.kinds.act.ActCard.{ActCard}
 use Rattle.pc_deck.specs.declared.kinds.as_of.AsOfCard.{AsOfCard}
@@ -24,11 +24,18 @@ use Rattle.pc_deck.specs.declared.kinds.piece.PieceCard.{PieceCard}
 use Rattle.pc_deck.specs.declared.kinds.status.StatusCard.{StatusCard}
 use Rattle.pc_deck.specs.declared.kinds.terms.TermsCard.{TermsCard}
 use Rattle.pc_deck.specs.declared.kinds.wbs.ItemCard.{ItemCard}
-use Rattle.pc_deck.specs.Deck.{Deck, event_codes, item_codes, named_among, number_among}
-use Rattle.pc_deck.specs.Target.{IsUnknown, target_codes}
+use Rattle.pc_deck.specs.Act as act
+use Rattle.pc_deck.specs.Act.{HasActFlaw}
+use Rattle.pc_deck.specs.Deck.{Deck, item_codes, list_of, named_among, number_among}
+use Rattle.pc_deck.specs.Durations.{crash_above, unordered}
+use Rattle.pc_deck.specs.Kinds.{CardOf, entry_of}
+use Rattle.pc_deck.specs.Project.{HasProjectFlaw}
+use Rattle.pc_deck.specs.Wbs.{names_parent}
+use Rattle.pc_deck.specs.declared.kinds.project.ProjectCard.{ProjectCard}
+use Rattle.pc_deck.specs.Target.{target_codes}
+use Rattle.pc_deck.specs.Misfit.{HasCardFault, HasFaultOf, HasMisfit, HasUnknown, names_of}
+use Rattle.pc_cards.specs.Entry.{Reference}
 use Rattle.pc_project.specs.DisorderFaults.{HasDisorder, IsDisorderAt, IsEarlyAsOf, as_of_in, of_as_of, of_status}
-use Rattle.pc_project.specs.Misfit.{HasActFault, HasFigureFault, HasItemFault, HasListedFault, HasLoadFault, HasMisfit, HasProjectFault}
-use Rattle.pc_project.specs.Misfit as has
 use Rattle.pc_project.specs.PackageFaults.{HasLeafFault, StandsOnBranch, of_account, of_act}
 use Rattle.pc_project.specs.PieceFaults.{HasFlaw, HasFlawAt, HasPieceFault, none_left, not_rising, one_too_many}
 use Rattle.pc_project.specs.Project.{accounts_in, as_of_day, pieces_in, rows_of, statuses_in, terms_in, time_terms_of, work_in}
@@ -36,7 +43,7 @@ use Rattle.pc_project.specs.Makes.{MakesProject}
 use Rattle.pc_project.specs.Refusal.{HasNoFault, HasNoSecondToGo, HasSoundFigures, IsEven}
 use Rattle.pc_project.specs.TermsFaults.{HasTermsFault, bonus_above}
 use Rattle.pc_model.specs.declared.TimeTerms.{TimeTerms}
-use Rattle.pc_project.specs.deck_text.Same.{SayTheSame, account_said, act_said, item_said, load_said, money_said, piece_said, status_said}
+use Rattle.pc_project.specs.deck_text.Same.{SayTheSame, account_said, act_said, item_said, load_said, money_said, piece_said, project_said, status_said}
 use Rattle.pc_project.proofs.lemmas.deck_text.SameLaws.{length_said, same_accounts, same_accounts_in, same_acts, same_events, same_item_number, same_items, same_network}
 use Rattle.pc_project.proofs.lemmas.deck_text.SameLaws.{same_pieces, same_resources, same_rows, same_start_day, same_statuses, same_terms, same_togos, same_work}
 use Rattle.pc_project.proofs.MakesLaws.{makes_project, no_faults}
@@ -59,51 +66,45 @@ Any-fault Has xs (k, x, within, at, (fault, holds)) = (fault, (k, x, within, at,
 
 -- the lists of the first deck are those of the second
 module _ (a b : Deck) (same : SayTheSame a b) where
-  -- a name that is unknown in one deck is unknown in the other, if they find the same by it
-  unknown_again : (target : Target) → named_among (target_codes a target) ≡ named_among (target_codes b target) → (row other : ℕ) (c d : List ℕ) → c ≡ d → (fault : Fault) →
-      IsUnknown a target row c fault → IsUnknown b target other d (unknown_name target other d)
-  unknown_again target finds row other c d is fault unknown =
-      record { missing = (λ i. sym finds i d) ∙ ap (named_among (target_codes a target)) (sym is) ∙ unknown.missing; told = refl }
+  -- the decks find the same by these names
+  abbrev AgreeOn : List Reference → Type 0
+  AgreeOn [] = Unit {0}
+  AgreeOn (named ∷ more) = (named_among (target_codes a named.target) ≡ named_among (target_codes b named.target)) × AgreeOn more
 
-  an_event : (c d : List ℕ) → c ≡ d → IsSome (named_among (event_codes a) c) → IsSome (named_among (event_codes b) d)
-  an_event c d is known = subst IsSome ((λ i. same_events a b same i c) ∙ ap (named_among (event_codes b)) is) known
+  agree_on_parent : (parent : Option (List ℕ)) → AgreeOn (names_parent parent)
+  agree_on_parent None = tt
+  agree_on_parent (Some code) = (same_items a b same, tt)
 
-  project_fault : (fault : Fault) → HasProjectFault a a.project fault → Some-fault (HasProjectFault b b.project)
-  project_fault fault (has.unknown_start is) = (_, has.unknown_start (unknown_again Event (same_events a b same) _ _ _ _ (ap (λ card. card.start) same.project) fault is))
-  project_fault fault (has.unknown_end known is) = (
+  -- a name that is unknown in one deck is unknown in the other
+  names_again : (names : List Reference) → AgreeOn names → (row other : ℕ) (fault : Fault) → HasUnknown a row names fault → Some-fault (HasUnknown b other names)
+  names_again [] agree row other fault h = absurd h
+  names_again (named ∷ more) agree row other fault (inl is) = (_, inl (record { missing = (λ i. sym agree.0 i named.code) ∙ is.missing; told = refl }))
+  names_again (named ∷ more) agree row other fault (inr h) =
+      let (told, there) = names_again more agree.1 row other fault h.1 in
+      (told, inr (subst IsSome (λ i. agree.0 i named.code) h.0, there))
+
+  -- cards of a kind that name the same and are wrong by themselves alike
+  alike : (kind : Kind) (x y : CardOf kind) → names_of Plan kind x ≡ names_of Plan kind y → AgreeOn (names_of Plan kind y) →
+      ((fault : Fault) → (entry_of kind).flaws Plan x fault → Some-fault ((entry_of kind).flaws Plan y)) → Some-fault (HasCardFault Plan a kind x) → Some-fault (HasCardFault Plan b kind y)
+  alike kind x y is agree flawed (fault, inl h) =
+      let (told, there) = names_again (names_of Plan kind y) agree ((entry_of kind).row x) ((entry_of kind).row y) fault (subst (λ names. HasUnknown a ((entry_of kind).row x) names fault) is h) in
+      (told, inl there)
+  alike kind x y is agree flawed (fault, inr h) = let (told, there) = flawed fault h in (told, inr there)
+
+  project_flaw : (x y : ProjectCard) → project_said x ≡ project_said y → (fault : Fault) → HasProjectFlaw x fault → Some-fault (HasProjectFlaw y)
+  project_flaw x y said fault (one, is) = (_, (sym (ap (λ card. card.start) said) ∙ one ∙ ap (λ card. card.end) said, refl))
+
+  act_flaw : (x y : ActCard) → act_said x ≡ act_said y → (fault : Fault) → HasActFlaw x fault → Some-fault (HasActFlaw y)
+  act_flaw x y said fault (act.same_events one is) = (_, act.same_events (sym (ap (λ card. card.from) said) ∙ one ∙ ap (λ card. card.to) said) refl)
+  act_flaw x y said fault (act.durations (unordered not is)) = (
     _,
-    has.unknown_end (an_event _ _ (ap (λ card. card.start) same.project) known)
-        (unknown_again Event (same_events a b same) _ _ _ _ (ap (λ card. card.end) same.project) fault is),
-  )
-  project_fault fault (has.same_ends one is) = (_, has.same_ends (sym (ap (λ card. card.start) same.project) ∙ one ∙ ap (λ card. card.end) same.project) refl)
-
-  item_fault : (x y : ItemCard) → item_said x ≡ item_said y → Some-fault (HasItemFault a x) → Some-fault (HasItemFault b y)
-  item_fault x y said (fault, has.unknown_parent code at is) =
-      (_, has.unknown_parent code (sym (ap (λ card. card.parent) said) ∙ at) (unknown_again Item (same_items a b same) _ _ _ _ refl fault is))
-
-  act_fault : (x y : ActCard) → act_said x ≡ act_said y → Some-fault (HasActFault a x) → Some-fault (HasActFault b y)
-  act_fault x y said (fault, has.unknown_from is) = (_, has.unknown_from (unknown_again Event (same_events a b same) _ _ _ _ (ap (λ card. card.from) said) fault is))
-  act_fault x y said (fault, has.unknown_to known is) = (
-    _,
-    has.unknown_to (an_event _ _ (ap (λ card. card.from) said) known)
-        (unknown_again Event (same_events a b same) _ _ _ _ (ap (λ card. card.to) said) fault is),
-  )
-  act_fault x y said (fault, has.unknown_item is) = (_, has.unknown_item (unknown_again Item (same_items a b same) _ _ _ _ (ap (λ card. card.item) said) fault is))
-  act_fault x y said (fault, has.same_events one is) = (_, has.same_events (sym (ap (λ card. card.from) said) ∙ one ∙ ap (λ card. card.to) said) refl)
-  act_fault x y said (fault, has.unordered not is) = (
-    _,
-    has.unordered (λ o. not (record {
+    act.durations (unordered (λ o. not (record {
       optimistic = omega (arith, o.optimistic, ap (λ card. card.opt) said, ap (λ card. card.likely) said);
       pessimistic = omega (arith, o.pessimistic, ap (λ card. card.likely) said, ap (λ card. card.pess) said);
-    })) refl,
+    })) refl),
   )
-  act_fault x y said (fault, has.crash_above above is) =
-      (_, has.crash_above (omega (arith, above, ap (λ card. card.normal) said, ap (λ card. card.crash) said)) refl)
-
-  load_fault : (x y : LoadCard) → load_said x ≡ load_said y → Some-fault (HasLoadFault a Activity x) → Some-fault (HasLoadFault b Activity y)
-  load_fault x y said (fault, has.unknown_work is) = (_, has.unknown_work (unknown_again Activity (same_acts a b same) _ _ _ _ (ap (λ card. card.activity) said) fault is))
-  load_fault x y said (fault, has.unknown_resource is) =
-      (_, has.unknown_resource (unknown_again Resource (same_resources a b same) _ _ _ _ (ap (λ card. card.resource) said) fault is))
+  act_flaw x y said fault (act.durations (crash_above above is)) =
+      (_, act.durations (crash_above (omega (arith, above, ap (λ card. card.normal) said, ap (λ card. card.crash) said)) refl))
 
   -- a fault of some card of one list is one of the card at its place in the other
   list_fault : {X : Type 0} (said : X → X) (Has Other : X → Fault → Type 0) (xs ys : List X) → map said xs ≡ map said ys →
@@ -111,48 +112,41 @@ module _ (a b : Deck) (same : SayTheSame a b) where
   list_fault said Has Other xs ys one over fault any =
       Any-fault Other ys (Any-said said (λ x. Has x fault) (λ y. Some-fault (Other y)) xs ys one (λ x y is h. over x y is (fault, h)) any)
 
-  -- the same of cards that only name something
-  list_unknown : {X : Type 0} (said : X → X) (target : Target) → named_among (target_codes a target) ≡ named_among (target_codes b target) →
-      (row : X → ℕ) (code : X → List ℕ) (xs ys : List X) → map said xs ≡ map said ys → ((x y : X) → said x ≡ said y → code x ≡ code y) → (fault : Fault) →
-      Any (λ x. IsUnknown a target (row x) (code x) fault) xs → (told : Fault) × Any (λ y. IsUnknown b target (row y) (code y) told) ys
-  list_unknown said target finds row code xs ys one names fault any =
-      list_fault said (λ x. IsUnknown a target (row x) (code x)) (λ y. IsUnknown b target (row y) (code y)) xs ys one
-      (λ x y is h. (_, unknown_again target finds (row x) (row y) (code x) (code y) (names x y is) h.0 h.1)) fault any
+  -- the cards of a kind
+  kind_fault : (kind : Kind) (said : CardOf kind → CardOf kind) → map said (list_of a kind) ≡ map said (list_of b kind) →
+      ((x y : CardOf kind) → said x ≡ said y → names_of Plan kind x ≡ names_of Plan kind y) → ((y : CardOf kind) → AgreeOn (names_of Plan kind y)) →
+      ((x y : CardOf kind) → said x ≡ said y → (fault : Fault) → (entry_of kind).flaws Plan x fault → Some-fault ((entry_of kind).flaws Plan y)) →
+      (fault : Fault) → HasFaultOf Plan a kind fault → Some-fault (HasFaultOf Plan b kind)
+  kind_fault kind said one names agree flawed fault any =
+      list_fault said (HasCardFault Plan a kind) (HasCardFault Plan b kind) (list_of a kind) (list_of b kind) one
+      (λ x y is h. alike kind x y (names x y is) (agree y) (flawed x y is) h) fault any
 
-  figure_fault : (fault : Fault) → HasFigureFault a fault → Some-fault (HasFigureFault b)
-  figure_fault fault (has.account any) =
-      let (told, there) = list_unknown account_said Item (same_items a b same) (λ (card : AcctCard). card.row) (λ card. card.item) a.accounts b.accounts same.accounts
-      (λ x y is. ap (λ card. card.item) is) fault any in
-      (told, has.account there)
-  figure_fault fault (has.charge any) =
-      let (told, there) = list_unknown money_said Account (same_accounts a b same) (λ (card : MoneyCard). card.row) (λ card. card.account) a.charges b.charges same.charges
-      (λ x y is. ap (λ card. card.account) is) fault any in
-      (told, has.charge there)
-  figure_fault fault (has.togo any) =
-      let (told, there) = list_unknown money_said Account (same_accounts a b same) (λ (card : MoneyCard). card.row) (λ card. card.account) a.togos b.togos same.togos
-      (λ x y is. ap (λ card. card.account) is) fault any in
-      (told, has.togo there)
-  figure_fault fault (has.status any) =
-      let (told, there) = list_unknown status_said Activity (same_acts a b same) (λ (card : StatusCard). card.row) (λ card. card.activity) a.statuses b.statuses same.statuses
-      (λ x y is. ap (λ card. card.activity) is) fault any in
-      (told, has.status there)
+  none_by_itself : {X : Type 0} (said : X → X) (Other : X → Fault → Type 0) (x y : X) → said x ≡ said y → (fault : Fault) → ⊥ → Some-fault (Other y)
+  none_by_itself said Other x y is fault h = absurd h
 
-  listed_fault : (fault : Fault) → HasListedFault a fault → Some-fault (HasListedFault b)
-  listed_fault fault (has.item any) =
-      let (told, there) = list_fault item_said (HasItemFault a) (HasItemFault b) a.items b.items same.items item_fault fault any in (told, has.item there)
-  listed_fault fault (has.act any) =
-      let (told, there) = list_fault act_said (HasActFault a) (HasActFault b) a.acts b.acts same.acts act_fault fault any in (told, has.act there)
-  listed_fault fault (has.piece any) =
-      let (told, there) = list_unknown piece_said Activity (same_acts a b same) (λ (card : PieceCard). card.row) (λ card. card.activity) a.pieces b.pieces same.pieces
-      (λ x y is. ap (λ card. card.activity) is) fault any in
-      (told, has.piece there)
-  listed_fault fault (has.load any) =
-      let (told, there) = list_fault load_said (HasLoadFault a Activity) (HasLoadFault b Activity) a.loads b.loads same.loads load_fault fault any in (told, has.load there)
-  listed_fault fault (has.figure h) = let (told, there) = figure_fault fault h in (told, has.figure there)
+  fault_of : (kind : Kind) (fault : Fault) → HasFaultOf Plan a kind fault → Some-fault (HasFaultOf Plan b kind)
+  fault_of Project fault any =
+      kind_fault Project project_said (ap (λ card. card ∷ []) same.project) (λ x y is. ap (names_of Plan Project) is) (λ y. (same_events a b same, (same_events a b same, tt))) project_flaw fault any
+  fault_of Wbs fault any =
+      kind_fault Wbs item_said same.items (λ x y is. ap (names_of Plan Wbs) is) (λ y. agree_on_parent y.parent) (none_by_itself item_said ((entry_of Wbs).flaws Plan)) fault any
+  fault_of Act fault any =
+      kind_fault Act act_said same.acts (λ x y is. ap (names_of Plan Act) is) (λ y. (same_events a b same, (same_events a b same, (same_items a b same, tt)))) act_flaw fault any
+  fault_of Piece fault any =
+      kind_fault Piece piece_said same.pieces (λ x y is. ap (names_of Plan Piece) is) (λ y. (same_acts a b same, tt)) (none_by_itself piece_said ((entry_of Piece).flaws Plan)) fault any
+  fault_of Acct fault any =
+      kind_fault Acct account_said same.accounts (λ x y is. ap (names_of Plan Acct) is) (λ y. (same_items a b same, tt)) (none_by_itself account_said ((entry_of Acct).flaws Plan)) fault any
+  fault_of Charge fault any =
+      kind_fault Charge money_said same.charges (λ x y is. ap (names_of Plan Charge) is) (λ y. (same_accounts a b same, tt)) (none_by_itself money_said ((entry_of Charge).flaws Plan)) fault any
+  fault_of ToGo fault any =
+      kind_fault ToGo money_said same.togos (λ x y is. ap (names_of Plan ToGo) is) (λ y. (same_accounts a b same, tt)) (none_by_itself money_said ((entry_of ToGo).flaws Plan)) fault any
+  fault_of Status fault any =
+      kind_fault Status status_said same.statuses (λ x y is. ap (names_of Plan Status) is) (λ y. (same_acts a b same, tt)) (none_by_itself status_said ((entry_of Status).flaws Plan)) fault any
+  fault_of Load fault any =
+      kind_fault Load load_said same.loads (λ x y is. ap (names_of Plan Load) is) (λ y. (same_acts a b same, (same_resources a b same, tt))) (none_by_itself load_said ((entry_of Load).flaws Plan)) fault any
+  fault_of other fault (k, card, within, at, h) = absurd (⊎_elim (λ x. x) (λ x. x) h)
 
-  misfit : (fault : Fault) → HasMisfit a fault → Some-fault (HasMisfit b)
-  misfit fault (has.project h) = let (told, there) = project_fault fault h in (told, has.project there)
-  misfit fault (has.listed h) = let (told, there) = listed_fault fault h in (told, has.listed there)
+  misfit : (fault : Fault) → HasMisfit Plan a fault → Some-fault (HasMisfit Plan b)
+  misfit fault (n, kind, among, at, any) = let (told, there) = fault_of kind fault any in (told, (n, kind, among, at, there))
 
   -- what is on an item with items below it
   on_branch : (c d : List ℕ) (row other : ℕ) → c ≡ d → (fault : Fault) → StandsOnBranch a row c fault → Some-fault (StandsOnBranch b other d)

@@ -1,17 +1,18 @@
 use Rattle.std.proofs.Common.{◌∙◌}
 use Rattle.pc_times.specs.Estimates.{expected_time}
 use Rattle.pc_deck.specs.inside.Act.{IsActWithin}
-use Rattle.pc_project.specs.Misfit.{HasOrderedEstimates}
+use Rattle.pc_deck.specs.Durations.{HasOrderedEstimates}
+use Rattle.pc_deck.specs.declared.kinds.act.ActCard.{ActCard}
 use Rattle.pc_project.proofs.LoopLaws.{held_by_card, map_take_more}
 use Rattle.pc_project.proofs.lists.expected_times.Goals as goal
 
 pub expected_sixths-requires-clause-opt : goal.expected_sixths-requires-clause-opt
 expected_sixths-requires-clause-opt c =
-    (held_by_card HasOrderedEstimates c.args.acts.now c.loop-act.act-index c.act-item.result c.loop-act-test.true c.act-item.is c.requires.ordered).optimistic
+    (held_by_card (λ (act : ActCard). HasOrderedEstimates act.opt act.likely act.pess) c.args.acts.now c.loop-act.act-index c.act-item.result c.loop-act-test.true c.act-item.is c.requires.ordered).optimistic
 
 pub expected_sixths-requires-clause-likely : goal.expected_sixths-requires-clause-likely
 expected_sixths-requires-clause-likely c =
-    (held_by_card HasOrderedEstimates c.args.acts.now c.loop-act.act-index c.act-item.result c.loop-act-test.true c.act-item.is c.requires.ordered).pessimistic
+    (held_by_card (λ (act : ActCard). HasOrderedEstimates act.opt act.likely act.pess) c.args.acts.now c.loop-act.act-index c.act-item.result c.loop-act-test.true c.act-item.is c.requires.ordered).pessimistic
 
 pub expected_sixths-requires-clause-pess : goal.expected_sixths-requires-clause-pess
 expected_sixths-requires-clause-pess c =

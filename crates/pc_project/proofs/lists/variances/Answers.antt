@@ -1,13 +1,14 @@
 use Rattle.std.proofs.Common.{◌∙◌, arith}
 use Rattle.pc_times.specs.Estimates.{variance_of}
 use Rattle.pc_deck.specs.inside.Act.{IsActWithin}
-use Rattle.pc_project.specs.Misfit.{HasOrderedEstimates}
+use Rattle.pc_deck.specs.Durations.{HasOrderedEstimates}
+use Rattle.pc_deck.specs.declared.kinds.act.ActCard.{ActCard}
 use Rattle.pc_project.proofs.LoopLaws.{held_by_card, map_take_more}
 use Rattle.pc_project.proofs.lists.variances.Goals as goal
 
 pub variance_36-requires-clause-opt : goal.variance_36-requires-clause-opt
 variance_36-requires-clause-opt c =
-    let ordered = held_by_card HasOrderedEstimates c.args.acts.now c.loop-act.act-index c.act-item.result c.loop-act-test.true c.act-item.is c.requires.ordered in
+    let ordered = held_by_card (λ (act : ActCard). HasOrderedEstimates act.opt act.likely act.pess) c.args.acts.now c.loop-act.act-index c.act-item.result c.loop-act-test.true c.act-item.is c.requires.ordered in
     omega (arith, ordered.optimistic, ordered.pessimistic)
 
 pub variance_36-requires-clause-pess : goal.variance_36-requires-clause-pess

@@ -5,11 +5,12 @@ use Rattle.std.proofs.lemmas.Simd.{map-map}
 use Rattle.pc_model.specs.declared.limits.TheConstants.{MAX_UNIT_DAYS}
 use Rattle.pc_times.specs.Estimates.{expected_time, variance_of}
 use Rattle.pc_deck.specs.inside.Act.{IsActWithin}
+use Rattle.pc_deck.specs.declared.kinds.act.ActCard.{ActCard}
 use Rattle.pc_deck.specs.declared.kinds.project.ProjectCard.{ProjectCard}
 use Rattle.pc_deck.proofs.NumberLemmas.{acts-within, project-within}
 use Rattle.pc_wbs.specs.Climb.{AreInRange, IsTree}
 use Rattle.pc_faults.specs.inside.First.{Refuses}
-use Rattle.pc_project.specs.Misfit.{HasOrderedEstimates}
+use Rattle.pc_deck.specs.Durations.{HasOrderedEstimates}
 use Rattle.pc_project.specs.Project.{row_of, term_of}
 use Rattle.pc_project.specs.inside.Project.{placement_of}
 use Rattle.pc_project.specs.Refusal.{IsRefusedWith, IsTreeFault}
@@ -106,11 +107,11 @@ variances-requires-clause-within c =
 
 pub expected_times-requires-clause-ordered : goal.expected_times-requires-clause-ordered
 expected_times-requires-clause-ordered c =
-    subst (All HasOrderedEstimates) (sym c.acts-acts.ensures.cards) (λ k d within. (all_fit c.args.cards.now c.requires.faultless k d within).ordered)
+    subst (All (λ (act : ActCard). HasOrderedEstimates act.opt act.likely act.pess)) (sym c.acts-acts.ensures.cards) (λ k d within. (all_fit c.args.cards.now c.requires.faultless k d within).ordered)
 
 pub variances-requires-clause-ordered : goal.variances-requires-clause-ordered
 variances-requires-clause-ordered c =
-    subst (All HasOrderedEstimates) (sym c.acts-acts.ensures.cards) (λ k d within. (all_fit c.args.cards.now c.requires.faultless k d within).ordered)
+    subst (All (λ (act : ActCard). HasOrderedEstimates act.opt act.likely act.pess)) (sym c.acts-acts.ensures.cards) (λ k d within. (all_fit c.args.cards.now c.requires.faultless k d within).ordered)
 
 pub returns-clause-lists : goal.returns-clause-lists
 returns-clause-lists c =

@@ -3,10 +3,11 @@ use Rattle.pc_faults.specs.First.{IsFirstFault}
 use Rattle.pc_faults.specs.declared.fault.DeckError.{DeckError}
 use Rattle.pc_faults.specs.declared.fault.DeckError.TheVariants.{Fault, OutOfMemory}
 use Rattle.pc_faults.specs.inside.First.{Refuses}
+use Rattle.pc_cards.specs.declared.sort.Sort.TheVariants.{Plan}
 use Rattle.pc_deck.specs.Deck.{Deck}
+use Rattle.pc_deck.specs.Misfit.{HasMisfit}
 use Rattle.pc_project.specs.declared.project.Project.TheInside.{Inside}
 use Rattle.pc_project.specs.Figures.{IsProjectOfDeck}
-use Rattle.pc_project.specs.Misfit.{HasMisfit}
 use Rattle.pc_project.specs.Refusal.{IsRefusedWith, of_cards}
 use Rattle.pc_project.specs.Planned.{IsPlanned}
 use Rattle.pc_project.proofs.FigureLaws.{project_in-figures}
@@ -16,7 +17,7 @@ use Rattle.pc_project.proofs.RefusalLaws.{handed_on}
 use Rattle.pc_project.proofs.phases.project_of.Goals as goal
 
 -- a fault of a card is one with which the deck is refused
-refused_by_card : (deck : Deck) (error : DeckError) → Refuses (IsFirstFault (HasMisfit deck)) error → Refuses (IsRefusedWith deck) error
+refused_by_card : (deck : Deck) (error : DeckError) → Refuses (IsFirstFault (HasMisfit Plan deck)) error → Refuses (IsRefusedWith deck) error
 refused_by_card deck (Fault fault) first = of_cards first
 refused_by_card deck OutOfMemory first = first
 

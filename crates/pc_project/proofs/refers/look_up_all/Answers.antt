@@ -6,8 +6,8 @@ use Rattle.pc_project.proofs.refers.look_up_all.Goals as goal
 
 pub loop-card-preserved : goal.loop-card-preserved
 loop-card-preserved g c =
-    let has = g.C.Refers.HasFault c.args.cards.now in
-    let find = g.C.Refers.found_in c.args.cards.now in
+    let has = g.C.Refers.HasFault g.S.DeckSort.sort c.args.cards.now in
+    let find = g.C.Refers.found_in g.S.DeckSort.sort c.args.cards.now in
     let list = c.args.list.now in
     let i = c.loop-card.card-index in
     let before = c.loop-card.invariant in
@@ -27,4 +27,4 @@ loop-card-preserved g c =
 
 pub returns-clause-first : goal.returns-clause-first
 returns-clause-first g c =
-    first_of_all (g.C.Refers.HasFault c.args.cards.now) c.args.list.now c.loop-card.card-index c.loop-card.fault c.loop-card-test.false c.loop-card.invariant.first
+    first_of_all (g.C.Refers.HasFault g.S.DeckSort.sort c.args.cards.now) c.args.list.now c.loop-card.card-index c.loop-card.fault c.loop-card-test.false c.loop-card.invariant.first

@@ -9,5 +9,5 @@ pub record Kept (P Q : Type 0) : Type 0 where
 
 abbrev pub invariant-loop-card : goal.invariant-loop-card
 invariant-loop-card g l =
-    Kept (IsFirstBefore (g.C.Refers.HasFault l.cards) l.list l.card-index l.fault)
-    (l.fault ≡ None → l.numbers.items ≡ map (g.C.Refers.found_in l.cards) (take l.card-index l.list))
+    Kept (IsFirstBefore (g.C.Refers.HasFault g.S.DeckSort.sort l.cards) l.list l.card-index l.fault)
+    (l.fault ≡ None → l.numbers.items ≡ map (g.C.Refers.found_in g.S.DeckSort.sort l.cards) (take l.card-index l.list))

@@ -1,6 +1,6 @@
 use Rattle.std.proofs.Common.{◌∙◌, ap, length, arith}
 use Rattle.std.proofs.lemmas.List.{length-map}
-use Rattle.pc_tasks.specs.Lists.{after_row}
+use Rattle.pc_project.specs.After.{after_row}
 use Rattle.pc_tasks.proofs.DrawLemmas.{acts-put, firsts-few, lasts-few, wider}
 use Rattle.pc_tasks.proofs.WithinLemmas.{few-afters, few-tasks}
 use Rattle.pc_tasks.proofs.draw.acts_of.Goals as goal

@@ -7,7 +7,7 @@ use Rattle.pc_model.specs.Greatest.{StandsBelow}
 use Rattle.pc_model.specs.Walk.{from_of, to_of, IsWalk, IsCycle}
 use Rattle.pc_model.proofs.Walks.WalkLaws.{last_of_walk, IsWalk-push}
 use Rattle.pc_net.specs.Cycles.{LiesOnCycle, IsFirstCycle}
-use Rattle.pc_tasks.specs.declared.network.AfterRow.{AfterRow}
+use Rattle.pc_project.specs.declared.placed.AfterRow.{AfterRow}
 use Rattle.pc_tasks.specs.network.Tasks.{after_at, AreAmong}
 use Rattle.pc_tasks.specs.network.Arrows.{begin_event, end_event, last_event, tasks_of}
 use Rattle.pc_tasks.specs.network.Cycles.{IsTaskCycle, LiesOnTaskCycle, IsFirstTaskCycle}

@@ -8,7 +8,7 @@ use Rattle.pc_model.specs.declared.Arc.{Arc}
 use Rattle.pc_model.specs.declared.Term.{Term}
 use Rattle.pc_model.specs.Walk.{arc_at}
 use Rattle.pc_model.specs.Schedule.{term_at}
-use Rattle.pc_tasks.specs.declared.network.AfterRow.{AfterRow}
+use Rattle.pc_project.specs.declared.placed.AfterRow.{AfterRow}
 use Rattle.pc_tasks.specs.network.Tasks.{after_at}
 use Rattle.pc_tasks.specs.network.Arrows.{task_arc, after_arc, first_arc, last_arc, firsts, lasts, links, arrows, no_term, arrow_terms}
 

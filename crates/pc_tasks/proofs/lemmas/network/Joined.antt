@@ -7,7 +7,7 @@ use Rattle.std.proofs.lemmas.List.{get_or_append_left, get_or-append_right, get_
 use Rattle.std.proofs.lemmas.List.FromFn.{get_or-map-range_with_len, length-map-range_with_len}
 use Rattle.pc_model.specs.declared.Arc.{Arc}
 use Rattle.pc_model.specs.Walk.{arc_at, from_of, to_of, IsWalk}
-use Rattle.pc_tasks.specs.declared.network.AfterRow.{AfterRow}
+use Rattle.pc_project.specs.declared.placed.AfterRow.{AfterRow}
 use Rattle.pc_tasks.specs.network.Tasks.{after_at, AreAmong}
 use Rattle.pc_tasks.specs.network.Arrows.{begin_event, end_event, last_event, task_arc, after_arc, tasks_of}
 use Rattle.pc_tasks.specs.network.Cycles.{ComesAfter, IsTaskWalk}

@@ -15,7 +15,7 @@ use Rattle.pc_model.specs.Cost.{cost_of, activity_cost, IsLeastCost}
 use Rattle.pc_model.specs.Pieces.{pieces_of, knees_of, rise_in, knee_in}
 use Rattle.pc_model.proofs.Sums.{sum_to-same, sum_to-ends}
 use Rattle.pc_model.proofs.Walks.WalkLaws.{times_bound_walk}
-use Rattle.pc_tasks.specs.declared.network.AfterRow.{AfterRow}
+use Rattle.pc_project.specs.declared.placed.AfterRow.{AfterRow}
 use Rattle.pc_tasks.specs.network.Cycles.{HasNoTaskCycle}
 use Rattle.pc_tasks.specs.network.Tasks.{after_at, AreAmong, IsTaskSchedule, IsLeastTaskCost}
 use Rattle.pc_tasks.specs.network.Arrows.{begin_event, end_event, last_event, after_arc, first_arc, last_arc, comes_before, firsts, lasts, links, arrows, arrow_terms, no_term}

@@ -10,7 +10,7 @@ use Rattle.pc_model.specs.declared.Arc.{Arc}
 use Rattle.pc_model.specs.Walk.{arc_at, from_of, to_of}
 use Rattle.pc_model.specs.Network.{Network, IsInRange, IsEntered, IsLeft}
 use Rattle.pc_net.specs.Firmness.{IsFirm}
-use Rattle.pc_tasks.specs.declared.network.AfterRow.{AfterRow}
+use Rattle.pc_project.specs.declared.placed.AfterRow.{AfterRow}
 use Rattle.pc_tasks.specs.network.Tasks.{AreAmong}
 use Rattle.pc_tasks.specs.network.Arrows.{begin_event, end_event, last_event, task_arc, first_arc, last_arc, comes_after, comes_before, firsts, lasts, wide_arrows}
 use Rattle.pc_tasks.proofs.lemmas.network.Kept.{Stands}

@@ -10,7 +10,7 @@ use Rattle.pc_model.specs.Walk.{arc_at, from_of, to_of, IsWalk, IsCycle}
 use Rattle.pc_model.specs.Network.{Network, IsSound}
 use Rattle.pc_model.proofs.Walks.WalkLaws.{IsWalk-append, IsWalk-push}
 use Rattle.pc_model.proofs.Walks.CycleLaws.{long_walk_has_cycle}
-use Rattle.pc_tasks.specs.declared.network.AfterRow.{AfterRow}
+use Rattle.pc_project.specs.declared.placed.AfterRow.{AfterRow}
 use Rattle.pc_tasks.specs.network.Tasks.{after_at, AreAmong}
 use Rattle.pc_tasks.specs.network.Arrows.{begin_event, end_event, last_event, task_arc, first_arc, last_arc, comes_after, comes_before, firsts, lasts, arrows}
 use Rattle.pc_tasks.specs.network.Cycles.{ComesAfter, HasNoTaskCycle}

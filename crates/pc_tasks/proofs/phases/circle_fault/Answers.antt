@@ -6,7 +6,7 @@ use Rattle.pc_tasks.specs.network.Tasks.{AreAmong}
 use Rattle.pc_deck.specs.Deck.{task_codes}
 use Rattle.pc_faults.specs.Faults.{task_cycle}
 use Rattle.pc_project.specs.Records.{codes_at}
-use Rattle.pc_tasks.specs.Lists.{after_row}
+use Rattle.pc_project.specs.After.{after_row}
 use Rattle.pc_tasks.specs.Refusal.{task_records}
 use Rattle.pc_tasks.proofs.KeepLemmas.{rows-among}
 use Rattle.pc_tasks.proofs.KnownLemmas.{can_be_drawn}

@@ -1,20 +1,16 @@
 -- The numbers of a deck's project fit.
-use Rattle.std.proofs.Common.{◌≡◌, ℕ, ◌<◌, [], length, get_or, None, refl, sym, ◌∙◌, ap, subst, inl, inr, arith}
-use Rattle.std.proofs.lemmas.Bool.{cases_lt}
-use Rattle.std.proofs.lemmas.List.{length-map, get_or-map, get_or_default}
+use Rattle.std.proofs.Common.{◌≡◌, ℕ, ◌<◌, [], length, get_or, None, refl, sym, ◌∙◌, ap, subst, arith}
+use Rattle.std.proofs.lemmas.List.{length-map, get_or-map}
 use Rattle.std.specs.List.{All}
 use Rattle.circular_buffer.specs.Buffer.{Buffer, buffer}
 use Rattle.pc_deck.specs.inside.Act.{IsActWithin}
 use Rattle.pc_deck.specs.Deck.{Deck}
 use Rattle.pc_deck.specs.declared.kinds.act.ActCard.{ActCard}
 use Rattle.pc_deck.proofs.NumberLemmas.{acts-within}
-use Rattle.pc_faults.specs.declared.fault.Fault.{Fault}
 use Rattle.pc_project.specs.declared.activity.Estimates.{Estimates}
-use Rattle.pc_project.specs.Misfit as has
-use Rattle.pc_project.specs.Misfit.{HasActFault, HasNoMisfit, act, listed}
+use Rattle.pc_project.specs.Makes.{IsSoundAct}
 use Rattle.pc_project.specs.Planned.{IsPlanned}
 use Rattle.pc_project.specs.Project.{Project}
-use Rattle.pc_project.proofs.MakesLaws.{no_misfit}
 use Rattle.pc_project.specs.shell.Priced.{priced_in}
 use Rattle.pc_whatif.specs.edits.Plans.{nth_estimates, estimates_in}
 use Rattle.pc_whatif.specs.inside.edits.Plans.{AreEstimates}
@@ -33,13 +29,9 @@ no_act = record { row = 0; code = []; from = []; to = []; item = []; opt = 0; li
 abbrev estimates_of : ActCard → Estimates
 estimates_of card = record { optimistic = card.opt; likely = card.likely; pessimistic = card.pess }
 
--- they are in order, where the card has no fault
-in_order : (deck : Deck) (card : ActCard) → ((fault : Fault) → HasActFault deck card fault → ⊥) → IsActWithin card → AreEstimates (estimates_of card)
-in_order deck card none within = record {
-  optimistic = elim (cases_lt card.likely card.opt) [ inl above ↦ absurd (none _ (has.unordered (λ o. omega (arith, above, o.optimistic)) refl)) | inr fine ↦ fine ];
-  pessimistic = elim (cases_lt card.pess card.likely) [ inl above ↦ absurd (none _ (has.unordered (λ o. omega (arith, above, o.pessimistic)) refl)) | inr fine ↦ fine ];
-  short = within.pess;
-}
+-- they are in order, where the card is sound
+in_order : (card : ActCard) → IsSoundAct card → IsActWithin card → AreEstimates (estimates_of card)
+in_order card fit within = record { optimistic = fit.ordered.optimistic; pessimistic = fit.ordered.pessimistic; short = within.pess }
 
 module _ (project : Project) (planned : IsPlanned project) where
   as_many : length project.deck.acts ≡ length project.network.arcs
@@ -51,15 +43,7 @@ module _ (project : Project) (planned : IsPlanned project) where
       let inside : a < length project.deck.acts = omega (arith, known, as_many) in
       let card : ActCard = get_or project.deck.acts a no_act in
       subst AreEstimates (sym (get_or-map estimates_of project.deck.acts a no_act (record { optimistic = 0; likely = 0; pessimistic = 0 }) inside))
-      (in_order project.deck (get_or project.deck.acts a no_act)
-      (λ fault h. no_misfit project.deck planned.own.makes.cards fault (listed (act (
-        a,
-        get_or project.deck.acts a no_act,
-        inside,
-        get_or_default project.deck.acts a (get_or project.deck.acts a no_act) no_act inside,
-        h,
-      ))))
-      (acts-within project.deck planned.own.within a no_act inside))
+      (in_order (get_or project.deck.acts a no_act) (planned.own.makes.cards.acts a no_act inside) (acts-within project.deck planned.own.within a no_act inside))
 
   pub IsEditing-begun : IsEditing (begun project)
   IsEditing-begun = record {

@@ -1,5 +1,0 @@
-use Rattle.pc_project.proofs.LoopLaws.{IsFirstBefore}
-use Rattle.pc_tasks.proofs.card_faults.first_fault.Given as goal
-
-abbrev pub invariant-loop-card : goal.invariant-loop-card
-invariant-loop-card g l = IsFirstBefore (g.C.Faulty.HasFault l.cards) l.list l.card-index l.fault
