@@ -53,14 +53,6 @@ abbrev pub work_target : Sort → Target
 work_target Plan = Activity
 work_target Tasks = Task
 
--- no references
-abbrev pub no_names : {C : Type 0} → Sort → C → List Reference
-no_names sort card = []
-
--- no fault by itself
-abbrev pub no_flaws : {C : Type 0} → Sort → C → Fault → Type 0
-no_flaws sort card fault = ⊥
-
 -- the faults of a kind that only plans have
 abbrev pub flaws_in_plans : {C : Type 0} → (C → Fault → Type 0) → Sort → C → Fault → Type 0
 flaws_in_plans flaws Plan card fault = flaws card fault

@@ -8,7 +8,8 @@ use Rattle.pc_cards.specs.Entry.{Reference}
 use Rattle.pc_cards.specs.declared.sort.Sort.{Sort}
 use Rattle.pc_deck.specs.Deck.{Deck, list_of, named_among}
 use Rattle.pc_deck.specs.Kinds.{CardOf, entry_of, further_kinds, kinds_of}
-use Rattle.pc_deck.specs.Misfit.{AreThere, IsThere, HasCardFault, HasFaultAmong, HasFaultOf, HasNoMisfit, HasUnknown, names_of}
+use Rattle.pc_deck.specs.Misfit.{AreKnownNames, HasCardMisfit, HasNoMisfit, HasUnknown}
+use Rattle.pc_deck.specs.inside.Misfit.{HasFaultAmong, HasFaultOf, names_of}
 use Rattle.pc_deck.specs.Target.{IsUnknown, target_codes}
 use Rattle.pc_faults.specs.Faults.{unknown_name}
 use Rattle.pc_faults.specs.First.{IsFirstFault, IsNoLater}
@@ -32,7 +33,7 @@ not_missing (Some i) known none = absurd cc
 
 module _ (deck : Deck) (row : ℕ) where
   -- what is named without a fault is there
-  pub there_unless : (names : List Reference) → ((fault : Fault) → HasUnknown deck row names fault → ⊥) → AreThere deck names
+  pub there_unless : (names : List Reference) → ((fault : Fault) → HasUnknown deck row names fault → ⊥) → AreKnownNames deck names
   there_unless [] none = tt
   there_unless (named ∷ more) none = (here, there_unless more (λ fault h. none fault (inr (here, h))))
     where
@@ -42,19 +43,21 @@ module _ (deck : Deck) (row : ℕ) where
           (λ lacks. none (unknown_name named.target row named.code) (inl (record { missing = lacks; told = refl })))
 
   -- where all are there, none is unknown
-  pub none_unknown : (names : List Reference) → AreThere deck names → (fault : Fault) → HasUnknown deck row names fault → ⊥
+  pub none_unknown : (names : List Reference) → AreKnownNames deck names → (fault : Fault) → HasUnknown deck row names fault → ⊥
   none_unknown [] there fault h = h
   none_unknown (named ∷ more) there fault (inl is) = not_missing _ there.0 is.missing
   none_unknown (named ∷ more) there fault (inr h) = none_unknown more there.1 fault h.1
 
   -- the first fault of names is that of the first one if it is missing, or else that of the others
-  pub first_missing : (named : Reference) (more : List Reference) (fault : Fault) → IsFirstFault (IsUnknown deck named.target row named.code) fault → IsFirstFault (HasUnknown deck row (named ∷ more)) fault
+  pub first_missing : (named : Reference) (more : List Reference) (fault : Fault) → IsFirstFault (IsUnknown deck named.target row named.code) fault →
+      IsFirstFault (HasUnknown deck row (named ∷ more)) fault
   first_missing named more fault first = record {
     holds = inl first.holds;
     least = λ other h. ⊎_elim (first.least other) (λ later. absurd (not_missing _ later.0 first.holds.missing)) h;
   }
 
-  pub first_later : (named : Reference) (more : List Reference) (fault : Fault) → IsThere deck named → IsFirstFault (HasUnknown deck row more) fault → IsFirstFault (HasUnknown deck row (named ∷ more)) fault
+  pub first_later : (named : Reference) (more : List Reference) (fault : Fault) → IsSome (named_among (target_codes deck named.target) named.code) →
+      IsFirstFault (HasUnknown deck row more) fault → IsFirstFault (HasUnknown deck row (named ∷ more)) fault
   first_later named more fault there first = record {
     holds = inr (there, first.holds);
     least = λ other h. ⊎_elim (λ is. absurd (not_missing _ there is.missing)) (λ later. first.least other later.1) h;
@@ -81,7 +84,7 @@ module _ (deck : Deck) (row : ℕ) (names : List Reference) (Flaw : Fault → Ty
       by other flaw = inr (unknown_row deck row names fault first.holds ∙ sym (later other flaw).0, omega (arith, number, (later other flaw).1))
 
   -- where all names are there
-  module _ (there : AreThere deck names) where
+  module _ (there : AreKnownNames deck names) where
     pub first_of_flaws : (fault : Fault) → IsFirstFault Flaw fault → IsFirstFault Either fault
     first_of_flaws fault first = record {
       holds = inr first.holds;
@@ -161,12 +164,12 @@ module _ (sort : Sort) (deck : Deck) (none : HasNoMisfit sort deck) where
 
   -- and what it names is there
   pub all_named : (n : ℕ) (d : Kind) → n < length (kinds_of sort) →
-      All (λ card. AreThere deck (names_of sort (get_or (kinds_of sort) n d) card)) (list_of deck (get_or (kinds_of sort) n d))
+      All (λ card. AreKnownNames deck (names_of sort (get_or (kinds_of sort) n d) card)) (list_of deck (get_or (kinds_of sort) n d))
   all_named n d within i e inside =
       let kind = get_or (kinds_of sort) n d in
       let card = get_or (list_of deck kind) i e in
       there_unless deck ((entry_of kind).row card) (names_of sort kind card)
-      (λ fault h. no_fault_of n d within fault (Any-at (λ card. HasCardFault sort deck kind card fault) (list_of deck kind) i e inside (inl h)))
+      (λ fault h. no_fault_of n d within fault (Any-at (λ card. HasCardMisfit sort deck kind card fault) (list_of deck kind) i e inside (inl h)))
 
 -- ---- the first fault of some kinds
 

@@ -1,6 +1,6 @@
 -- How the entry of a kind of cards is made, from what varies among the kinds.
-use Rattle.std.specs.Prelude.{ℕ, List, Option, false, true}
-use Rattle.pc_cards.specs.Entry.{Entry, Limit, in_both, no_code, no_flaws, no_names, unlimited}
+use Rattle.std.specs.Prelude.{ℕ, List, [], Option, false, true}
+use Rattle.pc_cards.specs.Entry.{Entry, Limit, in_both, no_code, unlimited}
 use Rattle.pc_cards.specs.Forms.{Slot}
 use Rattle.pc_cards.specs.declared.sort.Sort.{Sort}
 use Rattle.pc_deck.specs.declared.kinds.CardLists.{CardLists}
@@ -20,8 +20,8 @@ single_kind {C} spelled row slots least most held = record {
   is_coded = false;
   code = no_code;
   row = row;
-  names = no_names;
-  flaws = no_flaws;
+  names = λ sort card. [];
+  flaws = λ sort card fault. ⊥;
 }
 
 -- a kind with a list of cards: the card of a record, the record of a card, what its fields must be, how many it has, where the lists have
@@ -39,8 +39,8 @@ listed_kind {C} spelled row slots width held limit = record {
   is_coded = false;
   code = no_code;
   row = row;
-  names = no_names;
-  flaws = no_flaws;
+  names = λ sort card. [];
+  flaws = λ sort card fault. ⊥;
 }
 
 -- a kind as by `listed_kind` whose cards have codes of their own; the third argument is the code of a card

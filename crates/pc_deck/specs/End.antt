@@ -1,6 +1,6 @@
 -- END
 use Rattle.std.specs.Prelude.{[], false}
-use Rattle.pc_cards.specs.Entry.{Entry, in_both, no_code, no_flaws, no_names, unlimited}
+use Rattle.pc_cards.specs.Entry.{Entry, in_both, no_code, unlimited}
 use Rattle.pc_deck.specs.declared.kinds.CardLists.{CardLists}
 
 -- the kind: a card that says nothing but that it is there
@@ -17,6 +17,6 @@ end_kind = record {
   is_coded = false;
   code = no_code;
   row = λ card. 0;
-  names = no_names;
-  flaws = no_flaws;
+  names = λ sort card. [];
+  flaws = λ sort card fault. ⊥;
 }

@@ -9,39 +9,24 @@ use Rattle.pc_deck.specs.Target.{IsUnknown, target_codes}
 use Rattle.pc_faults.specs.declared.fault.Fault.{Fault}
 use Rattle.pc_faults.specs.declared.kind.Kind.{Kind}
 
--- what is named is there
-abbrev pub IsThere : Deck → Reference → Type 0
-IsThere deck named = IsSome (named_among (target_codes deck named.target) named.code)
-
--- all of these are there
-abbrev pub AreThere : Deck → List Reference → Type 0
-AreThere deck [] = ⊤
-AreThere deck (named ∷ more) = IsThere deck named × AreThere deck more
+-- all that is named is there
+abbrev pub AreKnownNames : Deck → List Reference → Type 0
+AreKnownNames deck [] = ⊤
+AreKnownNames deck (named ∷ more) = IsSome (named_among (target_codes deck named.target) named.code) × AreKnownNames deck more
 
 -- the fault of a card at a record that names these: the first of them that is not there
 abbrev pub HasUnknown : Deck → ℕ → List Reference → Fault → Type 0
 HasUnknown deck row [] fault = ⊥
-HasUnknown deck row (named ∷ more) fault = IsUnknown deck named.target row named.code fault ⊎ (IsThere deck named × HasUnknown deck row more fault)
-
--- what a card of a kind names in a deck of a sort
-abbrev pub names_of : Sort → (kind : Kind) → CardOf kind → List Reference
-names_of sort kind = (entry_of kind).names sort
+HasUnknown deck row (named ∷ more) fault =
+    IsUnknown deck named.target row named.code fault ⊎ (IsSome (named_among (target_codes deck named.target) named.code) × HasUnknown deck row more fault)
 
 -- the faults of a card of a kind in a deck of a sort: of what it names (F13 to F16, F41), and by itself (F17 to F19)
-abbrev pub HasCardFault : Sort → Deck → (kind : Kind) → CardOf kind → Fault → Type 0
-HasCardFault sort deck kind card fault = HasUnknown deck ((entry_of kind).row card) (names_of sort kind card) fault ⊎ (entry_of kind).flaws sort card fault
-
--- the faults of the cards of a kind
-abbrev pub HasFaultOf : Sort → Deck → Kind → Fault → Type 0
-HasFaultOf sort deck kind fault = Any (λ card. HasCardFault sort deck kind card fault) (list_of deck kind)
-
--- the faults of the cards of some kinds
-abbrev pub HasFaultAmong : Sort → Deck → List Kind → Fault → Type 0
-HasFaultAmong sort deck kinds fault = Any (λ kind. HasFaultOf sort deck kind fault) kinds
+abbrev pub HasCardMisfit : Sort → Deck → (kind : Kind) → CardOf kind → Fault → Type 0
+HasCardMisfit sort deck kind card fault = HasUnknown deck ((entry_of kind).row card) ((entry_of kind).names sort card) fault ⊎ (entry_of kind).flaws sort card fault
 
 -- the faults of the cards of a deck of a sort
 abbrev pub HasMisfit : Sort → Deck → Fault → Type 0
-HasMisfit sort deck fault = HasFaultAmong sort deck (kinds_of sort) fault
+HasMisfit sort deck fault = Any (λ kind. Any (λ card. HasCardMisfit sort deck kind card fault) (list_of deck kind)) (kinds_of sort)
 
 -- no card of the deck has a fault
 abbrev pub HasNoMisfit : Sort → Deck → Type 0

@@ -7,3 +7,4 @@ pub mod Reading
 pub mod Within
 pub mod Titles
 pub mod Made
+pub mod Misfit

@@ -20,7 +20,8 @@ use Rattle.pc_deck.specs.declared.kinds.piece.PieceCard.{PieceCard}
 use Rattle.pc_deck.specs.declared.kinds.status.StatusCard.{StatusCard}
 use Rattle.pc_deck.specs.declared.kinds.wbs.ItemCard.{ItemCard}
 use Rattle.pc_deck.specs.Deck.{Deck, account_codes, act_codes, event_codes, item_codes, named_among, number_among, resource_codes}
-use Rattle.pc_deck.specs.Misfit.{AreThere, HasCardFault, HasNoMisfit, names_of}
+use Rattle.pc_deck.specs.Misfit.{AreKnownNames, HasCardMisfit, HasNoMisfit}
+use Rattle.pc_deck.specs.inside.Misfit.{names_of}
 use Rattle.pc_deck.proofs.MisfitLaws.{Any-at, all_named, at_accounts, at_acts, at_charges, at_items, at_loads, at_pieces, at_project, at_statuses, at_togos, no_fault_of}
 use Rattle.pc_faults.specs.Faults.{one_event}
 use Rattle.pc_faults.specs.declared.fault.Fault.{Fault}
@@ -31,14 +32,14 @@ use Rattle.pc_project.proofs.NumberLaws.{account_number-within, act_number-withi
 
 module _ (deck : Deck) (none : HasNoMisfit Plan deck) where
   -- the start and the end are two events
-  pub ends_there : AreThere deck (names_of Plan Project deck.project)
+  pub ends_there : AreKnownNames deck (names_of Plan Project deck.project)
   ends_there = all_named Plan deck none at_project End (omega arith) 0 deck.project (omega arith)
 
   pub ends_apart : deck.project.start ≢ deck.project.end
   ends_apart same = no_fault_of Plan deck none at_project End (omega arith) (one_event deck.project.row deck.project.start) (0, deck.project, omega arith, refl, inr (same, refl))
 
   -- what an activity names is there, and its numbers are in order
-  pub acts_there : All (λ card. AreThere deck (names_of Plan Act card)) deck.acts
+  pub acts_there : All (λ card. AreKnownNames deck (names_of Plan Act card)) deck.acts
   acts_there = all_named Plan deck none at_acts End (omega arith)
 
   pub all_fit : All IsSoundAct deck.acts
@@ -55,7 +56,7 @@ module _ (deck : Deck) (none : HasNoMisfit Plan deck) where
       card = get_or deck.acts i d
 
       out : (fault : Fault) → HasActFlaw card fault → ⊥
-      out fault h = no_fault_of Plan deck none at_acts End (omega arith) fault (Any-at (λ act. HasCardFault Plan deck Act act fault) deck.acts i d within (inr h))
+      out fault h = no_fault_of Plan deck none at_acts End (omega arith) fault (Any-at (λ act. HasCardMisfit Plan deck Act act fault) deck.acts i d within (inr h))
 
 -- a card to read past the end of the cards, where no one looks
 pub no_act : ActCard
@@ -66,7 +67,7 @@ no_item = record { row = 0; code = []; parent = None; title = [] }
 
 -- the activity leads from the event that its card names first to the one that it names second
 record IsPlaced (deck : Deck) (a : ℕ) (card : ActCard) : Type 0 where
-  there : AreThere deck (names_of Plan Act card)
+  there : AreKnownNames deck (names_of Plan Act card)
   apart : card.from ≢ card.to
   from : from_of (network_of deck).arcs a ≡ number_among (event_codes deck) card.from
   to : to_of (network_of deck).arcs a ≡ number_among (event_codes deck) card.to
@@ -101,11 +102,11 @@ parent_within deck (Some code) p known is =
     omega (arith, same, item_number-within deck code (known code refl))
 
 -- items without faults have items for parents, in decks of either sort
-known_parent : (deck : Deck) (parent : Option (List ℕ)) → AreThere deck (names_parent parent) → (code : List ℕ) → parent ≡ Some code → IsSome (named_among (item_codes deck) code)
+known_parent : (deck : Deck) (parent : Option (List ℕ)) → AreKnownNames deck (names_parent parent) → (code : List ℕ) → parent ≡ Some code → IsSome (named_among (item_codes deck) code)
 known_parent deck None there code is = absurd cc
 known_parent deck (Some named) there code is = subst (λ name. IsSome (named_among (item_codes deck) name)) (let same : named ≡ code = cc in same) there.0
 
-pub items-in_range : (deck : Deck) → All (λ (item : ItemCard). AreThere deck (names_parent item.parent)) deck.items → AreInRange (rows_of deck)
+pub items-in_range : (deck : Deck) → All (λ (item : ItemCard). AreKnownNames deck (names_parent item.parent)) deck.items → AreInRange (rows_of deck)
 items-in_range deck all x p within is =
     let count = length-map deck.items (row_of deck) in
     let inside : x < length deck.items = omega (arith, within, count) in
@@ -128,7 +129,8 @@ account_item-within deck none a d within =
     item_number-within deck (get_or deck.accounts a d).item (all_named Plan deck none at_accounts End (omega arith) a d within).0
 
 -- the same of a card that was read
-pub act_item-within : (deck : Deck) → HasNoMisfit Plan deck → (a : ℕ) (card : ActCard) → a < length deck.acts → card ≡ get_or deck.acts a card → number_among (item_codes deck) card.item < length deck.items
+pub act_item-within : (deck : Deck) → HasNoMisfit Plan deck → (a : ℕ) (card : ActCard) → a < length deck.acts → card ≡ get_or deck.acts a card →
+    number_among (item_codes deck) card.item < length deck.items
 act_item-within deck none a card within read =
     subst (λ (c : ActCard). number_among (item_codes deck) c.item < length deck.items) (sym read) (item_number-within deck (get_or deck.acts a card).item (acts_there deck none a card within).1.1.0)
 
@@ -143,7 +145,8 @@ pub charge_account-within : (deck : Deck) → HasNoMisfit Plan deck → (k : ℕ
 charge_account-within deck none k d within =
     account_number-within deck (get_or deck.charges k d).account (all_named Plan deck none at_charges End (omega arith) k d within).0
 
-pub togo_account-within : (deck : Deck) → HasNoMisfit Plan deck → (k : ℕ) (d : MoneyCard) → k < length deck.togos → number_among (account_codes deck) (get_or deck.togos k d).account < length deck.accounts
+pub togo_account-within : (deck : Deck) → HasNoMisfit Plan deck → (k : ℕ) (d : MoneyCard) → k < length deck.togos →
+    number_among (account_codes deck) (get_or deck.togos k d).account < length deck.accounts
 togo_account-within deck none k d within =
     account_number-within deck (get_or deck.togos k d).account (all_named Plan deck none at_togos End (omega arith) k d within).0
 
@@ -161,7 +164,8 @@ network_of-is deck events start end arcs same_events same_start same_end same_ar
     λ i. record { events = same_events i; start = same_start i; end = same_end i; arcs = same_arcs i }
 
 -- the activity of a piece is an activity
-pub piece_activity-within : (deck : Deck) → HasNoMisfit Plan deck → (i : ℕ) (d : PieceCard) → i < length deck.pieces → number_among (act_codes deck) (get_or deck.pieces i d).activity < length deck.acts
+pub piece_activity-within : (deck : Deck) → HasNoMisfit Plan deck → (i : ℕ) (d : PieceCard) → i < length deck.pieces →
+    number_among (act_codes deck) (get_or deck.pieces i d).activity < length deck.acts
 piece_activity-within deck none i d within =
     act_number-within deck (get_or deck.pieces i d).activity (all_named Plan deck none at_pieces End (omega arith) i d within).0
 

@@ -10,7 +10,8 @@ use Rattle.pc_deck.specs.Act.{HasActFlaw, durations, same_events}
 use Rattle.pc_deck.specs.Deck.{Deck, item_codes, list_of, number_among}
 use Rattle.pc_deck.specs.Durations.{crash_above, unordered}
 use Rattle.pc_deck.specs.Kinds.{CardOf, entry_of, kinds_of}
-use Rattle.pc_deck.specs.Misfit.{AreThere, HasNoMisfit, names_of}
+use Rattle.pc_deck.specs.Misfit.{AreKnownNames, HasNoMisfit}
+use Rattle.pc_deck.specs.inside.Misfit.{names_of}
 use Rattle.pc_deck.specs.declared.kinds.acct.AcctCard.{AcctCard}
 use Rattle.pc_deck.specs.declared.kinds.act.ActCard.{ActCard}
 use Rattle.pc_deck.specs.declared.kinds.as_of.AsOfCard.{AsOfCard}
@@ -86,13 +87,13 @@ module _ (deck : Deck) (sound : AreSoundCards deck) where
   no_flaw other i card within at fault h = absurd (let h' = h in h')
 
   abbrev AreNamed : Kind → Type 0
-  AreNamed kind = All (λ card. AreThere deck (names_of Plan kind card)) (list_of deck kind)
+  AreNamed kind = All (λ card. AreKnownNames deck (names_of Plan kind card)) (list_of deck kind)
 
   pub no_misfit : HasNoMisfit Plan deck
   no_misfit fault (k, kind, within, at, (i, card, inside, at_card, inl unknown)) =
       let there = at_each AreNamed (kinds_of Plan) sound.named k kind within at in
       none_unknown deck ((entry_of kind).row card) (names_of Plan kind card)
-      (at_each (λ card. AreThere deck (names_of Plan kind card)) (list_of deck kind) there i card inside at_card) fault unknown
+      (at_each (λ card. AreKnownNames deck (names_of Plan kind card)) (list_of deck kind) there i card inside at_card) fault unknown
   no_misfit fault (k, kind, within, at, (i, card, inside, at_card, inr flaw)) = no_flaw kind i card inside at_card fault flaw
 
 module _ (deck : Deck) (makes : MakesProject deck) where

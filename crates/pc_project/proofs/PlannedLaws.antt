@@ -134,7 +134,8 @@ within_pieces deck limits = record {
 }
 
 -- the loads of a deck without faults
-loads_of_deck : (deck : Deck) (entries : List Entry) (states : List ActState) → HasNoMisfit Plan deck → IsWithinLimits deck → All (IsLoad (project_in deck entries states)) (map (load_of deck) deck.loads)
+loads_of_deck : (deck : Deck) (entries : List Entry) (states : List ActState) → HasNoMisfit Plan deck → IsWithinLimits deck →
+    All (IsLoad (project_in deck entries states)) (map (load_of deck) deck.loads)
 loads_of_deck deck entries states cards limits =
     All-from_get_or (IsLoad (project_in deck entries states)) (map (load_of deck) deck.loads) (record { activity = 0; resource = 0; quantity = 0 }) (λ i within.
     let inside : i < length deck.loads = omega (arith, within, length-map deck.loads (load_of deck)) in

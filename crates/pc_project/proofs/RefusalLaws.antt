@@ -18,7 +18,8 @@ use Rattle.pc_deck.specs.Target.{IsUnknown}
 use Rattle.pc_deck.specs.Act.{durations, same_events}
 use Rattle.pc_deck.specs.Durations.{HasDurationFault, crash_above, unordered}
 use Rattle.pc_deck.specs.Kinds.{CardOf, entry_of}
-use Rattle.pc_deck.specs.Misfit.{HasMisfit, HasNoMisfit, HasUnknown, names_of}
+use Rattle.pc_deck.specs.Misfit.{HasMisfit, HasNoMisfit, HasUnknown}
+use Rattle.pc_deck.specs.inside.Misfit.{names_of}
 use Rattle.pc_faults.specs.declared.kind.Kind.{Kind}
 use Rattle.pc_faults.specs.declared.kind.Kind.TheVariants as kinds
 use Rattle.pc_faults.specs.declared.kind.Kind.TheVariants.{Act, After, Project}

@@ -13,8 +13,8 @@ use Rattle.pc_accounts.specs.status.Statuses.{AreInOrder}
 use Rattle.pc_cards.specs.declared.sort.Sort.TheVariants.{Plan}
 use Rattle.pc_deck.specs.Deck.{Deck, item_codes, list_of, number_among}
 use Rattle.pc_deck.specs.Durations.{HasOrderedEstimates}
-use Rattle.pc_deck.specs.Kinds.{kinds_of}
-use Rattle.pc_deck.specs.Misfit.{AreThere, names_of}
+use Rattle.pc_deck.specs.Kinds.{entry_of, kinds_of}
+use Rattle.pc_deck.specs.Misfit.{AreKnownNames}
 use Rattle.pc_deck.specs.declared.kinds.act.ActCard.{ActCard}
 use Rattle.pc_deck.specs.declared.kinds.terms.TermsCard.{TermsCard}
 use Rattle.pc_project.specs.DisorderFaults.{as_of_in}
@@ -30,7 +30,7 @@ pub record IsSoundAct (card : ActCard) : Type 0 where
 
 -- what each card names is there, the start and the end are two events, and the numbers of activities are in order
 pub record AreSoundCards (deck : Deck) : Type 0 where
-  pub named : All (λ kind. All (λ card. AreThere deck (names_of Plan kind card)) (list_of deck kind)) (kinds_of Plan)
+  pub named : All (λ kind. All (λ card. AreKnownNames deck ((entry_of kind).names Plan card)) (list_of deck kind)) (kinds_of Plan)
   pub apart : deck.project.start ≢ deck.project.end
   pub acts : All IsSoundAct deck.acts
 

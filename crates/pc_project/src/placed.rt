@@ -3,7 +3,7 @@ ghost use Rattle.std.specs.Prelude.{◌≡◌, ◌↔◌, IsTrue, IfErr, OnOk, I
 ghost use Rattle.pc_cards.specs.declared.sort.Sort.TheVariants.{Plan, Tasks};
 ghost use Rattle.pc_deck.specs.Deck.{item_codes, number_among};
 ghost use Rattle.pc_deck.specs.Durations.{HasDurationFault, HasOrderedEstimates};
-ghost use Rattle.pc_deck.specs.Misfit.{HasCardFault};
+ghost use Rattle.pc_deck.specs.Misfit.{HasCardMisfit};
 ghost use Rattle.pc_faults.specs.First.{IsFirstFault};
 ghost use Rattle.pc_faults.specs.declared.fault.Fault.{Fault};
 ghost use Rattle.pc_faults.specs.declared.kind.Kind.TheVariants.{
@@ -62,8 +62,9 @@ pub struct LoadItem {
 pub(crate) fn ends_of(cards: &Cards) -> Result<(u32, u32), Fault>
     ensures start { IfOk result (λ ends. ends.0 ≡ (network_of cards.now).start) }
     ensures end { IfOk result (λ ends. ends.1 ≡ (network_of cards.now).end) }
-    ensures faultless { OnOk result ((fault : Fault) → HasCardFault Plan cards.now Project cards.now.project fault → ⊥) }
-    ensures first { IfErr result (IsFirstFault (HasCardFault Plan cards.now Project cards.now.project)) }
+    ensures faultless { OnOk result ((fault : Fault)
+        → HasCardMisfit Plan cards.now Project cards.now.project fault → ⊥) }
+    ensures first { IfErr result (IsFirstFault (HasCardMisfit Plan cards.now Project cards.now.project)) }
 {
     let card = cards.project();
     let start = cards.find(Target::Event, card.row, card.start)?;
@@ -79,7 +80,7 @@ impl Refers for ItemCard {
 
     ghost found_in = { λ sort. row_of };
 
-    ghost HasFault = { λ sort deck. HasCardFault sort deck Wbs };
+    ghost HasFault = { λ sort deck. HasCardMisfit sort deck Wbs };
 
     fn look_up<S: DeckSort>(&self, cards: &CardsOf<S>) -> Result<ItemRow, Fault> {
         let Some(code) = self.parent else {
@@ -94,7 +95,8 @@ impl Refers for ItemCard {
 
 /// Returns the fault of estimates and durations on the card at a record, if they are out of order (F18, F19).
 pub(crate) fn duration_fault(row: u32, estimates: Estimates, normal: u64, crash: u64) -> Option<Fault>
-    ensures { IsFirstIn (HasDurationFault row estimates.optimistic estimates.likely estimates.pessimistic normal crash) result }
+    ensures { IsFirstIn
+        (HasDurationFault row estimates.optimistic estimates.likely estimates.pessimistic normal crash) result }
 {
     if !is_in_order(estimates) {
         return Some(Fault::new(row, 18, Detail::Plain));
@@ -116,7 +118,7 @@ impl Refers for ActCard {
 
     ghost found_in = { λ sort. placement_of };
 
-    ghost HasFault = { λ sort deck. HasCardFault Plan deck Act };
+    ghost HasFault = { λ sort deck. HasCardMisfit Plan deck Act };
 
     fn look_up<S: DeckSort>(&self, cards: &CardsOf<S>) -> Result<Placement, Fault> {
         let from = cards.find(Target::Event, self.row, self.from)?;
@@ -145,7 +147,7 @@ impl Refers for AcctCard {
 
     ghost found_in = { λ sort. account_of };
 
-    ghost HasFault = { λ sort deck. HasCardFault sort deck Acct };
+    ghost HasFault = { λ sort deck. HasCardMisfit sort deck Acct };
 
     fn look_up<S: DeckSort>(&self, cards: &CardsOf<S>) -> Result<AcctRow, Fault> {
         let item = cards.find(Target::Item, self.row, self.item)?;
@@ -161,7 +163,7 @@ impl Refers for MoneyCard {
 
     ghost found_in = { λ sort. money_of };
 
-    ghost HasFault = { λ sort deck. HasCardFault sort deck Charge };
+    ghost HasFault = { λ sort deck. HasCardMisfit sort deck Charge };
 
     fn look_up<S: DeckSort>(&self, cards: &CardsOf<S>) -> Result<MoneyRow, Fault> {
         let account = cards.find(Target::Account, self.row, self.account)?;
@@ -178,7 +180,7 @@ impl Refers for StatusCard {
 
     ghost found_in = { status_in };
 
-    ghost HasFault = { λ sort deck. HasCardFault sort deck Status };
+    ghost HasFault = { λ sort deck. HasCardMisfit sort deck Status };
 
     fn look_up<S: DeckSort>(&self, cards: &CardsOf<S>) -> Result<StatusRow, Fault> {
         let activity = cards.find(S::work(), self.row, self.activity)?;
@@ -195,7 +197,7 @@ impl Refers for PieceCard {
 
     ghost found_in = { piece_in };
 
-    ghost HasFault = { λ sort deck. HasCardFault sort deck Piece };
+    ghost HasFault = { λ sort deck. HasCardMisfit sort deck Piece };
 
     fn look_up<S: DeckSort>(&self, cards: &CardsOf<S>) -> Result<PieceRow, Fault> {
         let activity = cards.find(S::work(), self.row, self.activity)?;
@@ -212,7 +214,7 @@ impl Refers for LoadCard {
 
     ghost found_in = { load_in };
 
-    ghost HasFault = { λ sort deck. HasCardFault sort deck Load };
+    ghost HasFault = { λ sort deck. HasCardMisfit sort deck Load };
 
     fn look_up<S: DeckSort>(&self, cards: &CardsOf<S>) -> Result<LoadItem, Fault> {
         let activity = cards.find(S::work(), self.row, self.activity)?;
@@ -231,7 +233,7 @@ impl Refers for TaskCard {
 
     ghost found_in = { λ sort deck task. number_among (item_codes deck) task.item };
 
-    ghost HasFault = { λ sort deck. HasCardFault Tasks deck Task };
+    ghost HasFault = { λ sort deck. HasCardMisfit Tasks deck Task };
 
     fn look_up<S: DeckSort>(&self, cards: &CardsOf<S>) -> Result<u32, Fault> {
         let item = cards.find(Target::Item, self.row, self.item)?;
@@ -252,7 +254,7 @@ impl Refers for AfterCard {
 
     ghost found_in = { λ sort. after_row };
 
-    ghost HasFault = { λ sort deck. HasCardFault Tasks deck After };
+    ghost HasFault = { λ sort deck. HasCardMisfit Tasks deck After };
 
     fn look_up<S: DeckSort>(&self, cards: &CardsOf<S>) -> Result<AfterRow, Fault> {
         let task = cards.find(Target::Task, self.row, self.task)?;

@@ -13,7 +13,8 @@ use Rattle.pc_faults.specs.declared.kind.Kind.TheVariants.{Project, AsOf, Terms,
 use Rattle.pc_deck.specs.Deck.{Deck, act_codes, event_codes, item_codes, list_of, named_among, number_among, task_codes}
 use Rattle.pc_deck.specs.Durations.{crash_above, unordered}
 use Rattle.pc_deck.specs.Kinds.{further_kinds, kinds_of}
-use Rattle.pc_deck.specs.Misfit.{AreThere, HasCardFault, HasNoMisfit, names_of}
+use Rattle.pc_deck.specs.Misfit.{AreKnownNames, HasCardMisfit, HasNoMisfit}
+use Rattle.pc_deck.specs.inside.Misfit.{names_of}
 use Rattle.pc_deck.specs.Wbs.{names_parent}
 use Rattle.pc_deck.specs.Within.{IsWithin}
 use Rattle.pc_deck.specs.declared.kinds.act.ActCard.{ActCard}
@@ -100,13 +101,13 @@ module _ (deck : Deck) (within : IsWithin Tasks deck) (none : HasNoMisfit Tasks 
   plan = arrows_deck deck
 
   abbrev IsSoundDrawn : ActCard → Type 0
-  IsSoundDrawn act = AreThere plan (names_of Plan Act act) × IsSoundAct act
+  IsSoundDrawn act = AreKnownNames plan (names_of Plan Act act) × IsSoundAct act
 
   abbrev n : ℕ
   n = length deck.tasks
 
   abbrev HasNoTaskFault : TaskCard → Type 0
-  HasNoTaskFault task = (fault : Fault) → HasCardFault Tasks deck Task task fault → ⊥
+  HasNoTaskFault task = (fault : Fault) → HasCardMisfit Tasks deck Task task fault → ⊥
 
   not_below : (a b : ℕ) → (a < b → ⊥) → b ≤ a
   not_below a b never_below = elim (cases_lt a b) [ inl less ↦ absurd (never_below less) | inr more ↦ more ]
@@ -167,7 +168,7 @@ module _ (deck : Deck) (within : IsWithin Tasks deck) (none : HasNoMisfit Tasks 
 
   faultless-tasks : All HasNoTaskFault deck.tasks
   faultless-tasks = λ k d inside fault h.
-      no_fault_of Tasks deck none at_tasks End (omega arith) fault (Any-at (λ task. HasCardFault Tasks deck Task task fault) deck.tasks k d inside h)
+      no_fault_of Tasks deck none at_tasks End (omega arith) fault (Any-at (λ task. HasCardMisfit Tasks deck Task task fault) deck.tasks k d inside h)
 
   acts-sound : All IsSoundDrawn plan.acts
   acts-sound =
@@ -221,23 +222,23 @@ module _ (deck : Deck) (within : IsWithin Tasks deck) (none : HasNoMisfit Tasks 
     top-named = only_place-is top_name items first_top.0 once (omega (arith, first_top.1.0, length-map deck.items (λ (item : ItemCard). item.code))) code-at ∙ ap Some first_top-is
 
     -- the parents of items are items
-    parent-there : (parent : Option (List ℕ)) → AreThere deck (names_parent parent) → AreThere plan (names_parent parent)
+    parent-there : (parent : Option (List ℕ)) → AreKnownNames deck (names_parent parent) → AreKnownNames plan (names_parent parent)
     parent-there None there = tt
     parent-there (Some code) there = (item-found code there.0, tt)
 
     abbrev HasParentThere : ItemCard → Type 0
-    HasParentThere item = AreThere plan (names_parent item.parent)
+    HasParentThere item = AreKnownNames plan (names_parent item.parent)
 
     items-there : All HasParentThere plan.items
     items-there =
         All-append HasParentThere deck.items (links_item deck ∷ [])
         (λ k d inside. parent-there (get_or deck.items k d).parent (all_named Tasks deck none at_items End (omega arith) k d inside))
         (All-cons HasParentThere (links_item deck) []
-        (subst (λ parent. AreThere plan (names_parent parent)) (sym first_top.1.1.1) (item-found top_name (found _ _ top-named), tt)) (All-nil HasParentThere))
+        (subst (λ parent. AreKnownNames plan (names_parent parent)) (sym first_top.1.1.1) (item-found top_name (found _ _ top-named), tt)) (All-nil HasParentThere))
 
     -- what each card of the plan names is there
     abbrev AreNamed : Kind → Type 0
-    AreNamed kind = All (λ card. AreThere plan (names_of Plan kind card)) (list_of plan kind)
+    AreNamed kind = All (λ card. AreKnownNames plan (names_of Plan kind card)) (list_of plan kind)
 
     -- cards that name nothing
     nothing-named : {C : Type 0} (cards : List C) → All (λ card. Unit {0}) cards
@@ -245,30 +246,32 @@ module _ (deck : Deck) (within : IsWithin Tasks deck) (none : HasNoMisfit Tasks 
 
     named-further : All AreNamed further_kinds
     named-further =
-        All-cons AreNamed Piece _ (λ k d inside. (act-found (get_or deck.pieces k d).activity (all_named Tasks deck none at_pieces End (omega arith) k d inside).0, tt))
-        (All-cons AreNamed Acct _ (λ k d inside. (item-found (get_or deck.accounts k d).item (all_named Tasks deck none at_accounts End (omega arith) k d inside).0, tt))
-        (All-cons AreNamed Charge _ (λ k d inside. all_named Tasks deck none at_charges End (omega arith) k d inside)
-        (All-cons AreNamed ToGo _ (λ k d inside. all_named Tasks deck none at_togos End (omega arith) k d inside)
-        (All-cons AreNamed Status _ (λ k d inside. (act-found (get_or deck.statuses k d).activity (all_named Tasks deck none at_statuses End (omega arith) k d inside).0, tt))
-        (All-cons AreNamed Res _ (nothing-named plan.resources)
-        (All-cons AreNamed Load _ (λ k d inside.
+        All-cons AreNamed Piece (Acct ∷ Charge ∷ ToGo ∷ Status ∷ Res ∷ Load ∷ End ∷ [])
+        (λ k d inside. (act-found (get_or deck.pieces k d).activity (all_named Tasks deck none at_pieces End (omega arith) k d inside).0, tt))
+        (All-cons AreNamed Acct (Charge ∷ ToGo ∷ Status ∷ Res ∷ Load ∷ End ∷ [])
+        (λ k d inside. (item-found (get_or deck.accounts k d).item (all_named Tasks deck none at_accounts End (omega arith) k d inside).0, tt))
+        (All-cons AreNamed Charge (ToGo ∷ Status ∷ Res ∷ Load ∷ End ∷ []) (λ k d inside. all_named Tasks deck none at_charges End (omega arith) k d inside)
+        (All-cons AreNamed ToGo (Status ∷ Res ∷ Load ∷ End ∷ []) (λ k d inside. all_named Tasks deck none at_togos End (omega arith) k d inside)
+        (All-cons AreNamed Status (Res ∷ Load ∷ End ∷ []) (λ k d inside. (act-found (get_or deck.statuses k d).activity (all_named Tasks deck none at_statuses End (omega arith) k d inside).0, tt))
+        (All-cons AreNamed Res (Load ∷ End ∷ []) (nothing-named plan.resources)
+        (All-cons AreNamed Load (End ∷ []) (λ k d inside.
         let there = all_named Tasks deck none at_loads End (omega arith) k d inside in
         (act-found (get_or deck.loads k d).activity there.0, there.1))
         (All-cons AreNamed End [] (nothing-named (list_of plan End)) (All-nil AreNamed))))))))
 
     all-named : All AreNamed (kinds_of Plan)
     all-named =
-        All-cons AreNamed Project _ (λ k d inside. project-there k d inside)
-        (All-cons AreNamed AsOf _ (nothing-named (list_of plan AsOf))
-        (All-cons AreNamed Terms _ (nothing-named (list_of plan Terms))
-        (All-cons AreNamed Wbs _ items-there
-        (All-cons AreNamed Event _ (nothing-named plan.events)
-        (All-cons AreNamed Act _ (λ k d inside. (acts-sound k d inside).0) named-further)))))
+        All-cons AreNamed Project (AsOf ∷ Terms ∷ Wbs ∷ Event ∷ Act ∷ further_kinds) (λ k d inside. project-there k d inside)
+        (All-cons AreNamed AsOf (Terms ∷ Wbs ∷ Event ∷ Act ∷ further_kinds) (nothing-named (list_of plan AsOf))
+        (All-cons AreNamed Terms (Wbs ∷ Event ∷ Act ∷ further_kinds) (nothing-named (list_of plan Terms))
+        (All-cons AreNamed Wbs (Event ∷ Act ∷ further_kinds) items-there
+        (All-cons AreNamed Event (Act ∷ further_kinds) (nothing-named plan.events)
+        (All-cons AreNamed Act further_kinds (λ k d inside. (acts-sound k d inside).0) named-further)))))
       where
         project-there : AreNamed Project
         project-there =
-            All-cons (λ card. AreThere plan (names_of Plan Project card)) plan.project []
-            (found _ _ (events.named-start deck can), (found _ _ (events.named-last deck can), tt)) (All-nil (λ card. AreThere plan (names_of Plan Project card)))
+            All-cons (λ card. AreKnownNames plan (names_of Plan Project card)) plan.project []
+            (found _ _ (events.named-start deck can), (found _ _ (events.named-last deck can), tt)) (All-nil (λ card. AreKnownNames plan (names_of Plan Project card)))
 
     -- the rows of the items, and the row of the links below the top
     default : (o : Option ℕ) (a b : ℕ) → IsSome o → unwrap_or o a ≡ unwrap_or o b
@@ -280,13 +283,13 @@ module _ (deck : Deck) (within : IsWithin Tasks deck) (none : HasNoMisfit Tasks 
         ap (λ o. unwrap_or o (length (item_codes (arrows_deck deck)))) (item-named code known)
         ∙ default (named_among items code) (length (item_codes (arrows_deck deck))) (length items) known
 
-    same-parent : (parent : Option (List ℕ)) → AreThere deck (names_parent parent)
+    same-parent : (parent : Option (List ℕ)) → AreKnownNames deck (names_parent parent)
         → option_and_then (λ code. Some (number_among (item_codes (arrows_deck deck)) code)) parent ≡ option_and_then (λ code. Some (number_among items code)) parent
     same-parent None known = refl
     same-parent (Some code) known = ap Some (same-number code known.0)
 
     abbrev HasKnownParent : ItemCard → Type 0
-    HasKnownParent item = AreThere deck (names_parent item.parent)
+    HasKnownParent item = AreKnownNames deck (names_parent item.parent)
 
     same-rows : (cards : List ItemCard) → All HasKnownParent cards → map (row_of (arrows_deck deck)) cards ≡ map (row_of deck) cards
     same-rows [] all = refl

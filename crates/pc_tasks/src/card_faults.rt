@@ -1,7 +1,8 @@
 //! What the cards of a deck of tasks name, looked up, and the first fault of all cards.
 ghost use Rattle.std.specs.Prelude.{◌≡◌, IfOk, IfErr, OnOk};
 ghost use Rattle.pc_cards.specs.declared.sort.Sort.TheVariants.{Tasks};
-ghost use Rattle.pc_deck.specs.Misfit.{HasFaultOf, HasMisfit, HasNoMisfit};
+ghost use Rattle.pc_deck.specs.Misfit.{HasMisfit, HasNoMisfit};
+ghost use Rattle.pc_deck.specs.inside.Misfit.{HasFaultOf};
 ghost use Rattle.pc_deck.specs.Project.{HasProjectFlaw};
 ghost use Rattle.pc_faults.specs.First.{IsFirstFault};
 ghost use Rattle.pc_faults.specs.declared.kind.Kind.TheVariants.{After};

@@ -9,7 +9,8 @@ use Rattle.pc_deck.specs.Act as act
 use Rattle.pc_deck.specs.Deck.{Deck, list_of, named_among}
 use Rattle.pc_deck.specs.Durations.{HasDurationFault, crash_above, unordered}
 use Rattle.pc_deck.specs.Kinds.{CardOf, card_of, entry_of}
-use Rattle.pc_deck.specs.Misfit.{HasCardFault, HasMisfit, HasUnknown, names_of}
+use Rattle.pc_deck.specs.Misfit.{HasCardMisfit, HasMisfit, HasUnknown}
+use Rattle.pc_deck.specs.inside.Misfit.{names_of}
 use Rattle.pc_deck.specs.Says.{Says}
 use Rattle.pc_deck.specs.Target.{target_codes}
 use Rattle.pc_deck.proofs.MisfitLaws.{unknown_row}
@@ -118,7 +119,7 @@ told sort deck kind c n =
 by_test : (test known : Bool) (one other : Fault) → test ≡ known → (if known then one else other) ≡ (if test then one else other)
 by_test test known one other is = ap (λ (b : Bool). if b then one else other) (sym is)
 
-told_is : (sort : Sort) (deck : Deck) (kind : Kind) (c : Numbered) (f : Fault) → HasCardFault sort deck kind (card_of kind c.0 c.1) f → f ≡ told sort deck kind c f.number
+told_is : (sort : Sort) (deck : Deck) (kind : Kind) (c : Numbered) (f : Fault) → HasCardMisfit sort deck kind (card_of kind c.0 c.1) f → f ≡ told sort deck kind c f.number
 told_is sort deck kind c f (inl unknown) =
     let card = card_of kind c.0 c.1 in
     unknown_is deck ((entry_of kind).row card) (names_of sort kind card) f unknown
@@ -130,11 +131,11 @@ told_is sort deck kind c f (inr flaw) =
     told.is ∙ by_test (is_flaw f.number) true (flaw_told kind card f.number) (unknown_among deck ((entry_of kind).row card) (names_of sort kind card)) told.number
 
 -- a card that has a fault is at its own record
-own_row : (sort : Sort) (deck : Deck) (kind : Kind) (c : Numbered) (f : Fault) → HasCardFault sort deck kind (card_of kind c.0 c.1) f → (entry_of kind).row (card_of kind c.0 c.1) ≡ c.0
+own_row : (sort : Sort) (deck : Deck) (kind : Kind) (c : Numbered) (f : Fault) → HasCardMisfit sort deck kind (card_of kind c.0 c.1) f → (entry_of kind).row (card_of kind c.0 c.1) ≡ c.0
 own_row sort deck End c f h = absurd (⊎_elim (λ x. x) (λ x. x) h)
 own_row sort deck other c f h = refl
 
-at_own_row : (sort : Sort) (deck : Deck) (kind : Kind) (c : Numbered) (f : Fault) → HasCardFault sort deck kind (card_of kind c.0 c.1) f → f.row ≡ c.0
+at_own_row : (sort : Sort) (deck : Deck) (kind : Kind) (c : Numbered) (f : Fault) → HasCardMisfit sort deck kind (card_of kind c.0 c.1) f → f.row ≡ c.0
 at_own_row sort deck kind c f h =
     let card = card_of kind c.0 c.1 in
     ⊎_elim (λ unknown. unknown_row deck ((entry_of kind).row card) (names_of sort kind card) f unknown) (λ flaw. (flaw_is sort kind card f flaw).row) h ∙ own_row sort deck kind c f h
@@ -166,15 +167,15 @@ branch_row deck other c f h = absurd (let h' = h in h')
 module _ (cards : List Numbered) (deck : Deck) (rising : Rises 1 cards) (says : Says cards deck) where
   module _ (sort : Sort) where
     abbrev Misfit : Fault → Type 0
-    Misfit f = IsCardFault cards deck rising says (HasCardFault sort deck) (told sort deck) (told_is sort deck) (at_own_row sort deck) f
+    Misfit f = IsCardFault cards deck rising says (HasCardMisfit sort deck) (told sort deck) (told_is sort deck) (at_own_row sort deck) f
 
     as_misfit : (f : Fault) → HasMisfit sort deck f → Misfit f
-    as_misfit f (n, kind, among, at, any) = some_card cards deck rising says (HasCardFault sort deck) (told sort deck) (told_is sort deck) (at_own_row sort deck) kind f any
+    as_misfit f (n, kind, among, at, any) = some_card cards deck rising says (HasCardMisfit sort deck) (told sort deck) (told_is sort deck) (at_own_row sort deck) kind f any
 
     -- the faults of the cards
     pub misfit_once : AreToldByPlace (HasMisfit sort deck)
     misfit_once f g x y =
-        card_fault_once cards deck rising says (HasCardFault sort deck) (told sort deck) (told_is sort deck) (at_own_row sort deck) f g (as_misfit f x) (as_misfit g y)
+        card_fault_once cards deck rising says (HasCardMisfit sort deck) (told sort deck) (told_is sort deck) (at_own_row sort deck) f g (as_misfit f x) (as_misfit g y)
 
   abbrev LeafFault : Fault → Type 0
   LeafFault f = IsCardFault cards deck rising says (OnBranch deck) branch_of (branch_is deck) (branch_row deck) f

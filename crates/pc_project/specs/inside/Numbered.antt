@@ -4,7 +4,8 @@ use Rattle.pc_model.specs.declared.limits.TheConstants.{MAX_ITEMS}
 use Rattle.pc_cards.specs.declared.sort.Sort.TheVariants.{Plan}
 use Rattle.pc_deck.specs.Deck.{Deck}
 use Rattle.pc_deck.specs.Within.{IsWithinLimits}
-use Rattle.pc_deck.specs.Misfit.{HasFaultAmong, HasNoMisfit}
+use Rattle.pc_deck.specs.Misfit.{HasNoMisfit}
+use Rattle.pc_deck.specs.inside.Misfit.{HasFaultAmong}
 use Rattle.pc_deck.specs.Kinds.{kinds_of}
 use Rattle.pc_faults.specs.declared.fault.Fault.{Fault}
 use Rattle.pc_project.specs.declared.numbers.Numbers.{Numbers}

@@ -33,7 +33,8 @@ use Rattle.pc_deck.specs.Project.{HasProjectFlaw}
 use Rattle.pc_deck.specs.Wbs.{names_parent}
 use Rattle.pc_deck.specs.declared.kinds.project.ProjectCard.{ProjectCard}
 use Rattle.pc_deck.specs.Target.{target_codes}
-use Rattle.pc_deck.specs.Misfit.{HasCardFault, HasFaultOf, HasMisfit, HasUnknown, names_of}
+use Rattle.pc_deck.specs.Misfit.{HasCardMisfit, HasMisfit, HasUnknown}
+use Rattle.pc_deck.specs.inside.Misfit.{HasFaultOf, names_of}
 use Rattle.pc_cards.specs.Entry.{Reference}
 use Rattle.pc_project.specs.DisorderFaults.{HasDisorder, IsDisorderAt, IsEarlyAsOf, as_of_in, of_as_of, of_status}
 use Rattle.pc_project.specs.PackageFaults.{HasLeafFault, StandsOnBranch, of_account, of_act}
@@ -85,7 +86,7 @@ module _ (a b : Deck) (same : SayTheSame a b) where
 
   -- cards of a kind that name the same and are wrong by themselves alike
   alike : (kind : Kind) (x y : CardOf kind) → names_of Plan kind x ≡ names_of Plan kind y → AgreeOn (names_of Plan kind y) →
-      ((fault : Fault) → (entry_of kind).flaws Plan x fault → Some-fault ((entry_of kind).flaws Plan y)) → Some-fault (HasCardFault Plan a kind x) → Some-fault (HasCardFault Plan b kind y)
+      ((fault : Fault) → (entry_of kind).flaws Plan x fault → Some-fault ((entry_of kind).flaws Plan y)) → Some-fault (HasCardMisfit Plan a kind x) → Some-fault (HasCardMisfit Plan b kind y)
   alike kind x y is agree flawed (fault, inl h) =
       let (told, there) = names_again (names_of Plan kind y) agree ((entry_of kind).row x) ((entry_of kind).row y) fault (subst (λ names. HasUnknown a ((entry_of kind).row x) names fault) is h) in
       (told, inl there)
@@ -118,7 +119,7 @@ module _ (a b : Deck) (same : SayTheSame a b) where
       ((x y : CardOf kind) → said x ≡ said y → (fault : Fault) → (entry_of kind).flaws Plan x fault → Some-fault ((entry_of kind).flaws Plan y)) →
       (fault : Fault) → HasFaultOf Plan a kind fault → Some-fault (HasFaultOf Plan b kind)
   kind_fault kind said one names agree flawed fault any =
-      list_fault said (HasCardFault Plan a kind) (HasCardFault Plan b kind) (list_of a kind) (list_of b kind) one
+      list_fault said (HasCardMisfit Plan a kind) (HasCardMisfit Plan b kind) (list_of a kind) (list_of b kind) one
       (λ x y is h. alike kind x y (names x y is) (agree y) (flawed x y is) h) fault any
 
   none_by_itself : {X : Type 0} (said : X → X) (Other : X → Fault → Type 0) (x y : X) → said x ≡ said y → (fault : Fault) → ⊥ → Some-fault (Other y)
@@ -142,7 +143,8 @@ module _ (a b : Deck) (same : SayTheSame a b) where
   fault_of Status fault any =
       kind_fault Status status_said same.statuses (λ x y is. ap (names_of Plan Status) is) (λ y. (same_acts a b same, tt)) (none_by_itself status_said ((entry_of Status).flaws Plan)) fault any
   fault_of Load fault any =
-      kind_fault Load load_said same.loads (λ x y is. ap (names_of Plan Load) is) (λ y. (same_acts a b same, (same_resources a b same, tt))) (none_by_itself load_said ((entry_of Load).flaws Plan)) fault any
+      kind_fault Load load_said same.loads (λ x y is. ap (names_of Plan Load) is) (λ y. (same_acts a b same, (same_resources a b same, tt)))
+      (none_by_itself load_said ((entry_of Load).flaws Plan)) fault any
   fault_of other fault (k, card, within, at, h) = absurd (⊎_elim (λ x. x) (λ x. x) h)
 
   misfit : (fault : Fault) → HasMisfit Plan a fault → Some-fault (HasMisfit Plan b)

@@ -6,13 +6,17 @@ use Rattle.pc_deck.specs.declared.kinds.act.ActCard.{ActCard}
 use Rattle.pc_project.proofs.LoopLaws.{held_by_card, map_take_more}
 use Rattle.pc_project.proofs.lists.expected_times.Goals as goal
 
+-- the estimates of the card are in order
+abbrev IsOrdered : ActCard → Type 0
+IsOrdered act = HasOrderedEstimates act.opt act.likely act.pess
+
 pub expected_sixths-requires-clause-opt : goal.expected_sixths-requires-clause-opt
 expected_sixths-requires-clause-opt c =
-    (held_by_card (λ (act : ActCard). HasOrderedEstimates act.opt act.likely act.pess) c.args.acts.now c.loop-act.act-index c.act-item.result c.loop-act-test.true c.act-item.is c.requires.ordered).optimistic
+    (held_by_card IsOrdered c.args.acts.now c.loop-act.act-index c.act-item.result c.loop-act-test.true c.act-item.is c.requires.ordered).optimistic
 
 pub expected_sixths-requires-clause-likely : goal.expected_sixths-requires-clause-likely
 expected_sixths-requires-clause-likely c =
-    (held_by_card (λ (act : ActCard). HasOrderedEstimates act.opt act.likely act.pess) c.args.acts.now c.loop-act.act-index c.act-item.result c.loop-act-test.true c.act-item.is c.requires.ordered).pessimistic
+    (held_by_card IsOrdered c.args.acts.now c.loop-act.act-index c.act-item.result c.loop-act-test.true c.act-item.is c.requires.ordered).pessimistic
 
 pub expected_sixths-requires-clause-pess : goal.expected_sixths-requires-clause-pess
 expected_sixths-requires-clause-pess c =

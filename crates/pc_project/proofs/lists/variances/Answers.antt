@@ -6,9 +6,13 @@ use Rattle.pc_deck.specs.declared.kinds.act.ActCard.{ActCard}
 use Rattle.pc_project.proofs.LoopLaws.{held_by_card, map_take_more}
 use Rattle.pc_project.proofs.lists.variances.Goals as goal
 
+-- the estimates of the card are in order
+abbrev IsOrdered : ActCard → Type 0
+IsOrdered act = HasOrderedEstimates act.opt act.likely act.pess
+
 pub variance_36-requires-clause-opt : goal.variance_36-requires-clause-opt
 variance_36-requires-clause-opt c =
-    let ordered = held_by_card (λ (act : ActCard). HasOrderedEstimates act.opt act.likely act.pess) c.args.acts.now c.loop-act.act-index c.act-item.result c.loop-act-test.true c.act-item.is c.requires.ordered in
+    let ordered = held_by_card IsOrdered c.args.acts.now c.loop-act.act-index c.act-item.result c.loop-act-test.true c.act-item.is c.requires.ordered in
     omega (arith, ordered.optimistic, ordered.pessimistic)
 
 pub variance_36-requires-clause-pess : goal.variance_36-requires-clause-pess

@@ -7,17 +7,17 @@ use Rattle.pc_deck.specs.Misfit.{HasMisfit}
 use Rattle.pc_faults.specs.declared.kind.Kind.TheVariants.{Project, Wbs}
 use Rattle.pc_faults.specs.inside.First.{IsFirstIn, earliest}
 use Rattle.pc_project.specs.Project.{row_of}
-use Rattle.pc_deck.specs.Misfit.{HasCardFault}
+use Rattle.pc_deck.specs.Misfit.{HasCardMisfit}
 use Rattle.pc_deck.proofs.MisfitLaws.{first_cons, first_of_one}
 use Rattle.pc_faults.specs.declared.fault.Fault.{Fault}
 use Rattle.pc_project.specs.inside.Numbered.{HasListedFault}
 use Rattle.pc_project.proofs.numbers.numbers_of.Goals as goal
 
 -- the first fault of the PROJECT card and of the others
-first_of_cards : (deck : Deck) (card found : Option Fault) → IsFirstIn (HasCardFault Plan deck Project deck.project) card → IsFirstIn (HasListedFault deck) found →
+first_of_cards : (deck : Deck) (card found : Option Fault) → IsFirstIn (HasCardMisfit Plan deck Project deck.project) card → IsFirstIn (HasListedFault deck) found →
     IsFirstIn (HasMisfit Plan deck) (earliest card found)
 first_of_cards deck card found of_card of_lists =
-    first_cons Plan deck Project (drop 1 (kinds_of Plan)) card found (first_of_one (HasCardFault Plan deck Project) deck.project card of_card) of_lists
+    first_cons Plan deck Project (drop 1 (kinds_of Plan)) card found (first_of_one (HasCardMisfit Plan deck Project) deck.project card of_card) of_lists
 
 pub returns-in-Ok-None-clause-numbers : goal.returns-in-Ok-None-clause-numbers
 returns-in-Ok-None-clause-numbers c =

@@ -3,7 +3,8 @@ use Rattle.std.specs.List.{Any}
 use Rattle.pc_cards.specs.declared.sort.Sort.TheVariants.{Tasks}
 use Rattle.pc_deck.specs.Deck.{list_of}
 use Rattle.pc_deck.specs.Kinds.{CardOf, further_kinds}
-use Rattle.pc_deck.specs.Misfit.{HasCardFault, HasFaultAmong, HasFaultOf, HasMisfit}
+use Rattle.pc_deck.specs.Misfit.{HasCardMisfit, HasMisfit}
+use Rattle.pc_deck.specs.inside.Misfit.{HasFaultAmong, HasFaultOf}
 use Rattle.pc_deck.specs.Project.{HasProjectFlaw}
 use Rattle.pc_deck.proofs.MisfitLaws.{first_after_terms, first_cons, first_of_further, first_of_one}
 use Rattle.pc_faults.specs.declared.fault.Fault.{Fault}
@@ -35,11 +36,11 @@ returns c =
     (of Wbs c.items.result.now c.first_fault-item.result c.items.ensures.cards c.first_fault-item.ensures) works) in
     subst (IsFirstIn (HasMisfit Tasks deck)) (sym c.earliest.ensures)
     (first_cons Tasks deck Project (AsOf ∷ Terms ∷ Wbs ∷ Task ∷ After ∷ further_kinds) c.ends_fault-of_ends.result c.earliest-of_lists.result
-    (first_of_one (HasCardFault Tasks deck Project) deck.project c.ends_fault-of_ends.result
-    (first_of_same (HasProjectFlaw deck.project) (HasCardFault Tasks deck Project deck.project) (λ fault h. inr h)
+    (first_of_one (HasCardMisfit Tasks deck Project) deck.project c.ends_fault-of_ends.result
+    (first_of_same (HasProjectFlaw deck.project) (HasCardMisfit Tasks deck Project deck.project) (λ fault h. inr h)
     (λ fault h. ⊎_elim (λ unknown. absurd unknown) (λ flaw. flaw) h) c.ends_fault-of_ends.result c.ends_fault-of_ends.ensures))
     (first_after_terms Tasks deck (Wbs ∷ Task ∷ After ∷ further_kinds) c.earliest-of_lists.result lists))
   where
     of : (kind : Kind) (cards : List (CardOf kind)) (found : Option Fault) → cards ≡ list_of c.args.cards.now kind →
-        IsFirstIn (λ fault. Any (λ card. HasCardFault Tasks c.args.cards.now kind card fault) cards) found → IsFirstIn (HasFaultOf Tasks c.args.cards.now kind) found
-    of kind cards found are first = subst (λ cs. IsFirstIn (λ fault. Any (λ card. HasCardFault Tasks c.args.cards.now kind card fault) cs) found) are first
+        IsFirstIn (λ fault. Any (λ card. HasCardMisfit Tasks c.args.cards.now kind card fault) cards) found → IsFirstIn (HasFaultOf Tasks c.args.cards.now kind) found
+    of kind cards found are first = subst (λ cs. IsFirstIn (λ fault. Any (λ card. HasCardMisfit Tasks c.args.cards.now kind card fault) cs) found) are first

@@ -3,7 +3,8 @@ use Rattle.std.specs.List.{Any}
 use Rattle.pc_cards.specs.declared.sort.Sort.TheVariants.{Plan}
 use Rattle.pc_deck.specs.Deck.{list_of}
 use Rattle.pc_deck.specs.Kinds.{CardOf, further_kinds}
-use Rattle.pc_deck.specs.Misfit.{HasCardFault, HasFaultAmong, HasFaultOf}
+use Rattle.pc_deck.specs.Misfit.{HasCardMisfit}
+use Rattle.pc_deck.specs.inside.Misfit.{HasFaultAmong, HasFaultOf}
 use Rattle.pc_deck.proofs.MisfitLaws.{first_after_events, first_after_terms, first_cons, first_of_further}
 use Rattle.pc_faults.specs.declared.fault.Fault.{Fault}
 use Rattle.pc_faults.specs.declared.kind.Kind.{Kind}
@@ -34,8 +35,8 @@ returns-clause-first c =
     (first_after_events Plan deck (Act ∷ further_kinds) c.earliest-of_works.result (subst (IsFirstIn (HasFaultAmong Plan deck (Act ∷ further_kinds))) (sym c.earliest-of_works.ensures) works))))
   where
     of : (kind : Kind) (cards : List (CardOf kind)) (found : Option Fault) → cards ≡ list_of c.args.cards.now kind →
-        IsFirstIn (λ fault. Any (λ card. HasCardFault Plan c.args.cards.now kind card fault) cards) found → IsFirstIn (HasFaultOf Plan c.args.cards.now kind) found
-    of kind cards found are first = subst (λ cs. IsFirstIn (λ fault. Any (λ card. HasCardFault Plan c.args.cards.now kind card fault) cs) found) are first
+        IsFirstIn (λ fault. Any (λ card. HasCardMisfit Plan c.args.cards.now kind card fault) cards) found → IsFirstIn (HasFaultOf Plan c.args.cards.now kind) found
+    of kind cards found are first = subst (λ cs. IsFirstIn (λ fault. Any (λ card. HasCardMisfit Plan c.args.cards.now kind card fault) cs) found) are first
 
 pub returns-clause-lists : goal.returns-clause-lists
 returns-clause-lists c = λ none.

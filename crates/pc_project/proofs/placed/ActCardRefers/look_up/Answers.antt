@@ -5,7 +5,8 @@ use Rattle.pc_cards.specs.Entry.{Reference}
 use Rattle.pc_cards.specs.declared.sort.Sort.TheVariants.{Plan}
 use Rattle.pc_deck.specs.Act.{HasActFlaw}
 use Rattle.pc_deck.specs.Deck.{Deck}
-use Rattle.pc_deck.specs.Misfit.{HasCardFault, HasUnknown, names_of}
+use Rattle.pc_deck.specs.Misfit.{HasCardMisfit, HasUnknown}
+use Rattle.pc_deck.specs.inside.Misfit.{names_of}
 use Rattle.pc_deck.specs.declared.kinds.act.ActCard.{ActCard}
 use Rattle.pc_deck.proofs.MisfitLaws.{first_later, first_missing, first_of_flaws, first_of_names, found_there, none_of_either}
 use Rattle.pc_faults.specs.First.{IsFirstFault}
@@ -27,7 +28,8 @@ abbrev place : ActCard → Reference
 place card = record { target = Item; code = card.item }
 
 -- an unknown name is the card's first fault
-unknown : (deck : Deck) (card : ActCard) (fault : Fault) → fault.number ≤ 17 → IsFirstFault (HasUnknown deck card.row (names_of Plan Act card)) fault → IsFirstFault (HasCardFault Plan deck Act card) fault
+unknown : (deck : Deck) (card : ActCard) (fault : Fault) → fault.number ≤ 17 → IsFirstFault (HasUnknown deck card.row (names_of Plan Act card)) fault →
+    IsFirstFault (HasCardMisfit Plan deck Act card) fault
 unknown deck card fault number first = first_of_names deck card.row (names_of Plan Act card) (HasActFlaw card) (act_later card) fault number first
 
 pub returns-in_err-from-clause-first : goal.returns-in_err-from-clause-first
@@ -36,7 +38,7 @@ returns-in_err-from-clause-first g c =
     let card = c.args.self.now in
     let fault = c.in_err-from.field-0.0 in
     let first = c.in_err-from.ensures.first in
-    handed_on (IsFirstFault (HasCardFault Plan deck Act card)) c.from_residual.result fault c.from_residual.ensures.1
+    handed_on (IsFirstFault (HasCardMisfit Plan deck Act card)) c.from_residual.result fault c.from_residual.ensures.1
     (unknown deck card fault (omega (arith, ap (λ (f : Fault). f.number) first.holds.told))
     (first_missing deck card.row (begin card) (end card ∷ place card ∷ []) fault first))
 
@@ -46,7 +48,7 @@ returns-in_err-to-clause-first g c =
     let card = c.args.self.now in
     let fault = c.in_err-to.field-0.0 in
     let first = c.in_err-to.ensures.first in
-    handed_on (IsFirstFault (HasCardFault Plan deck Act card)) c.from_residual-in_err-to.result fault c.from_residual-in_err-to.ensures.1
+    handed_on (IsFirstFault (HasCardMisfit Plan deck Act card)) c.from_residual-in_err-to.result fault c.from_residual-in_err-to.ensures.1
     (unknown deck card fault (omega (arith, ap (λ (f : Fault). f.number) first.holds.told))
     (first_later deck card.row (begin card) (end card ∷ place card ∷ []) fault (found_there _ _ c.in_ok-from.ensures.found)
     (first_missing deck card.row (end card) (place card ∷ []) fault first)))
@@ -57,7 +59,7 @@ returns-in_err-item-clause-first g c =
     let card = c.args.self.now in
     let fault = c.in_err-item.field-0.0 in
     let first = c.in_err-item.ensures.first in
-    handed_on (IsFirstFault (HasCardFault Plan deck Act card)) c.from_residual-in_err-item.result fault c.from_residual-in_err-item.ensures.1
+    handed_on (IsFirstFault (HasCardMisfit Plan deck Act card)) c.from_residual-in_err-item.result fault c.from_residual-in_err-item.ensures.1
     (unknown deck card fault (omega (arith, ap (λ (f : Fault). f.number) first.holds.told))
     (first_later deck card.row (begin card) (end card ∷ place card ∷ []) fault (found_there _ _ c.in_ok-from.ensures.found)
     (first_later deck card.row (end card) (place card ∷ []) fault (found_there _ _ c.in_ok-to.ensures.found)

@@ -4,7 +4,8 @@ use Rattle.std.proofs.lemmas.Bool.{false≢true}
 use Rattle.pc_cards.specs.Entry.{Reference}
 use Rattle.pc_cards.specs.declared.sort.Sort.TheVariants.{Tasks}
 use Rattle.pc_deck.specs.After.{HasAfterFlaw}
-use Rattle.pc_deck.specs.Misfit.{HasCardFault, names_of}
+use Rattle.pc_deck.specs.Misfit.{HasCardMisfit}
+use Rattle.pc_deck.specs.inside.Misfit.{names_of}
 use Rattle.pc_deck.specs.declared.kinds.after.AfterCard.{AfterCard}
 use Rattle.pc_deck.proofs.MisfitLaws.{first_later, first_missing, first_of_flaws, first_of_names, found_there, none_of_either}
 use Rattle.pc_faults.specs.First.{IsFirstFault}
@@ -31,7 +32,7 @@ returns-in_err-task-clause-first g c =
     let card = c.args.self.now in
     let fault = c.in_err-task.field-0.0 in
     let first = c.in_err-task.ensures.first in
-    handed_on (IsFirstFault (HasCardFault Tasks deck After card)) c.from_residual.result fault c.from_residual.ensures.1
+    handed_on (IsFirstFault (HasCardMisfit Tasks deck After card)) c.from_residual.result fault c.from_residual.ensures.1
     (first_of_names deck card.row (names_of Tasks After card) (HasAfterFlaw card) (later card) fault (omega (arith, ap (λ (f : Fault). f.number) first.holds.told))
     (first_missing deck card.row (task card) (before card ∷ []) fault first))
 
@@ -41,7 +42,7 @@ returns-in_err-before-clause-first g c =
     let card = c.args.self.now in
     let fault = c.in_err-before.field-0.0 in
     let first = c.in_err-before.ensures.first in
-    handed_on (IsFirstFault (HasCardFault Tasks deck After card)) c.from_residual-in_err-before.result fault c.from_residual-in_err-before.ensures.1
+    handed_on (IsFirstFault (HasCardMisfit Tasks deck After card)) c.from_residual-in_err-before.result fault c.from_residual-in_err-before.ensures.1
     (first_of_names deck card.row (names_of Tasks After card) (HasAfterFlaw card) (later card) fault (omega (arith, ap (λ (f : Fault). f.number) first.holds.told))
     (first_later deck card.row (task card) (before card ∷ []) fault (found_there _ _ c.in_ok-task.ensures.found)
     (first_missing deck card.row (before card) [] fault first)))
@@ -53,7 +54,8 @@ returns-then-eq-clause-first g c =
     (found_there _ _ c.in_ok-task.ensures.found, (found_there _ _ c.in_ok-before.ensures.found, tt)) c.new.result
     (record {
       holds = ((bytes_decides card.task card.before).0 (sym c.if-eq.ensures), c.new.ensures);
-      least = λ other h. inr (ap (λ (f : Fault). f.row) c.new.ensures ∙ sym (ap (λ (f : Fault). f.row) h.1), omega (arith, ap (λ (f : Fault). f.number) h.1, ap (λ (f : Fault). f.number) c.new.ensures));
+      least = λ other h. inr (ap (λ (f : Fault). f.row) c.new.ensures ∙ sym (ap (λ (f : Fault). f.row) h.1),
+          omega (arith, ap (λ (f : Fault). f.number) h.1, ap (λ (f : Fault). f.number) c.new.ensures));
     })
 
 pub returns-clause-faultless : goal.returns-clause-faultless

@@ -1,7 +1,8 @@
 use Rattle.std.proofs.Common.{[], ap, arith}
 use Rattle.pc_cards.specs.declared.sort.Sort.TheVariants.{Tasks}
 use Rattle.pc_deck.specs.Durations.{HasDurationFault}
-use Rattle.pc_deck.specs.Misfit.{HasCardFault, names_of}
+use Rattle.pc_deck.specs.Misfit.{HasCardMisfit}
+use Rattle.pc_deck.specs.inside.Misfit.{names_of}
 use Rattle.pc_deck.proofs.MisfitLaws.{first_missing, first_of_flaws, first_of_names, found_there, none_of_either}
 use Rattle.pc_faults.specs.First.{IsFirstFault}
 use Rattle.pc_faults.specs.declared.fault.Fault.{Fault}
@@ -17,7 +18,7 @@ returns-in_err-item-clause-first g c =
     let card = c.args.self.now in
     let fault = c.in_err-item.field-0.0 in
     let first = c.in_err-item.ensures.first in
-    handed_on (IsFirstFault (HasCardFault Tasks deck Task card)) c.from_residual.result fault c.from_residual.ensures.1
+    handed_on (IsFirstFault (HasCardMisfit Tasks deck Task card)) c.from_residual.result fault c.from_residual.ensures.1
     (first_of_names deck card.row (names_of Tasks Task card) (HasDurationFault card.row card.opt card.likely card.pess card.normal card.crash)
     (durations_later card.row card.opt card.likely card.pess card.normal card.crash) fault (omega (arith, ap (λ (f : Fault). f.number) first.holds.told))
     (first_missing deck card.row (record { target = Item; code = card.item }) [] fault first))
