@@ -12,7 +12,7 @@ use crate::printed::PrintedSchedule;
 use crate::solving::{SolverTask, solve};
 use pc_crash::{CrashNet, Steps};
 use pc_curve::point_at;
-use pc_faults::Fault;
+use pc_faults::{Detail, Fault};
 use pc_flow::Solver;
 use pc_project::Project;
 use std::alloc::{AllocError, Global};
@@ -112,7 +112,12 @@ fn outside(solver: &Solver<'_>, limit: u64) -> Option<Fault>
     let shortest = solver.shortest();
     let longest = solver.longest();
     if limit < shortest || longest < limit {
-        Some(Fault::outside_range(limit, shortest, longest))
+        let detail = Detail::Length {
+            asked: limit,
+            crash: shortest,
+            normal: longest,
+        };
+        Some(Fault::new(0, 32, detail))
     } else {
         None
     }

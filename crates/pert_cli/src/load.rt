@@ -10,7 +10,7 @@ ghost use Rattle.pert_cli.specs.inside.Handing.{IsNoReport};
 use crate::deliver::NoAnswer;
 use pc_edges::Sink;
 use pc_edges::page::Page;
-use pc_faults::Fault;
+use pc_faults::{Detail, Fault};
 use pc_load::{Loading, MAX_DAYS, NoLoad, put_loading};
 use pc_project::Project;
 use pc_reports::Report;
@@ -37,7 +37,10 @@ impl LoadReport {
     {
         match Loading::build(alloc, project, days) {
             Ok(loading) => Ok(LoadReport { loading }),
-            Err(NoLoad::TooMany(have)) => { Err(NoAnswer::Refused(Fault::too_many_periods(have))) }
+            Err(NoLoad::TooMany(have)) => {
+                let fault = Fault::new(0, 40, Detail::Periods { have });
+                Err(NoAnswer::Refused(fault))
+            }
             Err(NoLoad::OutOfMemory) => Err(NoAnswer::OutOfMemory),
         }
     }
