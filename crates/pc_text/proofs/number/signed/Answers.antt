@@ -2,16 +2,16 @@ use Rattle.std.proofs.Common.{◌≡◌, ◌≤ℤ◌, ◌<ℤ◌, pos, drop, de
 use Rattle.std.proofs.lemmas.Int.{ints, to_z-of_z}
 use Rattle.std.specs.Prelude.{unsigned_abs}
 use Rattle.pc_text.proofs.DigitsLemmas.{room_for_sign, with_sign, without_sign}
-use Rattle.pc_text.proofs.number.of_signed.Goals.{then-n-lt0, else-n-lt0}
-use Rattle.pc_text.proofs.number.of_signed.Goals as goal
+use Rattle.pc_text.proofs.number.signed.Goals.{then-n-lt0, else-n-lt0}
+use Rattle.pc_text.proofs.number.signed.Goals as goal
 
 pub overflow_sub-start : goal.overflow_sub-start
 overflow_sub-start c =
-    room_for_sign _ _ _ (omega (arith, c.unsigned_abs.ensures.bound)) c.digits.invariant.1 c.digits.invariant.0 (c.digits.view_is ∙ c.of_unsigned-digits.ensures)
+    room_for_sign _ _ _ (omega (arith, c.unsigned_abs.ensures.bound)) c.digits.invariant.1 c.digits.invariant.0 (c.digits.view_is ∙ c.digits-digits.ensures.value)
 
-pub returns : goal.returns
-returns c =
-    let digits : drop c.digits.inside.start c.digits.inside.cells ≡ decimal c.unsigned_abs.result = c.digits.view_is ∙ c.of_unsigned-digits.ensures in
+pub returns-clause-value : goal.returns-clause-value
+returns-clause-value c =
+    let digits : drop c.digits.inside.start c.digits.inside.cells ≡ decimal c.unsigned_abs.result = c.digits.view_is ∙ c.digits-digits.ensures.value in
     let size : c.unsigned_abs.result ≡ unsigned_abs c.args.n = c.unsigned_abs.ensures.value ∙ ap unsigned_abs (to_z-of_z _ _ c.ranges.n) in
     let whole : drop c.digits.inside.start c.digits.inside.cells ≡ decimal (unsigned_abs c.args.n) = digits ∙ ap decimal size in
     elim c.if-n-lt0.branch [

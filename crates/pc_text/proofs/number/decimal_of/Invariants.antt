@@ -1,8 +1,8 @@
 use Rattle.pc_text.proofs.DigitsLemmas.{IsWritten}
-use Rattle.pc_text.proofs.number.of_wide.Given as goal
+use Rattle.pc_text.proofs.number.decimal_of.Given as goal
 
 abbrev pub invariant-loop-rest : goal.invariant-loop-rest
-invariant-loop-rest l = IsWritten 39 l.fn.n l.rest l.start l.cells
+invariant-loop-rest g l = IsWritten g.row.N l.fn.n l.rest l.start l.cells
 
 abbrev pub decreases-loop-rest : goal.decreases-loop-rest
-decreases-loop-rest l = l.rest
+decreases-loop-rest g l = l.rest
