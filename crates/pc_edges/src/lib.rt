@@ -5,6 +5,7 @@
 //! sink keeps a count of faults that never falls, and a call returns `Failed` only if that count rose.
 #![tactic(auto)]
 
+mod calls;
 mod file_source;
 pub mod lines;
 mod loading;

@@ -17,11 +17,11 @@ ghost use Rattle.std.specs.Prelude.{
   OnOk,
   OnErr,
   IsErr,
-  IsTrue,
   Contains,
 };
 ghost use Rattle.pc_edges.specs.Faults.{Rose, raised};
 
+use crate::calls::Calls;
 use crate::{Failed, Sink};
 use std::alloc::{AllocError, Global};
 use std::marker::Model;
@@ -34,9 +34,7 @@ pub struct MemSink {
     taken: Vec<u8>,
     room: usize,
     piece: usize,
-    failing: Vec<u64>,
-    calls: u64,
-    faults: u64,
+    calls: Calls,
 }
 
 impl Model for MemSink {
@@ -80,9 +78,7 @@ impl MemSink {
             taken: Vec::with_capacity(alloc, room)?,
             room,
             piece,
-            failing: Vec::from_slice(alloc, failing)?,
-            calls: 0,
-            faults: 0,
+            calls: Calls::new(alloc, failing)?,
         })
     }
 
@@ -91,23 +87,6 @@ impl MemSink {
         ensures { result.now ≡ self.now.taken }
     {
         self.taken.as_slice()
-    }
-
-    /// Counts a call, and returns whether it is one that fails.
-    fn count_call(&mut self) -> bool
-        ensures fails { IsTrue result ↔ Contains self.old.failing (raised self.old.calls) }
-        ensures counted { self.new ≡ record self.old { calls = raised self.old.calls } }
-    {
-        self.calls = self.calls.saturating_add(1);
-        self.failing.contains(&self.calls)
-    }
-
-    fn fail(&mut self) -> Failed
-        ensures counted { self.new ≡ record self.old { faults = raised self.old.faults } }
-        ensures count { self.old.faults ≤ self.new.faults }
-    {
-        self.faults = self.faults.saturating_add(1);
-        Failed
     }
 }
 
@@ -141,8 +120,8 @@ impl Sink for MemSink {
         if piece.is_empty() {
             return Ok(0);
         }
-        if self.count_call() || self.taken.len() == self.room {
-            return Err(self.fail());
+        if self.calls.count_one() || self.taken.len() == self.room {
+            return Err(self.calls.fail());
         }
         let n = piece
             .len()
@@ -163,8 +142,8 @@ impl Sink for MemSink {
         ensures counted { self.new ≡ record self.old { calls = raised self.old.calls; faults = self.new.faults } }
         ensures risen { OnErr result (self.new.faults ≡ raised self.old.faults) }
     {
-        if self.count_call() {
-            return Err(self.fail());
+        if self.calls.count_one() {
+            return Err(self.calls.fail());
         }
         Ok(())
     }

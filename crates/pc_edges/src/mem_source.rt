@@ -20,6 +20,7 @@ ghost use Rattle.std.specs.Prelude.{
 };
 ghost use Rattle.pc_edges.specs.Faults.{Rose, raised};
 
+use crate::calls::Calls;
 use crate::{Failed, Source};
 use std::alloc::{AllocError, Global};
 use std::marker::Model;
@@ -32,9 +33,7 @@ pub struct MemSource {
     bytes: Vec<u8>,
     at: usize,
     piece: usize,
-    failing: Vec<u64>,
-    pulls: u64,
-    faults: u64,
+    pulls: Calls,
 }
 
 impl Model for MemSource {
@@ -77,9 +76,7 @@ impl MemSource {
             bytes: Vec::from_slice(alloc, bytes)?,
             at: 0,
             piece,
-            failing: Vec::from_slice(alloc, failing)?,
-            pulls: 0,
-            faults: 0,
+            pulls: Calls::new(alloc, failing)?,
         })
     }
 }
@@ -115,10 +112,8 @@ impl Source for MemSource {
         if buf.is_empty() {
             return Ok(0);
         }
-        self.pulls = self.pulls.saturating_add(1);
-        if self.failing.contains(&self.pulls) {
-            self.faults = self.faults.saturating_add(1);
-            return Err(Failed);
+        if self.pulls.count_one() {
+            return Err(self.pulls.fail());
         }
         let n = buf.len().min(self.piece).min(self.bytes.len() - self.at);
         buf[..n].copy_from_slice(&self.bytes[self.at..self.at + n]);

@@ -8,9 +8,9 @@ intake_of a = record {
   taken = a.taken.items;
   room = a.room;
   piece = a.piece;
-  failing = a.failing.items;
-  calls = a.calls;
-  faults = a.faults;
+  failing = a.calls.failing.items;
+  calls = a.calls.count;
+  faults = a.calls.faults;
 }
 
 pub record HasRoom (a : Inside) : Type 0 where

@@ -7,9 +7,9 @@ abbrev pub supply_of : Inside → Supply
 supply_of a = record {
   left = drop a.at a.bytes.items;
   piece = a.piece;
-  failing = a.failing.items;
-  pulls = a.pulls;
-  faults = a.faults;
+  failing = a.pulls.failing.items;
+  pulls = a.pulls.count;
+  faults = a.pulls.faults;
 }
 
 pub record IsSupplied (a : Inside) : Type 0 where
