@@ -96,6 +96,13 @@ impl<S: DeckSort> CardsOf<S> {
         }
     }
 
+    /// Does nothing. States what holds of all cards of a deck, for a proof that needs only that.
+    pub fn facts(&self)
+        ensures within { IsWithin S.sort self.now }
+    {
+        let _ = &self.deck;
+    }
+
     /// Returns the PROJECT card.
     pub fn project(&self) -> &ProjectCard
         ensures card { result.now ≡ self.now.project }

@@ -90,8 +90,6 @@ fn frame_of(alloc: Global, cards: &Cards, numbers: &Numbers) -> Result<Frame, De
     check_items(alloc, cards, numbers, &tree)?;
     let states = states_of(alloc, cards, numbers)?;
     let book = book_of(alloc, cards, numbers)?;
-    // Called for the bound on each entry (`AreEntriesWithinLimits`), which the book's type keeps.
-    let _entries = book.entries();
     check_costs(alloc, cards, numbers)?;
     let acts = cards.acts();
     let unit_days = cards.project().unit_days;

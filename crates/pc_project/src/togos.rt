@@ -1,6 +1,7 @@
 //! The book of the accounts, or the first second amount to go.
 ghost use Rattle.std.specs.Prelude.{IfOk, IfErr, OnOk};
 ghost use Rattle.pc_accounts.specs.Amounts.{AreEntriesOf};
+ghost use Rattle.pc_accounts.specs.Entries.{AreEntriesWithinLimits};
 ghost use Rattle.pc_accounts.specs.inside.Second.{IsRefusal};
 ghost use Rattle.pc_faults.specs.inside.First.{Refuses};
 ghost use Rattle.pc_project.specs.DisorderFaults.{as_of_in};
@@ -24,6 +25,7 @@ pub(crate) fn book_of(alloc: Global, cards: &Cards, numbers: &Numbers) -> Result
     requires { AreNumbersOf cards.now numbers.now }
     ensures entries { IfOk result (λ book. AreEntriesOf (accounts_in cards.now) (charges_in cards.now)
         (togos_in cards.now) (as_of_in cards.now) book) }
+    ensures small { IfOk result AreEntriesWithinLimits }
     ensures once { OnOk result (HasNoSecondToGo cards.now) }
     ensures first { IfErr result (Refuses (IsFirstSecondToGo cards.now)) }
 {

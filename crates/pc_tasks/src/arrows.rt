@@ -56,8 +56,7 @@ fn drawn_of(alloc: Global, cards: &TaskCards, afters: &[AfterRow]) -> Result<Car
     ensures drawn { IfOk result (λ plan. plan ≡ arrows_deck cards.now) }
     ensures within { IsWithin Tasks cards.now }
 {
-    // Called for the limits of the cards (`IsWithin Tasks`), which their type keeps.
-    let _project = cards.project();
+    cards.facts();
     let items = items_of(alloc, cards)?;
     let events = events_of(alloc, cards)?;
     let acts = acts_of(alloc, cards, afters)?;
