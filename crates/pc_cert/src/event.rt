@@ -5,7 +5,7 @@ ghost use Rattle.pc_text.specs.Fields.{spaced};
 ghost use Rattle.pc_cert.specs.inside.Fields.{bit_text};
 ghost use Rattle.pc_cert.specs.inside.Known.{IsAgain, IsFrontOf};
 
-use crate::front::{WIDTH, begin_same, begins};
+use crate::fast::{WIDTH, begin_same, begins};
 use crate::number::{MAX_DIGITS, number_at, number_within};
 use pc_text::Code;
 

@@ -3,10 +3,9 @@
 #![tactic(auto)]
 
 mod event;
+mod fast;
 mod flows;
-mod front;
 mod head;
-mod known;
 mod line;
 mod number;
 mod place;
@@ -17,10 +16,9 @@ mod words;
 mod writing;
 
 pub use event::{EVENT_NAMED, EventFront, EventSaid};
+pub use fast::{KnownLine, LineText, WIDTH};
 pub use flows::{Flows, MAX_FLOWS};
-pub use front::WIDTH;
 pub use head::{put_head, version};
-pub use known::{KnownLine, LineText};
 pub use line::{CertLine, MAX_LINE, spelling_is_once, text_is_once};
 pub use number::MAX_DIGITS;
 pub use place::{Place, Shape};

@@ -31,7 +31,7 @@ ghost use Rattle.pc_cert.specs.Grammar.{next};
 
 use crate::event::{EventFront, EventSaid};
 use crate::flows::Flows;
-use crate::known::LineText;
+use crate::fast::LineText;
 use crate::line::CertLine;
 
 /// What the first line says about the lines that follow: the version, and the numbers of events and of activities.

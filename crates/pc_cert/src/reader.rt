@@ -26,7 +26,7 @@ ghost use Rattle.pc_cert.specs.inside.Reader.{StandsFor, HasPassed, EndsAs};
 ghost use Rattle.pc_cert.specs.inside.Fed.{given, used, left_in, used_of};
 ghost use Rattle.pc_cert.specs.declared.reader.Malformed.{Malformed};
 
-use crate::known::KnownLine;
+use crate::fast::KnownLine;
 use crate::line::{CertLine, MAX_LINE};
 use crate::place::Place;
 use pc_edges::lines::line_len;

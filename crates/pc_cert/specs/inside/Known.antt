@@ -1,7 +1,7 @@
 -- A line that was read before.
 use Rattle.std.specs.Prelude.{◌≡◌, ℕ, ◌+◌, ◌<◌, ◌≤◌, List, [], ◌∷◌, ◌++◌, length, take, codes, Option}
 use Rattle.pc_cert.specs.declared.line.CertLine.{CertLine}
-use Rattle.pc_cert.specs.declared.known.LineText.{LineText}
+use Rattle.pc_cert.specs.declared.fast.known.LineText.{LineText}
 use Rattle.pc_cert.specs.declared.event.EventFront.{EventFront}
 use Rattle.pc_text.specs.Fields.{run_len, Lacks}
 use Rattle.pc_cert.specs.inside.Reading.{line_of}

@@ -1,7 +1,7 @@
 use Rattle.std.proofs.Common.{take, sym, ◌∙◌, length-take-le}
 use Rattle.std.proofs.lemmas.List.{get_or-take}
 use Rattle.pc_cert.proofs.FrontLaws.{lanes_tell}
-use Rattle.pc_cert.proofs.front.same_lanes.Goals as goal
+use Rattle.pc_cert.proofs.fast.front.same_lanes.Goals as goal
 
 pub returns : goal.returns
 returns c k l set =

@@ -2,7 +2,7 @@ use Rattle.std.proofs.Common.{sym, ap, subst, ◌∙◌}
 use Rattle.std.specs.Prelude.{IsSome}
 use Rattle.pc_cert.specs.inside.Known.{Known}
 use Rattle.pc_cert.proofs.KnownLaws.{kept_cells}
-use Rattle.pc_cert.proofs.known.KnownLine.keep.Goals as goal
+use Rattle.pc_cert.proofs.fast.known.KnownLine.keep.Goals as goal
 
 pub invariant_of-self : goal.invariant_of-self
 invariant_of-self c =

@@ -1,5 +1,5 @@
 use Rattle.pc_cert.proofs.KnownLaws.{comes_again}
-use Rattle.pc_cert.proofs.known.LineText.again.Goals as goal
+use Rattle.pc_cert.proofs.fast.known.LineText.again.Goals as goal
 
 pub returns-then-begins-clause-again : goal.returns-then-begins-clause-again
 returns-then-begins-clause-again c = λ line text some.

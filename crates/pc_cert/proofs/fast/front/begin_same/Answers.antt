@@ -1,7 +1,7 @@
 use Rattle.std.proofs.Common.{arith}
 use Rattle.std.proofs.lemmas.Bool.{eqb-true}
 use Rattle.pc_cert.proofs.FrontLaws.{fronts_are_same}
-use Rattle.pc_cert.proofs.front.begin_same.Goals as goal
+use Rattle.pc_cert.proofs.fast.front.begin_same.Goals as goal
 
 pub returns : goal.returns
 returns c = λ is.

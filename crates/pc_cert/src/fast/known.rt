@@ -5,7 +5,7 @@ ghost use Rattle.pc_cert.specs.declared.line.CertLine.{CertLine};
 ghost use Rattle.pc_cert.specs.inside.Reading.{line_of};
 ghost use Rattle.pc_cert.specs.inside.Known.{HasText, IsAgain, IsTextOf};
 
-use crate::front::begins;
+use crate::fast::front::begins;
 use crate::line::CertLine;
 use std::marker::Model;
 
