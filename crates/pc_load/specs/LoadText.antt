@@ -3,38 +3,25 @@ use Rattle.std.specs.Prelude.{◌≡◌, ℕ, ◌*◌, ℤ, pos, ◌+ℤ◌, int
 use Rattle.std.specs.Fmt.{signed_decimal}
 use Rattle.pc_days.specs.Calendar.{date_or_none}
 use Rattle.pc_edges.specs.Texts.{texts_to}
-use Rattle.pc_edges.specs.page.Cells.{left, plain, right, row_in}
+use Rattle.pc_edges.specs.page.Cells.{left, right, row}
 use Rattle.pc_edges.specs.page.Lines.{named_line}
 use Rattle.pc_project.specs.Project.{Project}
 use Rattle.pc_load.specs.Loading.{Loading, IsLoading}
 use Rattle.pc_load.specs.Table.{Table, amount_in}
 
--- the columns of the rows: codes, and the word of a row that has none; numbers of periods; and parts of amounts
-abbrev pub name_column : List ℕ → List ℕ
-name_column = left 16
-
-abbrev pub period_column : List ℕ → List ℕ
-period_column = right 6
-
-abbrev pub part_column : List ℕ → List ℕ
-part_column = right 14
-
 -- the row of a period: its number and a date
 abbrev pub period_cells : ℕ → List ℕ → List ℕ
-period_cells k date = row_in (name_column ∷ period_column ∷ plain ∷ []) (codes "PERIOD" ∷ decimal k ∷ date ∷ [])
+period_cells k date = row (left 16 (codes "PERIOD") ∷ right 6 (decimal k) ∷ date ∷ [])
 
 -- the row of period k, with the date on which it begins
 abbrev pub period_row : Project → ℕ → ℕ → List ℕ
 period_row project days k =
     period_cells k (date_or_none (project.heading.start_day +ℤ pos (days * k)))
 
--- the row of a part in period k
-abbrev pub part_cells : List ℕ → ℕ → List ℕ → List ℕ
-part_cells code k part = row_in (name_column ∷ period_column ∷ part_column ∷ []) (code ∷ decimal k ∷ part ∷ [])
-
 -- the row of an amount in period k, or none if it is 0
 abbrev pub amount_row : List ℕ → ℕ → ℤ → List ℕ
-amount_row code k amount = if int_le amount (pos 0) then [] else part_cells code k (signed_decimal amount)
+amount_row code k amount =
+    if int_le amount (pos 0) then [] else row (left 16 code ∷ right 6 (decimal k) ∷ right 14 (signed_decimal amount) ∷ [])
 
 -- the rows of one row of a table, period by period
 abbrev pub amount_rows : Table → List ℕ → ℕ → List ℕ

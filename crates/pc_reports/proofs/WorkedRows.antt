@@ -1,10 +1,11 @@
 -- Rows of a small deck's report of event times, as they are printed.
 use Rattle.std.proofs.Common.{◌≡◌, [], ◌∷◌, ◌++◌, pos, codes, refl}
 use Rattle.std.specs.Fmt.{digits}
-use Rattle.pc_reports.specs.TimesText.{event_head, event_cells, activity_head, activity_cells}
+use Rattle.pc_edges.specs.page.Cells.{head_row}
+use Rattle.pc_reports.specs.TimesText.{event_layout, event_cells, activity_layout, activity_cells}
 
 -- the words above the events
-pub head_of_events : event_head ≡ codes "EVENT                      TE           TL        SLACK DATE" ++ 10 ∷ []
+pub head_of_events : head_row event_layout ≡ codes "EVENT                      TE           TL        SLACK DATE" ++ 10 ∷ []
 head_of_events = refl
 
 -- an event that is reached after 24 sixths of a day and must be by then
@@ -13,7 +14,7 @@ unfolding digits
 row_of_event = refl
 
 -- the words above the activities
-pub head_of_activities : activity_head ≡ codes "ACTIVITY             EXPECTED         VARIANCE        SLACK" ++ 10 ∷ []
+pub head_of_activities : head_row activity_layout ≡ codes "ACTIVITY             EXPECTED         VARIANCE        SLACK" ++ 10 ∷ []
 head_of_activities = refl
 
 -- an activity that is expected to take 42 sixths of a day, and can wait 18

@@ -1,5 +1,4 @@
 pub mod Lines
-pub mod Columns
 pub mod Schedule
 pub mod Check
 pub mod Times

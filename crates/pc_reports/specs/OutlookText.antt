@@ -4,26 +4,23 @@ use Rattle.std.specs.Fmt.{signed_decimal}
 use Rattle.pc_model.specs.Cost.{activity_cost}
 use Rattle.pc_model.specs.Pieces.{knees_of}
 use Rattle.pc_edges.specs.Texts.{texts_to}
-use Rattle.pc_edges.specs.page.Cells.{plain, row_in}
+use Rattle.pc_edges.specs.page.Cells.{left, right, row, cells_in, head_row}
 use Rattle.pc_project.specs.Project.{Project}
 use Rattle.pc_rollup.specs.declared.figures.outlook.OutlookAmounts.{OutlookAmounts}
 use Rattle.pc_rollup.specs.figures.Outline.{row_at}
 use Rattle.pc_rollup.specs.figures.Outlook.{Outlook, IsOutlookOf, amounts_at}
-use Rattle.pc_reports.specs.Columns.{code_column, level_column, amount_column}
 
--- the layout of the items: the code, the level, three amounts, and the title as it is
-abbrev pub outlook_layout : List (List ℕ → List ℕ)
-outlook_layout = code_column ∷ level_column ∷ amount_column ∷ amount_column ∷ amount_column ∷ plain ∷ []
-
--- the words above the items
-abbrev pub outlook_head : List ℕ
-outlook_head = row_in outlook_layout (codes "ITEM" ∷ codes "LV" ∷ codes "BUDGET" ∷ codes "OUTLOOK" ∷ codes "CHANGE" ∷ codes "TITLE" ∷ [])
+-- the columns of the items: the word above each, and at which side of which width its texts are
+abbrev pub outlook_layout : List (List ℕ × (List ℕ → List ℕ))
+outlook_layout =
+    (codes "ITEM", left 16) ∷ (codes "LV", right 2) ∷ (codes "BUDGET", right 14) ∷ (codes "OUTLOOK", right 14) ∷ (codes "CHANGE", right 14)
+    ∷ (codes "TITLE", λ text. text) ∷ []
 
 -- the row of an item: its code, its level, its amounts, and its title
 abbrev pub outlook_cells : List ℕ → ℕ → OutlookAmounts → List ℕ → List ℕ
 outlook_cells code level amounts title =
-    row_in outlook_layout
-    (code ∷ decimal level ∷ signed_decimal amounts.budget ∷ signed_decimal amounts.outlook ∷ signed_decimal amounts.change ∷ title ∷ [])
+    row (cells_in outlook_layout
+    (code ∷ decimal level ∷ signed_decimal amounts.budget ∷ signed_decimal amounts.outlook ∷ signed_decimal amounts.change ∷ title ∷ []))
 
 -- the row of the k-th item of the outline
 abbrev pub outlook_row : Project → Outlook → ℕ → List ℕ
@@ -33,7 +30,7 @@ outlook_row project outlook k =
 
 -- a row for each item, in preorder
 unfoldable pub outlook_text : Project → Outlook → List ℕ
-outlook_text project outlook = outlook_head ++ texts_to (length outlook.outline) (outlook_row project outlook)
+outlook_text project outlook = head_row outlook_layout ++ texts_to (length outlook.outline) (outlook_row project outlook)
 
 -- what activity a costs at its duration
 abbrev pub cost_at : Project → List ℕ → ℕ → ℕ

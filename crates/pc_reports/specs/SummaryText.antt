@@ -2,38 +2,33 @@
 use Rattle.std.specs.Prelude.{◌≡◌, ℕ, ◌+◌, List, [], ◌∷◌, ◌++◌, length, slice_index_or, codes, decimal}
 use Rattle.std.specs.Fmt.{signed_decimal}
 use Rattle.pc_edges.specs.Texts.{texts_to}
-use Rattle.pc_edges.specs.page.Cells.{plain, row_in}
+use Rattle.pc_edges.specs.page.Cells.{left, right, row, cells_in, head_row}
 use Rattle.pc_accounts.specs.Amounts.{entry_of_project}
 use Rattle.pc_project.specs.Project.{Project}
 use Rattle.pc_rollup.specs.declared.figures.summary.SummaryAmounts.{SummaryAmounts}
-use Rattle.pc_reports.specs.Columns.{code_column, level_column, amount_column}
 use Rattle.pc_reports.specs.Lines.{dated_line}
 use Rattle.pc_rollup.specs.figures.Outline.{row_at}
 use Rattle.pc_rollup.specs.figures.Summary.{Summary, IsSummaryOf, CountsOnce, item_amounts, level_amounts}
 
--- the layout of the items and levels: the code, the level, five amounts, and the title as it is
-abbrev pub summary_layout : List (List ℕ → List ℕ)
-summary_layout = code_column ∷ level_column ∷ amount_column ∷ amount_column ∷ amount_column ∷ amount_column ∷ amount_column ∷ plain ∷ []
-
--- the words above the items
-abbrev pub summary_head : List ℕ
-summary_head =
-    row_in summary_layout
-    (codes "ITEM" ∷ codes "LV" ∷ codes "BUDGET" ∷ codes "ACTUAL" ∷ codes "TO-GO" ∷ codes "LATEST" ∷ codes "OVERRUN" ∷ codes "TITLE" ∷ [])
+-- the columns of the items and levels: the word above each, and at which side of which width its texts are
+abbrev pub summary_layout : List (List ℕ × (List ℕ → List ℕ))
+summary_layout =
+    (codes "ITEM", left 16) ∷ (codes "LV", right 2) ∷ (codes "BUDGET", right 14) ∷ (codes "ACTUAL", right 14) ∷ (codes "TO-GO", right 14)
+    ∷ (codes "LATEST", right 14) ∷ (codes "OVERRUN", right 14) ∷ (codes "TITLE", λ text. text) ∷ []
 
 -- the row of an item: its code, its level, its amounts, and its title
 abbrev pub item_cells : List ℕ → ℕ → SummaryAmounts → List ℕ → List ℕ
 item_cells code level amounts title =
-    row_in summary_layout
+    row (cells_in summary_layout
     (code ∷ decimal level ∷ signed_decimal amounts.budget ∷ signed_decimal amounts.actual ∷ signed_decimal amounts.to_go
-    ∷ signed_decimal amounts.latest ∷ signed_decimal amounts.overrun ∷ title ∷ [])
+    ∷ signed_decimal amounts.latest ∷ signed_decimal amounts.overrun ∷ title ∷ []))
 
 -- the row of a level: its number and its amounts, and no title
 abbrev pub level_cells : ℕ → SummaryAmounts → List ℕ
 level_cells level amounts =
-    row_in summary_layout
+    row (cells_in summary_layout
     (codes "LEVEL" ∷ decimal level ∷ signed_decimal amounts.budget ∷ signed_decimal amounts.actual ∷ signed_decimal amounts.to_go
-    ∷ signed_decimal amounts.latest ∷ signed_decimal amounts.overrun ∷ [])
+    ∷ signed_decimal amounts.latest ∷ signed_decimal amounts.overrun ∷ []))
 
 -- the row of the k-th item of the outline
 abbrev pub item_row : Project → Summary → ℕ → List ℕ
@@ -49,7 +44,7 @@ level_row summary k = level_cells (k + 1) (level_amounts summary k)
 unfoldable pub summary_text : Project → Summary → List ℕ
 summary_text project summary =
     dated_line (codes "SUMMARY ") project.heading.code project.heading.as_of
-    ++ summary_head
+    ++ head_row summary_layout
     ++ texts_to (length summary.outline) (item_row project summary)
     ++ texts_to (length summary.budget.levels) (level_row summary)
 

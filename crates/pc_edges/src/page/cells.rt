@@ -1,9 +1,9 @@
 //! Rows of cells.
 ghost use Rattle.std.specs.Prelude.{◌-◌, ◌≤◌, length, map};
 ghost use Rattle.pc_edges.specs.inside.page.Puts.{Puts};
-ghost use Rattle.pc_edges.specs.page.Cells.{left, right, row_in};
+ghost use Rattle.pc_edges.specs.page.Cells.{left, right, row};
 ghost use Rattle.pc_text.specs.Line.{spaces};
-ghost use Rattle.pc_edges.specs.inside.page.Cells.{cell_text, filled, gap_before};
+ghost use Rattle.pc_edges.specs.inside.page.Cells.{cell_text, filled, filled_by, gap_before};
 
 use crate::Sink;
 use crate::page::Page;
@@ -37,7 +37,7 @@ pub enum Cell<'a> {
 pub fn put_head<O: Sink>(page: &mut Page, sink: &mut O, columns: &[Fill], words: &[&[u8]])
     requires { length words.now ≤ length columns.now }
     ensures { Puts O.taken O.faults page.old sink.old page.new sink.new
-        (row_in (map filled columns.now) (map (λ word. word.now) words.now)) }
+        (row (filled_by (map filled columns.now) (map (λ word. word.now) words.now))) }
 {
     for (i, &word) in words.iter().enumerate() {
         put_gap(page, sink, i);
@@ -51,7 +51,7 @@ pub fn put_head<O: Sink>(page: &mut Page, sink: &mut O, columns: &[Fill], words:
 pub fn put_row<O: Sink>(page: &mut Page, sink: &mut O, columns: &[Fill], cells: &[Cell<'_>])
     requires { length cells.now ≤ length columns.now }
     ensures { Puts O.taken O.faults page.old sink.old page.new sink.new
-        (row_in (map filled columns.now) (map cell_text cells.now)) }
+        (row (filled_by (map filled columns.now) (map cell_text cells.now))) }
 {
     for (i, &cell) in cells.iter().enumerate() {
         put_gap(page, sink, i);

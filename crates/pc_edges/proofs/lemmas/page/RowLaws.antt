@@ -2,8 +2,8 @@
 use Rattle.std.proofs.Common.{◌≡◌, ℕ, zero, suc, ◌+◌, ◌<◌, ◌≤◌, List, [], ◌∷◌, ◌++◌, length, take, get_or, refl, sym, ap, ◌∙◌, append_assoc, arith}
 use Rattle.std.specs.Prelude.{map}
 use Rattle.std.proofs.lemmas.List.{take_all, take_more, length-take-le}
-use Rattle.pc_edges.specs.page.Cells.{cells_in, row, row_in}
-use Rattle.pc_edges.specs.inside.page.Cells.{gap_before}
+use Rattle.pc_edges.specs.page.Cells.{row}
+use Rattle.pc_edges.specs.inside.page.Cells.{filled_by, gap_before}
 
 -- the cells with a space between each two
 abbrev pub joined : List (List ℕ) → List ℕ
@@ -35,32 +35,32 @@ joined-next cells i lt =
 -- a row of no more texts than there are columns
 module _ {A B : Type 0} (fill : A → List ℕ → List ℕ) (text : B → List ℕ) where
   -- there is a cell for each text
-  length-cells_in : (columns : List A) (texts : List B) → length texts ≤ length columns → length (cells_in (map fill columns) (map text texts)) ≡ length texts
-  length-cells_in [] [] few = refl
-  length-cells_in (column ∷ columns) [] few = refl
-  length-cells_in [] (first ∷ texts) few = absurd (omega (arith, few))
-  length-cells_in (column ∷ columns) (first ∷ texts) few = ap suc (length-cells_in columns texts (omega (arith, few)))
+  length-filled_by : (columns : List A) (texts : List B) → length texts ≤ length columns → length (filled_by (map fill columns) (map text texts)) ≡ length texts
+  length-filled_by [] [] few = refl
+  length-filled_by (column ∷ columns) [] few = refl
+  length-filled_by [] (first ∷ texts) few = absurd (omega (arith, few))
+  length-filled_by (column ∷ columns) (first ∷ texts) few = ap suc (length-filled_by columns texts (omega (arith, few)))
 
   -- cell i is text i in column i
-  get_or-cells_in : (columns : List A) (texts : List B) (i : ℕ) (d : A) (e : B) → i < length texts → length texts ≤ length columns
-      → get_or (cells_in (map fill columns) (map text texts)) i [] ≡ fill (get_or columns i d) (text (get_or texts i e))
-  get_or-cells_in columns [] i d e lt few = absurd (omega (arith, lt))
-  get_or-cells_in [] (first ∷ texts) i d e lt few = absurd (omega (arith, few))
-  get_or-cells_in (column ∷ columns) (first ∷ texts) zero d e lt few = refl
-  get_or-cells_in (column ∷ columns) (first ∷ texts) (suc i) d e lt few = get_or-cells_in columns texts i d e (omega (arith, lt)) (omega (arith, few))
+  get_or-filled_by : (columns : List A) (texts : List B) (i : ℕ) (d : A) (e : B) → i < length texts → length texts ≤ length columns
+      → get_or (filled_by (map fill columns) (map text texts)) i [] ≡ fill (get_or columns i d) (text (get_or texts i e))
+  get_or-filled_by columns [] i d e lt few = absurd (omega (arith, lt))
+  get_or-filled_by [] (first ∷ texts) i d e lt few = absurd (omega (arith, few))
+  get_or-filled_by (column ∷ columns) (first ∷ texts) zero d e lt few = refl
+  get_or-filled_by (column ∷ columns) (first ∷ texts) (suc i) d e lt few = get_or-filled_by columns texts i d e (omega (arith, lt)) (omega (arith, few))
 
   -- one more text in its column
   pub row-next : (columns : List A) (texts : List B) (i : ℕ) (d : A) (e : B) → i < length texts → length texts ≤ length columns
-      → joined (take i (cells_in (map fill columns) (map text texts))) ++ (gap_before i ++ fill (get_or columns i d) (text (get_or texts i e)))
-      ≡ joined (take (i + 1) (cells_in (map fill columns) (map text texts)))
+      → joined (take i (filled_by (map fill columns) (map text texts))) ++ (gap_before i ++ fill (get_or columns i d) (text (get_or texts i e)))
+      ≡ joined (take (i + 1) (filled_by (map fill columns) (map text texts)))
   row-next columns texts i d e lt few =
-      let cells = cells_in (map fill columns) (map text texts) in
-      ap (λ cell. joined (take i cells) ++ (gap_before i ++ cell)) (sym (get_or-cells_in columns texts i d e lt few))
-      ∙ joined-next cells i (omega (arith, lt, length-cells_in columns texts few))
+      let cells = filled_by (map fill columns) (map text texts) in
+      ap (λ cell. joined (take i cells) ++ (gap_before i ++ cell)) (sym (get_or-filled_by columns texts i d e lt few))
+      ∙ joined-next cells i (omega (arith, lt, length-filled_by columns texts few))
 
   -- all texts and the end of the line
   pub row-whole : (columns : List A) (texts : List B) (n : ℕ) → length texts ≤ n → length texts ≤ length columns
-      → joined (take n (cells_in (map fill columns) (map text texts))) ++ 10 ∷ [] ≡ row_in (map fill columns) (map text texts)
+      → joined (take n (filled_by (map fill columns) (map text texts))) ++ 10 ∷ [] ≡ row (filled_by (map fill columns) (map text texts))
   row-whole columns texts n all few =
-      let cells = cells_in (map fill columns) (map text texts) in
-      ap (λ row. joined row ++ 10 ∷ []) (take_all n cells (omega (arith, all, length-cells_in columns texts few))) ∙ joined-row cells
+      let cells = filled_by (map fill columns) (map text texts) in
+      ap (λ row. joined row ++ 10 ∷ []) (take_all n cells (omega (arith, all, length-filled_by columns texts few))) ∙ joined-row cells

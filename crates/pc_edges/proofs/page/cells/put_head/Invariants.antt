@@ -1,12 +1,11 @@
 use Rattle.std.proofs.Common.{ℕ, List, take}
 use Rattle.std.specs.Borrow.{Bor}
 use Rattle.std.specs.Prelude.{map}
-use Rattle.pc_edges.specs.page.Cells.{cells_in}
-use Rattle.pc_edges.specs.inside.page.Cells.{filled}
+use Rattle.pc_edges.specs.inside.page.Cells.{filled, filled_by}
 use Rattle.pc_edges.specs.inside.page.Puts.{Puts}
 use Rattle.pc_edges.proofs.lemmas.page.RowLaws.{joined}
 use Rattle.pc_edges.proofs.page.cells.put_head.Given as goal
 
 abbrev pub invariant-loop-i : goal.invariant-loop-i
 invariant-loop-i g l =
-    Puts g.O.Sink.taken g.O.Sink.faults l.fn.page l.fn.sink l.page l.sink (joined (take l.i (cells_in (map filled l.columns) (map (λ (word : Bor (List ℕ)). word.now) l.words))))
+    Puts g.O.Sink.taken g.O.Sink.faults l.fn.page l.fn.sink l.page l.sink (joined (take l.i (filled_by (map filled l.columns) (map (λ (word : Bor (List ℕ)). word.now) l.words))))
