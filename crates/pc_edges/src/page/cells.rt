@@ -32,8 +32,8 @@ pub enum Cell<'a> {
     Signed(i64),
 }
 
-/// Puts the words above the columns of a table, each as a cell of its column, with a space between each two, and the end of
-/// the line.
+/// Puts the words above the columns of a table, each as a cell of its column, with a space between each two, and the
+/// end of the line.
 pub fn put_head<O: Sink>(page: &mut Page, sink: &mut O, columns: &[Fill], words: &[&[u8]])
     requires { length words.now ≤ length columns.now }
     ensures { Puts O.taken O.faults page.old sink.old page.new sink.new
@@ -46,8 +46,8 @@ pub fn put_head<O: Sink>(page: &mut Page, sink: &mut O, columns: &[Fill], words:
     page.put(sink, b"\n");
 }
 
-/// Puts the cells, each in its column, with a space between each two, and the end of the line. A row may have fewer cells
-/// than its table has columns.
+/// Puts the cells, each in its column, with a space between each two, and the end of the line. A row may have fewer
+/// cells than its table has columns.
 pub fn put_row<O: Sink>(page: &mut Page, sink: &mut O, columns: &[Fill], cells: &[Cell<'_>])
     requires { length cells.now ≤ length columns.now }
     ensures { Puts O.taken O.faults page.old sink.old page.new sink.new
