@@ -21,7 +21,14 @@ ghost use Rattle.pc_model.specs.declared.limits.TheConstants.{MAX_ACCOUNTS, MAX_
 ghost use Rattle.pc_accounts.specs.Entries.{entry_at, latest_of, value_of, AreEntriesWithinLimits, IsEntryWithinLimits};
 ghost use Rattle.pc_accounts.specs.inside.Entries.{entry_of_all, IsShare};
 ghost use Rattle.pc_accounts.specs.Amounts.{AreBudgets, AreMoney, AreEntriesOf, entry_of_project};
-ghost use Rattle.pc_accounts.specs.inside.Parts.{AreActuals, AreKnown, AreMade, entry_from, AreLatest, later_row};
+ghost use Rattle.pc_accounts.specs.inside.Parts.{
+  AreActuals,
+  AreKnownAmounts,
+  AreMade,
+  entry_from,
+  AreLatest,
+  later_row,
+};
 ghost use Rattle.pc_accounts.specs.Second.{IsRepeated};
 ghost use Rattle.pc_accounts.specs.inside.Second.{IsRefusal};
 
@@ -260,7 +267,7 @@ fn entries(
 ) -> Result<Vec<Entry>, AllocError>
     requires actuals { length actuals.now ≡ length accounts.now }
     requires latest { length latest.now ≡ length accounts.now }
-    requires known { AreKnown togos.now latest.now }
+    requires known { AreKnownAmounts togos.now latest.now }
     ensures { IfOk result (λ entries. AreMade accounts.now togos.now actuals.now latest.now
         (length accounts.now) entries.items) }
 {

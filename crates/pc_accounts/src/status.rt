@@ -11,7 +11,7 @@ ghost use Rattle.pc_accounts.specs.status.Statuses.{
   IsStateOf,
   status_at,
 };
-ghost use Rattle.pc_accounts.specs.inside.status.Firsts.{AreFirsts, first_or, FirstBelow};
+ghost use Rattle.pc_accounts.specs.inside.status.Firsts.{AreFirsts, first_or_this, FirstBelow};
 
 use pc_days::{Day, days_between};
 use pc_faults::StatusFault;
@@ -42,11 +42,11 @@ impl Model for Log {
 
     ghost Value = { StatusLog };
 
-    ghost use Rattle.pc_accounts.specs.inside.status.Parts.{log_from, AreParts};
+    ghost use Rattle.pc_accounts.specs.inside.status.Parts.{log_from, AreLogParts};
 
     ghost view = { log_from };
 
-    ghost invariant = { AreParts };
+    ghost invariant = { AreLogParts };
 }
 
 impl Log {
@@ -147,7 +147,7 @@ fn firsts_of(
 
 /// The first so far, or this one if there is none and it counts.
 fn first_or(first: Option<u32>, counts: bool, k: u32) -> Option<u32>
-    ensures { result ≡ first_or first counts k }
+    ensures { result ≡ first_or_this first counts k }
 {
     match first {
         None if counts => Some(k),

@@ -5,7 +5,7 @@ use Rattle.std.specs.declared.alloc.Global.{Global}
 use Rattle.pc_faults.specs.declared.fault.Fault.{Fault}
 use Rattle.pc_check.specs.declared.checker.Verdict.TheVariants.{Yes, No}
 use Rattle.pc_project.specs.declared.shell.status.Status.{Status}
-use Rattle.pc_project.specs.inside.shell.Status.{code_of}
+use Rattle.pc_project.specs.inside.shell.Status.{exit_code_of}
 use Rattle.pc_audit.specs.Certificate.{HasVerdict, Certifies, ProvesCurve}
 use Rattle.pc_audit.specs.CheckOutcome.{OfBoth, IsChecked, IsCheckCut, deck_unread, cert_unread, in_verdict, in_refusal, in_check_usage}
 use Rattle.pc_audit.specs.inside.CheckOutcome.{CheckOutcome, certified, not_certified, deck_refused, check_usage, no_memory, read_fault, write_fault}
@@ -47,7 +47,7 @@ module _ {D C O E : Type 0} (words : List (String Global)) (deck : Side D) (cert
   refusal_denied bytes fault accepted is = not_both bytes accepted.0 fault accepted.1 is
 
   -- a check that ended with 0 found a certificate certified
-  pub found_certified : (status : Status) → CheckOutcome words deck cert out err status → answer ≡ code_of status → answer ≡ 0 → (segments : ℕ) × IsChecked words deck cert out (Yes segments)
+  pub found_certified : (status : Status) → CheckOutcome words deck cert out err status → answer ≡ exit_code_of status → answer ≡ 0 → (segments : ℕ) × IsChecked words deck cert out (Yes segments)
   found_certified _ (certified segments is read same) code at_0 = (segments, is)
   found_certified _ (not_certified line reason is same) code at_0 = absurd (omega (arith, code, at_0))
   found_certified _ (deck_refused is same also) code at_0 = absurd (omega (arith, code, at_0))
@@ -57,7 +57,7 @@ module _ {D C O E : Type 0} (words : List (String Global)) (deck : Side D) (cert
   found_certified _ (write_fault is) code at_0 = absurd (omega (arith, code, at_0))
 
   -- a check that ended with 6 found its first failing point
-  pub found_failing : (status : Status) → CheckOutcome words deck cert out err status → answer ≡ code_of status → answer ≡ 6 → (line reason : ℕ) × IsChecked words deck cert out (No line reason)
+  pub found_failing : (status : Status) → CheckOutcome words deck cert out err status → answer ≡ exit_code_of status → answer ≡ 6 → (line reason : ℕ) × IsChecked words deck cert out (No line reason)
   found_failing _ (certified segments is read same) code at_6 = absurd (omega (arith, code, at_6))
   found_failing _ (not_certified line reason is same) code at_6 = (line, reason, is)
   found_failing _ (deck_refused is same also) code at_6 = absurd (omega (arith, code, at_6))
@@ -67,7 +67,7 @@ module _ {D C O E : Type 0} (words : List (String Global)) (deck : Side D) (cert
   found_failing _ (write_fault is) code at_6 = absurd (omega (arith, code, at_6))
 
   -- a check that ended with 0 found a certificate that proves the complete curve
-  pub headline : (status : Status) → CheckOutcome words deck cert out err status → answer ≡ code_of status → answer ≡ 0 → OfBoth deck cert ProvesCurve
+  pub headline : (status : Status) → CheckOutcome words deck cert out err status → answer ≡ exit_code_of status → answer ≡ 0 → OfBoth deck cert ProvesCurve
   headline _ (certified segments is read same) code at_0 = proves words deck cert out segments is
   headline _ (not_certified line reason is same) code at_0 = absurd (omega (arith, code, at_0))
   headline _ (deck_refused is same also) code at_0 = absurd (omega (arith, code, at_0))
@@ -77,7 +77,7 @@ module _ {D C O E : Type 0} (words : List (String Global)) (deck : Side D) (cert
   headline _ (write_fault is) code at_0 = absurd (omega (arith, code, at_0))
 
   -- a check that ended with 5 was cut
-  pub check_cut : (status : Status) → CheckOutcome words deck cert out err status → answer ≡ code_of status → answer ≡ 5 → IsCheckCut words deck cert out err
+  pub check_cut : (status : Status) → CheckOutcome words deck cert out err status → answer ≡ exit_code_of status → answer ≡ 5 → IsCheckCut words deck cert out err
   check_cut _ (certified segments is read same) code five = absurd (omega (arith, code, five))
   check_cut _ (not_certified line reason is same) code five = absurd (omega (arith, code, five))
   check_cut _ (deck_refused is same also) code five = absurd (omega (arith, code, five))
@@ -88,7 +88,7 @@ module _ {D C O E : Type 0} (words : List (String Global)) (deck : Side D) (cert
 
   -- a deck that is not refused is accepted
   pub not_refused_accepts : IsOneWord words → HadNoFault deck → (status : Status) → CheckOutcome words deck cert out err status →
-      answer ≡ code_of status → OfBytes deck (λ bytes. (RefusedBy bytes → ⊥) → AcceptedBy bytes ⊎ (answer ≡ 3))
+      answer ≡ exit_code_of status → OfBytes deck (λ bytes. (RefusedBy bytes → ⊥) → AcceptedBy bytes ⊎ (answer ≡ 3))
   not_refused_accepts asked reads _ (certified segments is read same) code = of_one (deck.bytes deck.old) AcceptedBy _ (λ bytes accepted never. inl accepted) is.accepted
   not_refused_accepts asked reads _ (not_certified line reason is same) code = of_one (deck.bytes deck.old) AcceptedBy _ (λ bytes accepted never. inl accepted) is.accepted
   not_refused_accepts asked reads _ (deck_refused is same also) code =
@@ -103,7 +103,7 @@ module _ {D C O E : Type 0} (words : List (String Global)) (deck : Side D) (cert
   not_refused_accepts asked reads _ (write_fault (in_check_usage no_word took same also unused)) code = absurd (no_word asked)
 
   -- a deck with a fault is refused
-  pub refused_deck_ends : IsOneWord words → (status : Status) → CheckOutcome words deck cert out err status → answer ≡ code_of status →
+  pub refused_deck_ends : IsOneWord words → (status : Status) → CheckOutcome words deck cert out err status → answer ≡ exit_code_of status →
       OfBytes deck (λ bytes. RefusedBy bytes → HadNoFault deck → HadNoFault err → (answer ≡ 1) ⊎ (answer ≡ 3))
   refused_deck_ends asked _ (certified segments is read same) code =
       of_one (deck.bytes deck.old) AcceptedBy _ (λ bytes accepted faulty reads takes. absurd (refusal_denied bytes (faulty.0) accepted (faulty.1))) is.accepted
@@ -121,7 +121,7 @@ module _ {D C O E : Type 0} (words : List (String Global)) (deck : Side D) (cert
   refused_deck_ends asked _ (write_fault (in_check_usage no_word took same also unused)) code = absurd (no_word asked)
 
   -- a certified certificate is found to be one
-  pub right_ends : IsOneWord words → (status : Status) → CheckOutcome words deck cert out err status → answer ≡ code_of status
+  pub right_ends : IsOneWord words → (status : Status) → CheckOutcome words deck cert out err status → answer ≡ exit_code_of status
       → OfBoth deck cert (λ bytes text. Certifies bytes text → HadNoFault deck → HadNoFault cert → HadNoFault out → (answer ≡ 0) ⊎ (answer ≡ 3))
   right_ends asked _ (certified segments is read same) code = of_any_two (deck.bytes deck.old) (cert.bytes cert.old) _ (λ bytes text sure reads also takes. inl code)
   right_ends asked _ (not_certified line reason is same) code =
@@ -144,7 +144,7 @@ module _ {D C O E : Type 0} (words : List (String Global)) (deck : Side D) (cert
   right_ends asked _ (write_fault (in_check_usage no_word took same also unused)) code = absurd (no_word asked)
 
   -- each other certificate of an accepted deck is found to fail
-  pub wrong_ends : IsOneWord words → (status : Status) → CheckOutcome words deck cert out err status → answer ≡ code_of status
+  pub wrong_ends : IsOneWord words → (status : Status) → CheckOutcome words deck cert out err status → answer ≡ exit_code_of status
       → OfBoth deck cert (λ bytes text. AcceptedBy bytes → (Certifies bytes text → ⊥) → HadNoFault deck → HadNoFault cert → HadNoFault out → (answer ≡ 6) ⊎ (answer ≡ 3))
   wrong_ends asked _ (certified segments is read same) code =
       of_two (deck.bytes deck.old) (cert.bytes cert.old) (λ bytes text. HasVerdict bytes text (Yes segments)) _

@@ -21,7 +21,7 @@ use Rattle.pc_project.specs.inside.shell.OneWord.{EndsWithout}
 use Rattle.pc_project.specs.inside.shell.OneWord as ends
 use Rattle.pc_audit.specs.Certificate.{check_usage_text, verdict_text, HasVerdict, Certifies, FailsAsCertificate, ProvesCurve}
 use Rattle.pc_audit.specs.Certificate.{KeepsToOwnLinesFor, IsSettledFor, IsSettledIn, IsUnsettledFor, IsUnsettledIn}
-use Rattle.pc_audit.specs.inside.Certificate.{IsFound, status_for, Told, told, cut, Answered, found, unread, no_room}
+use Rattle.pc_audit.specs.inside.Certificate.{IsFound, status_for, Told, told, cut, CheckEndsWith, found, unread, no_room}
 use Rattle.pc_audit.specs.CheckOutcome.{IsChecked, deck_unread, cert_unread, in_verdict, in_refusal, in_check_usage}
 use Rattle.pc_audit.specs.inside.CheckOutcome.{CheckOutcome, certified, not_certified, deck_refused, check_usage, no_memory, read_fault, write_fault}
 use Rattle.pc_project.specs.inside.shell.Reading.{HasProject}
@@ -155,7 +155,8 @@ module _ {D C O E : Type 0} (words : List (String Global)) (deck : Side D) (cert
   }) same)
 
   -- the deck is accepted, and a certificate of its project was checked
-  pub after_check : (project : Project) (status : Status) → IsOneWord words → HasProject deck project → IsUntouched err → Answered project cert out status → CheckOutcome words deck cert out err status
+  pub after_check : (project : Project) (status : Status) → IsOneWord words → HasProject deck project → IsUntouched err → CheckEndsWith project cert out status →
+      CheckOutcome words deck cert out err status
   after_check project _ asked has same (found verdict status finds tells) = after_told project verdict status asked has finds same tells
   after_check project _ asked has same (unread rose unsettled unused) =
       read_fault asked (cert_unread has.read (accepted_of (deck.bytes deck.old) project has.is) rose (unsettled_for (deck.bytes deck.old) cert project has.is unsettled)) unused same

@@ -16,7 +16,7 @@ ghost use Rattle.pc_audit.specs.Certificate.{
   HasVerdict,
   ProvesCurve,
 };
-ghost use Rattle.pc_audit.specs.inside.Certificate.{Answered};
+ghost use Rattle.pc_audit.specs.inside.Certificate.{CheckEndsWith};
 ghost use Rattle.pc_audit.specs.CheckOutcome.{IsChecked, IsCheckCut, IsUnread, OfBoth};
 ghost use Rattle.pc_audit.specs.inside.CheckOutcome.{CheckOutcome};
 ghost use Rattle.pc_project.specs.shell.OneWord.{IsDeckRefused, IsOneWord};
@@ -180,7 +180,7 @@ fn check_outcome<D: Source, C: Source, O: Sink, E: Sink>(
 
 /// Checks a certificate of a project and writes the verdict on `out`.
 fn check<C: Source, O: Sink>(alloc: Global, project: &Project, cert: &mut C, out: &mut O) -> Status
-    ensures answered { Answered project.now (pulled_side C.left C.faults C.pulls cert.old cert.new)
+    ensures answered { CheckEndsWith project.now (pulled_side C.left C.faults C.pulls cert.old cert.new)
         (side O.taken O.faults out.old out.new) result }
     ensures turns { TakesPulls (most_bytes (priced_in project.now) + 1) (C.pulls cert.old) (C.pulls cert.new) }
     ensures own_turns { IfSome (C.left cert.old)

@@ -2,7 +2,7 @@
 ghost use Rattle.std.specs.Prelude.{◌≡◌, None, Some, IfOk, OnOk, IfErr};
 ghost use Rattle.std.specs.Option.{option_or};
 ghost use Rattle.pc_cards.specs.inside.Forms.{IsFirstMisfit};
-ghost use Rattle.pc_cards.specs.inside.Findings.{flaw_of_fields, wrong_fields};
+ghost use Rattle.pc_cards.specs.inside.Findings.{flaw_of_fields, wrong_field_count};
 
 use crate::card::Card;
 use crate::field::{Flaw, Misfit};
@@ -19,9 +19,9 @@ use pc_records::Fields;
 #[tactic(auto, using(crate::proofs::FindLemmas::no_flaw))]
 pub(crate) fn read_card<C: Card, F: Fields>(place: &CardPlace, fields: &F) -> Result<C, Fault>
     ensures card { IfOk result (λ card. card ≡ C.spelled place.now.row (F.fields fields.now)) }
-    ensures whole { OnOk result (wrong_fields place.now C.least C.most (F.fields fields.now) ≡ None) }
+    ensures whole { OnOk result (wrong_field_count place.now C.least C.most (F.fields fields.now) ≡ None) }
     ensures fit { OnOk result (flaw_of_fields place.now.row (C.slots place.now.sort) (F.fields fields.now) ≡ None) }
-    ensures fault { IfErr result (λ fault. option_or (wrong_fields place.now C.least C.most (F.fields fields.now))
+    ensures fault { IfErr result (λ fault. option_or (wrong_field_count place.now C.least C.most (F.fields fields.now))
         (flaw_of_fields place.now.row (C.slots place.now.sort) (F.fields fields.now)) ≡ Some fault) }
 {
     let layout = C::layout(place.sort);
@@ -41,7 +41,7 @@ pub fn wrong_fields<F: Fields>(
     most: usize,
     fields: &F,
 ) -> Option<Fault>
-    ensures { result ≡ wrong_fields place.now least most (F.fields fields.now) }
+    ensures { result ≡ wrong_field_count place.now least most (F.fields fields.now) }
 {
     let have = fields.len();
     let want = if have < least {

@@ -12,7 +12,7 @@ use Rattle.pc_cert.specs.declared.line.CertLine.TheVariants.{Head, Normal, Step,
 use Rattle.pc_text.specs.Fields.{◌>>=◌, run_len, code_field, number_field, spaced, IsCode, alone}
 use Rattle.pc_cert.specs.inside.Fields.{bit_text, bit_field}
 use Rattle.pc_cert.specs.Lines.{numbers, spelling, IsSmall, AreSmall, IsWritable}
-use Rattle.pc_cert.specs.inside.Reading.{head_of, step_of, segment_of, event_of, numbers_in, flows_of, act_of, line_with, line_of}
+use Rattle.pc_cert.specs.inside.Reading.{head_from, step_from, segment_from, event_from, numbers_in, flows_of, act_from, line_with, line_of}
 use Rattle.pc_cert.specs.declared.flows.TheConstants.{MAX_FLOWS}
 use Rattle.pc_text.proofs.SpellingLemmas.{IsSpelled, either, no_name, one_word}
 use Rattle.pc_text.proofs.FieldLemmas.{bind_some, alone_takes, unless_takes, unless_again, IsBehind, nothing, space, code_field_takes, code_field_again, number_field_takes, number_field_again}
@@ -26,8 +26,8 @@ IsLine word fields line = IsSpelled spelling IsWritable word fields line
 
 -- ---- a walk's step
 
-step_takes : (fields : List ℕ) (line : CertLine) → step_of fields ≡ Some line → IsLine (codes "STEP") fields line
-unfolding step_of
+step_takes : (fields : List ℕ) (line : CertLine) → step_from fields ≡ Some line → IsLine (codes "STEP") fields line
+unfolding step_from
 step_takes fields line e =
     let code = bind_some (code_field fields) (λ code. alone (code.1) (Step (code.0))) line e in
     let end = alone_takes (code.0.1) (Step (code.0.0)) line (code.2) in
@@ -37,8 +37,8 @@ step_takes fields line e =
       fits = code_is.code_is;
     })
 
-step_again : (code : List ℕ) → IsCode code → step_of (spaced code []) ≡ Some (Step code)
-unfolding step_of
+step_again : (code : List ℕ) → IsCode code → step_from (spaced code []) ≡ Some (Step code)
+unfolding step_from
 step_again code h = rw (code_field_again code [] h nothing) refl
 
 -- ---- the first line
@@ -49,8 +49,8 @@ version_known version h = (grind (arith, nat_tests), grind (arith, nat_tests))
 version_passes : (version : ℕ) → 1 ≤ version → version ≤ 2 → (ltb version 1 || ltb 2 version) ≡ false
 version_passes version some few = grind (arith, nat_tests)
 
-head_takes : (fields : List ℕ) (line : CertLine) → head_of fields ≡ Some line → IsLine (codes "CERT") fields line
-unfolding head_of
+head_takes : (fields : List ℕ) (line : CertLine) → head_from fields ≡ Some line → IsLine (codes "CERT") fields line
+unfolding head_from
 head_takes fields line e =
     let made = λ (version : ℕ) (project : List ℕ) (events : ℕ) (activities : ℕ) (rest : List ℕ). cond (ltb version 1 || ltb 2 version) None (alone rest (Head version project events activities)) in
     let version = bind_some (number_field MAX_DIGITS fields)
@@ -82,9 +82,9 @@ head_takes fields line e =
     })
 
 head_again : (version : ℕ) (project : List ℕ) (events activities : ℕ) → IsWritable (Head version project events activities) →
-    head_of (spaced (decimal version) (spaced project (spaced (decimal events) (spaced (decimal activities) []))))
+    head_from (spaced (decimal version) (spaced project (spaced (decimal events) (spaced (decimal activities) []))))
     ≡ Some (Head version project events activities)
-unfolding head_of
+unfolding head_from
 head_again version project events activities h =
     let small : IsSmall version = omega (arith, h.0.1) in
     rw (
@@ -96,8 +96,8 @@ head_again version project events activities h =
 
 -- ---- a segment's first line
 
-segment_takes : (fields : List ℕ) (line : CertLine) → segment_of fields ≡ Some line → IsLine (codes "SEGMENT") fields line
-unfolding segment_of
+segment_takes : (fields : List ℕ) (line : CertLine) → segment_from fields ≡ Some line → IsLine (codes "SEGMENT") fields line
+unfolding segment_from
 segment_takes fields line e =
     let upper = bind_some (number_field MAX_DIGITS fields)
     (λ upper. number_field MAX_DIGITS (upper.1) >>=
@@ -124,9 +124,9 @@ segment_takes fields line e =
     })
 
 segment_again : (upper lower cost slope : ℕ) → IsWritable (Segment upper lower cost slope) →
-    segment_of (spaced (decimal upper) (spaced (decimal lower) (spaced (decimal cost) (spaced (decimal slope) []))))
+    segment_from (spaced (decimal upper) (spaced (decimal lower) (spaced (decimal cost) (spaced (decimal slope) []))))
     ≡ Some (Segment upper lower cost slope)
-unfolding segment_of
+unfolding segment_from
 segment_again upper lower cost slope h =
     rw (
       number_field_again limit upper (spaced (decimal lower) (spaced (decimal cost) (spaced (decimal slope) []))) (h.0) (space _),
@@ -137,8 +137,8 @@ segment_again upper lower cost slope h =
 
 -- ---- an event
 
-event_takes : (fields : List ℕ) (line : CertLine) → event_of fields ≡ Some line → IsLine (codes "EVENT") fields line
-unfolding event_of
+event_takes : (fields : List ℕ) (line : CertLine) → event_from fields ≡ Some line → IsLine (codes "EVENT") fields line
+unfolding event_from
 event_takes fields line e =
     let code = bind_some (code_field fields) (λ code. number_field MAX_DIGITS (code.1) >>= (λ time. bit_field (time.1) >>= (λ moves. alone (moves.1) (Event (code.0) (time.0) (moves.0))))) line e in
     let time = bind_some (number_field MAX_DIGITS (code.0.1)) (λ time. bit_field (time.1) >>= (λ moves. alone (moves.1) (Event (code.0.0) (time.0) (moves.0)))) line (code.2) in
@@ -156,8 +156,8 @@ event_takes fields line e =
     })
 
 event_again : (code : List ℕ) (time : ℕ) (moves : Bool) → IsWritable (Event code time moves) →
-    event_of (spaced code (spaced (decimal time) (spaced (bit_text moves) []))) ≡ Some (Event code time moves)
-unfolding event_of
+    event_from (spaced code (spaced (decimal time) (spaced (bit_text moves) []))) ≡ Some (Event code time moves)
+unfolding event_from
 event_again code time moves h =
     rw (
       code_field_again code (spaced (decimal time) (spaced (bit_text moves) [])) (h.0) (space _),
@@ -206,8 +206,8 @@ flows_again : (flows : List ℕ) → AreSmall flows → length flows ≤ MAX_FLO
 unfolding flows_of
 flows_again flows small few = numbers_again MAX_FLOWS flows small few
 
-act_takes : (fields : List ℕ) (line : CertLine) → act_of fields ≡ Some line → IsLine (codes "ACT") fields line
-unfolding act_of
+act_takes : (fields : List ℕ) (line : CertLine) → act_from fields ≡ Some line → IsLine (codes "ACT") fields line
+unfolding act_from
 act_takes fields line e =
     let made = λ (code : List ℕ) (duration : ℕ) (flows : List ℕ). cond (ltb (length flows) 2) None (Some (Act code duration flows)) in
     let code = bind_some (code_field fields) (λ code. number_field MAX_DIGITS (code.1) >>= (λ duration. flows_of (duration.1) >>= (λ flows. made (code.0) (duration.0) flows))) line e in
@@ -225,8 +225,8 @@ act_takes fields line e =
       fits = (code_is.code_is, duration_is.small, flows_are.small, ltb-false _ _ (enough.0), flows_are.few);
     })
 
-act_again : (code : List ℕ) (duration : ℕ) (flows : List ℕ) → IsWritable (Act code duration flows) → act_of (spaced code (spaced (decimal duration) (numbers flows))) ≡ Some (Act code duration flows)
-unfolding act_of
+act_again : (code : List ℕ) (duration : ℕ) (flows : List ℕ) → IsWritable (Act code duration flows) → act_from (spaced code (spaced (decimal duration) (numbers flows))) ≡ Some (Act code duration flows)
+unfolding act_from
 act_again code duration flows h =
     rw (
       code_field_again code (spaced (decimal duration) (numbers flows)) (h.0) (space _),

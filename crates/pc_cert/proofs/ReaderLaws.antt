@@ -16,7 +16,7 @@ use Rattle.pc_text.proofs.FieldLemmas.{bind_some}
 use Rattle.pc_cert.proofs.LineLaws.{line_takes, line_again}
 use Rattle.pc_cert.proofs.TextLaws.{text_of-append, LeadTo-more}
 use Rattle.pc_cert.specs.Reader.{IsGoing, IsNotAllowed, IsStopped}
-use Rattle.pc_cert.specs.inside.Reader.{Stands, StandsFor, Reading, HasPassed, place_behind}
+use Rattle.pc_cert.specs.inside.Reader.{IsGoingOrStopped, ReadsAs, CertReading, HasReadLine, place_behind}
 use Rattle.pc_cert.specs.inside.Fed.{left_in, used_of}
 use Rattle.pc_cert.specs.inside.Known.{IsAgain}
 use Rattle.pc_cert.proofs.Passing.{PassesLine}
@@ -60,8 +60,8 @@ Lacks-append byte (x ∷ xs) ys p q = (p.0, Lacks-append byte xs ys (p.1) q)
 
 -- a reader without a malformed line continues
 pub going : {malformed : Option Malformed} {place : Place} {number : ℕ} {held : List ℕ} {lines : List CertLine} {text : List ℕ} →
-    malformed ≡ None → Stands malformed place number held lines text → IsGoing place number held lines text
-going {malformed} {place} {number} {held} {lines} {text} none h = subst (λ m. Stands m place number held lines text) none h
+    malformed ≡ None → IsGoingOrStopped malformed place number held lines text → IsGoing place number held lines text
+going {malformed} {place} {number} {held} {lines} {text} none h = subst (λ m. IsGoingOrStopped m place number held lines text) none h
 
 behind : (text : List ℕ) (lines : List CertLine) (held piece : List ℕ) → text ≡ text_of lines ++ held → text ++ piece ≡ text_of lines ++ (held ++ piece)
 behind text lines held piece whole = ap (λ t. t ++ piece) whole ∙ append_assoc (text_of lines) held piece
@@ -165,23 +165,23 @@ no_arrival place None none = refl
 no_arrival place (Some line) none = ap (λ found. found >>= (λ b. Some (line, b))) none
 
 -- the result of a line that ends in the piece
-pub passed : (old new : Reading) (held : List ℕ) (line : Option CertLine) (piece : List ℕ) (used : ℕ) (result : Result ℕ Malformed) →
+pub passed : (old new : CertReading) (held : List ℕ) (line : Option CertLine) (piece : List ℕ) (used : ℕ) (result : Result ℕ Malformed) →
     old.malformed ≡ None → used ≡ run_len 10 piece + 1 → run_len 10 piece < length piece →
-    line_of (old.held ++ take (run_len 10 piece) piece) ≡ line → HasPassed line used (record old { held = held }) new result →
-    (lines : List CertLine) (text : List ℕ) → StandsFor old lines text →
-    StandsFor new (lines ++ left_in line result) (text ++ used_of result piece)
+    line_of (old.held ++ take (run_len 10 piece) piece) ≡ line → HasReadLine line used (record old { held = held }) new result →
+    (lines : List CertLine) (text : List ℕ) → ReadsAs old lines text →
+    ReadsAs new (lines ++ left_in line result) (text ++ used_of result piece)
 passed old new held line piece used (Ok count) none ends less read p lines text h =
     let found : arrived old.place (old.held ++ take (run_len 10 piece) piece) ≡ Some (p.taken, new.place) =
     ap (arrival old.place) (read ∙ p.there) ∙ ap (λ found. found >>= (λ b. Some (p.taken, b))) p.goes in
     let gone = accepted piece p.taken new.place (going none h) less found in
-    subst (λ (r : Reading). StandsFor r (lines ++ option_to_list line) (text ++ take count piece)) (sym p.moved)
-    (subst (λ m. Stands m new.place (old.lines + 1) [] (lines ++ option_to_list line) (text ++ take count piece)) (sym none)
+    subst (λ (r : CertReading). ReadsAs r (lines ++ option_to_list line) (text ++ take count piece)) (sym p.moved)
+    (subst (λ m. IsGoingOrStopped m new.place (old.lines + 1) [] (lines ++ option_to_list line) (text ++ take count piece)) (sym none)
     (subst (λ l. IsGoing new.place (old.lines + 1) [] (lines ++ option_to_list l) (text ++ take count piece)) (sym p.there)
     (subst (λ n. IsGoing new.place (old.lines + 1) [] (lines ++ p.taken ∷ []) (text ++ take n piece)) (sym (p.used_is ∙ ends)) gone)))
 passed old new held line piece used (Err malformed) none ends less read p lines text h =
     let found : arrived old.place (old.held ++ take (run_len 10 piece) piece) ≡ None =
     ap (arrival old.place) read ∙ no_arrival old.place line p.none in
-    subst (λ (r : Reading). StandsFor r (lines ++ []) (text ++ piece)) (sym p.kept)
+    subst (λ (r : CertReading). ReadsAs r (lines ++ []) (text ++ piece)) (sym p.kept)
     (subst (λ ls. IsStopped malformed ls (text ++ piece)) (sym (append-nil lines)) (refused malformed piece (going none h) less found p.number))
 
 -- what is not some is none
@@ -190,17 +190,17 @@ none_from None h = refl
 none_from (Some m) h = absurd (h m refl)
 
 -- a line that is the first of the piece was passed
-pub passes_line : (line : CertLine) (piece : List ℕ) (used : ℕ) (old new : Reading) → old.malformed ≡ None → old.held ≡ [] → IsAgain (Some line) piece used → next old.place line ≡ Some new.place
+pub passes_line : (line : CertLine) (piece : List ℕ) (used : ℕ) (old new : CertReading) → old.malformed ≡ None → old.held ≡ [] → IsAgain (Some line) piece used → next old.place line ≡ Some new.place
     → new ≡ record old { place = new.place; lines = old.lines + 1 } → PassesLine line piece used old new
 passes_line line piece used old new none empty is goes moved =
-    let moved_to : List ℕ → Reading = λ held. record { place = new.place; lines = old.lines + 1; held = held; malformed = old.malformed } in
+    let moved_to : List ℕ → CertReading = λ held. record { place = new.place; lines = old.lines + 1; held = held; malformed = old.malformed } in
     record {
       some = omega (arith, is.ends);
       within = is.within;
       goes = goes;
-      going = ap (λ (r : Reading). r.malformed) moved ∙ none;
-      nothing = ap (λ (r : Reading). r.held) moved ∙ empty;
-      counted = ap (λ (r : Reading). r.lines) moved;
+      going = ap (λ (r : CertReading). r.malformed) moved ∙ none;
+      nothing = ap (λ (r : CertReading). r.held) moved ∙ empty;
+      counted = ap (λ (r : CertReading). r.lines) moved;
       stands = passed old new old.held (Some line) piece used (Ok used) none is.ends (omega (arith, is.ends, is.within))
           (ap (λ held. line_of (held ++ take (run_len 10 piece) piece)) empty ∙ is.read)
           (record { used_is = refl; taken = line; there = refl; goes = goes; moved = moved ∙ ap moved_to empty });

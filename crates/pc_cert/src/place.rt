@@ -26,12 +26,12 @@ ghost use Rattle.pc_cert.specs.declared.place.Place.TheVariants.{
   InSegment,
   Between,
 };
-ghost use Rattle.pc_cert.specs.inside.Known.{HasText, IsAgain, IsFrontOf, IsTextOf};
+ghost use Rattle.pc_cert.specs.inside.Known.{HasText, IsAgain, IsFrontOf, IsLineTextOf};
 ghost use Rattle.pc_cert.specs.Grammar.{next};
 
 use crate::event::{EventFront, EventSaid};
-use crate::flows::Flows;
 use crate::fast::LineText;
+use crate::flows::Flows;
 use crate::line::CertLine;
 
 /// What the first line says about the lines that follow: the version, and the numbers of events and of activities.
@@ -149,10 +149,11 @@ impl Place {
     /// 0.
     #[inline(always)]
     pub fn pass_act(&mut self, piece: &[u8], text: &LineText, flows: &Flows) -> usize
-        requires text { (line : Option CertLine) × IsTextOf line text.now }
+        requires text { (line : Option CertLine) × IsLineTextOf line text.now }
         ensures kept { 0 < result → HasText text.now }
         ensures same { result ≡ 0 → self.new ≡ self.old }
-        ensures again { (line : Option CertLine) → 0 < result → IsTextOf line text.now → IsAgain line piece.now result }
+        ensures again { (line : Option CertLine) → 0 < result → IsLineTextOf line text.now →
+            IsAgain line piece.now result }
         ensures goes { (code : List ℕ) (duration : ℕ) → 0 < result →
             next self.old (Act code duration flows.now) ≡ Some self.new }
     {

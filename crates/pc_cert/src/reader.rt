@@ -22,7 +22,7 @@ ghost use Rattle.std.specs.Prelude.{
 };
 ghost use Rattle.pc_cert.specs.declared.line.CertLine.{CertLine};
 ghost use Rattle.pc_cert.specs.inside.Reading.{line_of};
-ghost use Rattle.pc_cert.specs.inside.Reader.{StandsFor, HasPassed, EndsAs};
+ghost use Rattle.pc_cert.specs.inside.Reader.{ReadsAs, HasReadLine, EndsAs};
 ghost use Rattle.pc_cert.specs.inside.Fed.{given, used, left_in, used_of};
 ghost use Rattle.pc_cert.specs.declared.reader.Malformed.{Malformed};
 
@@ -60,9 +60,9 @@ pub struct CertReader {
 
 impl Model for CertReader {
     ghost use Rattle.std.specs.Prelude.{take};
-    ghost use Rattle.pc_cert.specs.inside.Reader.{Reading, KeepsRoom};
+    ghost use Rattle.pc_cert.specs.inside.Reader.{CertReading, KeepsRoom};
 
-    ghost Value = { Reading };
+    ghost Value = { CertReading };
 
     ghost view = { λ s. record {
       place = s.place;
@@ -77,7 +77,7 @@ impl Model for CertReader {
 impl CertReader {
     /// Returns a reader that was fed nothing yet.
     pub fn begin() -> CertReader
-        ensures stands { StandsFor result [] [] }
+        ensures stands { ReadsAs result [] [] }
         ensures nothing { (result.held ≡ []) × (result.malformed ≡ None) }
         ensures no_lines { result.lines ≡ 0 }
     {
@@ -100,8 +100,8 @@ impl CertReader {
     pub fn feed(&mut self, piece: &[u8]) -> Result<Fed, Malformed>
         requires { IfNone self.old.malformed (self.old.lines < 2 ^ 63) }
         // a reader in the state after these lines of this text is then in the state with what was given and used added
-        ensures stands { (lines : List CertLine) (text : List ℕ) → StandsFor self.old lines text
-            → StandsFor self.new (lines ++ given result) (text ++ used result piece.now) }
+        ensures stands { (lines : List CertLine) (text : List ℕ) → ReadsAs self.old lines text
+            → ReadsAs self.new (lines ++ given result) (text ++ used result piece.now) }
         ensures within { IfOk result (λ fed. fed.used ≤ length piece.now) }
         ensures no_line { IfOk result (λ fed. IsNone fed.line → fed.used ≡ length piece.now) }
         ensures held { IfOk result (λ fed. IsNone fed.line → self.new.held ≡ self.old.held ++ piece.now) }
@@ -131,8 +131,8 @@ impl CertReader {
     /// `Malformed`, as from `feed`.
     pub fn feed_known(&mut self, piece: &[u8], known: &mut KnownLine) -> Result<usize, Malformed>
         requires { IfNone self.old.malformed (self.old.lines < 2 ^ 63) }
-        ensures stands { (lines : List CertLine) (text : List ℕ) → StandsFor self.old lines text
-            → StandsFor self.new (lines ++ left_in known.new.line result) (text ++ used_of result piece.now) }
+        ensures stands { (lines : List CertLine) (text : List ℕ) → ReadsAs self.old lines text
+            → ReadsAs self.new (lines ++ left_in known.new.line result) (text ++ used_of result piece.now) }
         ensures within { IfOk result (λ used. used ≤ length piece.now) }
         ensures no_line { IfOk result (λ used. IsNone known.new.line → used ≡ length piece.now) }
         ensures held { IfOk result (λ used. IsNone known.new.line → self.new.held ≡ self.old.held ++ piece.now) }
@@ -189,7 +189,7 @@ impl CertReader {
     ///
     /// `Malformed` with the line after the complete ones, or with the line of an earlier `Malformed`.
     pub fn finish(&self) -> Result<(), Malformed>
-        ensures { (lines : List CertLine) (text : List ℕ) → StandsFor self.now lines text → EndsAs result lines text }
+        ensures { (lines : List CertLine) (text : List ℕ) → ReadsAs self.now lines text → EndsAs result lines text }
     {
         if let Some(malformed) = self.malformed {
             return Err(malformed);
@@ -241,7 +241,7 @@ impl CertReader {
     #[inline(always)]
     fn pass(&mut self, known: &KnownLine, used: usize) -> Result<usize, Malformed>
         requires { self.old.lines < 2 ^ 63 }
-        ensures { HasPassed known.now.line used self.old self.new result }
+        ensures { HasReadLine known.now.line used self.old self.new result }
     {
         let Some(line) = known.line() else {
             return Err(self.stop());

@@ -5,11 +5,11 @@ ghost use Rattle.pc_cert.specs.inside.Fields.{bit_field, bit_of};
 ghost use Rattle.pc_cert.specs.inside.Reading.{
   line_of,
   line_with,
-  head_of,
-  step_of,
-  segment_of,
-  event_of,
-  act_of,
+  head_from,
+  step_from,
+  segment_from,
+  event_from,
+  act_from,
   flows_of,
 };
 
@@ -53,9 +53,9 @@ fn line_with(word: &[u8], fields: &[u8]) -> Option<CertLine>
     }
 }
 
-#[tactic(auto, unfolding(crate::specs::inside::Reading::head_of, pc_text::specs::Fields::field_by))]
+#[tactic(auto, unfolding(crate::specs::inside::Reading::head_from, pc_text::specs::Fields::field_by))]
 fn head_of(fields: &[u8]) -> Option<CertLine>
-    ensures { result ≡ head_of fields.now }
+    ensures { result ≡ head_from fields.now }
 {
     let (version, rest) = number_field(fields, MAX_DIGITS)?;
     let (word, rest) = field(rest)?;
@@ -76,18 +76,18 @@ fn head_of(fields: &[u8]) -> Option<CertLine>
     )
 }
 
-#[tactic(auto, unfolding(crate::specs::inside::Reading::step_of, pc_text::specs::Fields::field_by))]
+#[tactic(auto, unfolding(crate::specs::inside::Reading::step_from, pc_text::specs::Fields::field_by))]
 fn step_of(fields: &[u8]) -> Option<CertLine>
-    ensures { result ≡ step_of fields.now }
+    ensures { result ≡ step_from fields.now }
 {
     let (word, rest) = field(fields)?;
     let code = Code::read(word)?;
     alone(rest, CertLine::Step(code))
 }
 
-#[tactic(auto, unfolding(crate::specs::inside::Reading::segment_of))]
+#[tactic(auto, unfolding(crate::specs::inside::Reading::segment_from))]
 fn segment_of(fields: &[u8]) -> Option<CertLine>
-    ensures { result ≡ segment_of fields.now }
+    ensures { result ≡ segment_from fields.now }
 {
     let (upper, rest) = number_field(fields, MAX_DIGITS)?;
     let (lower, rest) = number_field(rest, MAX_DIGITS)?;
@@ -104,9 +104,9 @@ fn segment_of(fields: &[u8]) -> Option<CertLine>
     )
 }
 
-#[tactic(auto, unfolding(crate::specs::inside::Reading::event_of, pc_text::specs::Fields::field_by))]
+#[tactic(auto, unfolding(crate::specs::inside::Reading::event_from, pc_text::specs::Fields::field_by))]
 fn event_of(fields: &[u8]) -> Option<CertLine>
-    ensures { result ≡ event_of fields.now }
+    ensures { result ≡ event_from fields.now }
 {
     let (word, rest) = field(fields)?;
     let code = Code::read(word)?;
@@ -137,9 +137,9 @@ fn bit_of(word: &[u8]) -> Option<bool>
     }
 }
 
-#[tactic(auto, unfolding(crate::specs::inside::Reading::act_of, pc_text::specs::Fields::field_by))]
+#[tactic(auto, unfolding(crate::specs::inside::Reading::act_from, pc_text::specs::Fields::field_by))]
 pub(crate) fn act_of(fields: &[u8]) -> Option<CertLine>
-    ensures { result ≡ act_of fields.now }
+    ensures { result ≡ act_from fields.now }
 {
     let (word, rest) = field(fields)?;
     let code = Code::read(word)?;

@@ -8,7 +8,7 @@ use Rattle.pc_laws.specs.Cover.{IsFront}
 use Rattle.pc_laws.proofs.Segments.Covering.{front_begins, front_grows}
 use Rattle.pc_crash.specs.Priced.{PricedNetwork, knees_in}
 use Rattle.pc_flow.specs.Courses.{Course, upper_of, lower_of, IsSameCurve}
-use Rattle.pc_flow.specs.inside.Courses.{present, HasEnded, IsNext, HasSmallNumbers as IsSmallBelow}
+use Rattle.pc_flow.specs.inside.Courses.{present, HasEnded, IsNext, HasBoundedNumbers}
 use Rattle.pc_cert.specs.Document.{HasSmallNumbers}
 use Rattle.pc_certify.specs.inside.Descent.{IsAlong, IsAtTop, CanBeSpelled}
 use Rattle.pc_cert.specs.Text.{text_of}
@@ -41,7 +41,7 @@ pub record IsPut (net : PricedNetwork) (normal crash : List ℕ) (course : Cours
   pub fit : CanBeSpelled net segments
 
 -- numbers below 10 ^ 18 can be written
-small-numbers : (net : PricedNetwork) (seg : Segment) → IsSmallBelow net seg → HasSmallNumbers net seg
+small-numbers : (net : PricedNetwork) (seg : Segment) → HasBoundedNumbers net seg → HasSmallNumbers net seg
 small-numbers net seg small = record {
   upper = small.upper;
   lower = small.lower;
@@ -79,7 +79,7 @@ module _ (net : PricedNetwork) (c d : Course) (segments : List Segment) (has : H
 
   -- its numbers can be written
   pub small-next : HasSmallNumbers net (present d)
-  small-next = small-numbers net (present d) (subst (λ (n : PricedNetwork). IsSmallBelow n (present d)) along-next.same_net next.small)
+  small-next = small-numbers net (present d) (subst (λ (n : PricedNetwork). HasBoundedNumbers n (present d)) along-next.same_net next.small)
 
   normal-next : c.given ≡ false → (a : ℕ) → a < length net.network.arcs → (present d).duration a ≡ normal_of net.terms a
   normal-next none = subst (λ (n : PricedNetwork). (a : ℕ) → a < length n.network.arcs → (present d).duration a ≡ normal_of n.terms a) has.along.same_net (next.normal none)

@@ -4,7 +4,7 @@ ghost use Rattle.pc_cells.specs.inside.Spans.{free_of};
 ghost use Rattle.pc_edges.specs.inside.page.Puts.{Puts, desk};
 ghost use Rattle.pc_crash.specs.inside.Steps.{IsBlankOf};
 ghost use Rattle.pc_certify.specs.Certificate.{IsCertificate};
-ghost use Rattle.pc_certify.specs.inside.Certificate.{IsReadyFor};
+ghost use Rattle.pc_certify.specs.inside.Certificate.{IsReadyToCertify};
 ghost use Rattle.pc_certify.specs.inside.Descent.{IsAtTop, IsPutDown};
 ghost use Rattle.pc_certify.specs.inside.fast.Spelled.{AreEventsSpelled, AreActsSpelled};
 ghost use Rattle.pc_certify.specs.inside.Walks.{ArePicked};
@@ -46,7 +46,7 @@ impl Certificate {
     ) -> Result<Certificate, AllocError>
         requires { 8 * net.now.network.events + 6 * length net.now.network.arcs + 2 * length net.now.pieces + 16
             ≤ free_of region }
-        ensures { IfOk result (IsReadyFor net.now) }
+        ensures { IfOk result (IsReadyToCertify net.now) }
     {
         Ok(Certificate {
             walks: Walks::build(alloc, net)?,
@@ -57,7 +57,7 @@ impl Certificate {
 
     /// Puts the certificate on a page: each segment when the solver has it. Takes no memory.
     pub fn put_on<O: Sink>(self, page: &mut Page, sink: &mut O, net: &CrashNet<'_>)
-        requires { IsReadyFor net.now self }
+        requires { IsReadyToCertify net.now self }
         ensures { (text : List ℕ) × IsCertificate net.now text
             × Puts O.taken O.faults page.old sink.old page.new sink.new text }
     {

@@ -8,12 +8,12 @@ use Rattle.pc_crash.specs.Priced.{PricedNetwork}
 use Rattle.pc_check.specs.declared.checker.Verdict.{Verdict}
 use Rattle.pc_check.specs.declared.checker.Verdict.TheVariants.{Yes, No}
 use Rattle.pc_check.specs.Failures.{failure_of}
-use Rattle.pc_check.specs.inside.Certified.{Finds as ChecksTo}
+use Rattle.pc_check.specs.inside.Certified.{FindsInLines}
 use Rattle.pc_check.specs.Texts.{IsFailing, malformed, missing, Finds}
 
 -- a complete text is certified
 pub found_whole : (net : PricedNetwork) (lines : List CertLine) (text : List ℕ) (verdict : Verdict) → IsWhole lines text →
-    failure_of net lines ≡ None → ChecksTo net lines verdict → Finds net text verdict
+    failure_of net lines ≡ None → FindsInLines net lines verdict → Finds net text verdict
 found_whole net lines text (Yes segments) whole none finds = record { lines = lines; whole = whole; none = none; count = finds.1 }
 found_whole net lines text (No line reason) whole none finds = absurd (none-some (record { line = line; reason = reason }) (sym none ∙ finds))
 

@@ -11,31 +11,31 @@ use Rattle.pc_cert.specs.Grammar.{next}
 use Rattle.pc_cert.specs.Text.{text_of, ran}
 use Rattle.pc_text.proofs.FieldLemmas.{bind_some}
 use Rattle.pc_cert.proofs.TextLaws.{ran-append}
-use Rattle.pc_cert.specs.Reader.{IsStopped, IsGoing as IsReading}
-use Rattle.pc_cert.specs.inside.Reader.{Reading, Stands as ReadStands, StandsFor as ReadsAs}
+use Rattle.pc_cert.specs.Reader.{IsStopped, IsGoing}
+use Rattle.pc_cert.specs.inside.Reader.{CertReading, IsGoingOrStopped, ReadsAs}
 use Rattle.pc_cert.specs.declared.reader.Malformed.{Malformed}
 use Rattle.pc_check.specs.declared.checker.Fail.{Fail}
 use Rattle.pc_check.specs.inside.Bounds.{lines_left}
 use Rattle.pc_check.specs.Failures.{failure_of}
-use Rattle.pc_check.specs.inside.Checking.{Checking, Stands as CheckStands, StandsFor as ChecksAs, IsGoing as IsChecking}
+use Rattle.pc_check.specs.inside.Checking.{Checking, HasCheckedOrFailed, ChecksAs, HasCheckedLines}
 use Rattle.pc_check.specs.Texts.{IsFailing, fails, malformed}
-use Rattle.pc_check.specs.inside.Auditing.{Auditing, HasRead, IsGoing, bytes_left}
+use Rattle.pc_check.specs.inside.Auditing.{Auditing, HasRead, IsOngoingAudit, audit_bytes_left}
 
 -- a reader that continues, and a checker
-pub reading : (reader : Reading) (lines : List CertLine) (text : List ℕ) → reader.malformed ≡ None → ReadsAs reader lines text → IsReading reader.place reader.lines reader.held lines text
-reading reader lines text none h = subst (λ m. ReadStands m reader.place reader.lines reader.held lines text) none h
+pub reading : (reader : CertReading) (lines : List CertLine) (text : List ℕ) → reader.malformed ≡ None → ReadsAs reader lines text → IsGoing reader.place reader.lines reader.held lines text
+reading reader lines text none h = subst (λ m. IsGoingOrStopped m reader.place reader.lines reader.held lines text) none h
 
-pub checking : (checker : Checking) (lines : List CertLine) → checker.fail ≡ None → ChecksAs checker lines → IsChecking checker.net checker.kept lines
-checking checker lines none h = subst (λ f. CheckStands checker.net checker.kept f lines) none h
+pub checking : (checker : Checking) (lines : List CertLine) → checker.fail ≡ None → ChecksAs checker lines → HasCheckedLines checker.net checker.kept lines
+checking checker lines none h = subst (λ f. HasCheckedOrFailed checker.net checker.kept f lines) none h
 
-stopped : (reader : Reading) (lines : List CertLine) (text : List ℕ) (m : Malformed) → reader.malformed ≡ Some m → ReadsAs reader lines text → IsStopped m lines text
-stopped reader lines text m is h = subst (λ f. ReadStands f reader.place reader.lines reader.held lines text) is h
+stopped : (reader : CertReading) (lines : List CertLine) (text : List ℕ) (m : Malformed) → reader.malformed ≡ Some m → ReadsAs reader lines text → IsStopped m lines text
+stopped reader lines text m is h = subst (λ f. IsGoingOrStopped f reader.place reader.lines reader.held lines text) is h
 
 failed : (checker : Checking) (lines : List CertLine) (fail : Fail) → checker.fail ≡ Some fail → ChecksAs checker lines → failure_of checker.net lines ≡ Some fail
-failed checker lines fail is h = subst (λ f. CheckStands checker.net checker.kept f lines) is h
+failed checker lines fail is h = subst (λ f. HasCheckedOrFailed checker.net checker.kept f lines) is h
 
 -- the reader may be fed
-pub may_feed : (text : List ℕ) (audit : Auditing) → HasRead text audit → IsGoing audit → IfNone audit.reader.malformed (audit.reader.lines < 2 ^ 63)
+pub may_feed : (text : List ℕ) (audit : Auditing) → HasRead text audit → IsOngoingAudit audit → IfNone audit.reader.malformed (audit.reader.lines < 2 ^ 63)
 may_feed text audit h going =
     let read = reading audit.reader h.lines text going.well_formed h.read in
     let checked = checking audit.checker h.lines going.no_fail h.checked in
@@ -45,7 +45,7 @@ next_of_last : (line : CertLine) (place behind : Place) → ran place (line ∷ 
 next_of_last line place behind h = let step = bind_some (next place line) (λ p. ran p []) behind h in step.1 ∙ step.2
 
 -- the checker may take the line that was read, and the next one is where the reader has it
-pub may_take : (audit : Auditing) (reader : Reading) (lines : List CertLine) (line : CertLine) (text : List ℕ) → IsGoing audit →
+pub may_take : (audit : Auditing) (reader : CertReading) (lines : List CertLine) (line : CertLine) (text : List ℕ) → IsOngoingAudit audit →
     ChecksAs audit.checker lines → reader.malformed ≡ None → ReadsAs reader (lines ++ line ∷ []) text →
     IfNone audit.checker.fail (next audit.checker.kept.place line ≡ Some reader.place)
 may_take audit reader lines line text going checked none read =
@@ -56,7 +56,7 @@ may_take audit reader lines line text going checked none read =
     subst (λ f. IfNone f (next audit.checker.kept.place line ≡ Some reader.place)) (sym going.no_fail) (next_of_last line audit.checker.kept.place reader.place after)
 
 -- a malformed line
-pub malformed_fails : (text more piece : List ℕ) (audit : Auditing) (reader : Reading) (m : Malformed) → IsGoing audit →
+pub malformed_fails : (text more piece : List ℕ) (audit : Auditing) (reader : CertReading) (m : Malformed) → IsOngoingAudit audit →
     (h : HasRead text audit) → reader.malformed ≡ Some m → ReadsAs reader (h.lines ++ []) (text ++ piece) →
     IsFailing audit.checker.net (text ++ (piece ++ more)) (record { line = m.line; reason = 0 })
 malformed_fails text more piece audit reader m going h is read =
@@ -75,7 +75,7 @@ malformed_fails text more piece audit reader m going h is read =
     }) refl
 
 -- a line that fails
-pub line_fails : (text more piece front rest : List ℕ) (audit : Auditing) (reader : Reading) (checker : Checking) (lines : List CertLine)
+pub line_fails : (text more piece front rest : List ℕ) (audit : Auditing) (reader : CertReading) (checker : Checking) (lines : List CertLine)
     (fail : Fail) → front ++ rest ≡ piece → reader.malformed ≡ None → ReadsAs reader lines (text ++ front) →
     checker.net ≡ audit.checker.net → checker.fail ≡ Some fail → ChecksAs checker lines →
     IsFailing audit.checker.net (text ++ (piece ++ more)) fail
@@ -90,26 +90,27 @@ line_fails text more piece front rest audit reader checker lines fail split none
 -- ---- what is left
 
 -- a piece in which no line ends leaves less
-pub less_behind_piece : (old new : Auditing) (piece : List ℕ) → IsGoing old → 0 < length piece → new.checker ≡ old.checker →
-    new.reader.held ≡ old.reader.held ++ piece → bytes_left new < bytes_left old
+pub less_behind_piece : (old new : Auditing) (piece : List ℕ) → IsOngoingAudit old → 0 < length piece → new.checker ≡ old.checker →
+    new.reader.held ≡ old.reader.held ++ piece → audit_bytes_left new < audit_bytes_left old
 less_behind_piece old new piece going some same held =
     let long : length new.reader.held ≡ length old.reader.held + length piece = ap length held ∙ length-append old.reader.held piece in
     let lines : lines_left new.checker.net new.checker.kept ≡ lines_left old.checker.net old.checker.kept = ap (λ (c : Checking). lines_left c.net c.kept) same in
     omega (arith, long, ap (λ n. n * 192) lines, going.short, some)
 
 -- and so does a line
-pub less_behind_line : (old new : Auditing) → IsGoing old → lines_left new.checker.net new.checker.kept < lines_left old.checker.net old.checker.kept → bytes_left new < bytes_left old
+pub less_behind_line : (old new : Auditing) → IsOngoingAudit old → lines_left new.checker.net new.checker.kept < lines_left old.checker.net old.checker.kept →
+    audit_bytes_left new < audit_bytes_left old
 less_behind_line old new going less =
     let more : lines_left new.checker.net new.checker.kept + 1 ≤ lines_left old.checker.net old.checker.kept = omega arith in
     omega (arith, mul-le-mul_right 192 more, going.short)
 
 -- the reader and the checker are at the same place, after as many lines
-pub same_place : {text : List ℕ} {audit : Auditing} → IsGoing audit → HasRead text audit → audit.reader.place ≡ audit.checker.kept.place
+pub same_place : {text : List ℕ} {audit : Auditing} → IsOngoingAudit audit → HasRead text audit → audit.reader.place ≡ audit.checker.kept.place
 same_place {text} {audit} going h =
     same_Some audit.reader.place audit.checker.kept.place
     (sym (reading audit.reader h.lines text going.well_formed h.read).led.order ∙ (checking audit.checker h.lines going.no_fail h.checked).order)
 
-pub same_count : {text : List ℕ} {audit : Auditing} → IsGoing audit → HasRead text audit → audit.reader.lines ≡ audit.checker.kept.lines
+pub same_count : {text : List ℕ} {audit : Auditing} → IsOngoingAudit audit → HasRead text audit → audit.reader.lines ≡ audit.checker.kept.lines
 same_count {text} {audit} going h =
     let read = reading audit.reader h.lines text going.well_formed h.read in
     let checked = checking audit.checker h.lines going.no_fail h.checked in

@@ -9,7 +9,7 @@ use Rattle.pc_cert.proofs.TextLaws.{lacks_no_stop}
 use Rattle.pc_check.specs.Bounds.{lines_from, lines_of_all}
 use Rattle.pc_check.specs.inside.Bounds.{lines_left}
 use Rattle.pc_check.specs.Auditing.{most_bytes}
-use Rattle.pc_check.specs.inside.Auditing.{Auditing, HasRead, IsGoing, bytes_left}
+use Rattle.pc_check.specs.inside.Auditing.{Auditing, HasRead, IsOngoingAudit, audit_bytes_left}
 use Rattle.pc_check.proofs.AuditLaws.{reading, checking}
 
 -- there is no line in an empty text
@@ -18,7 +18,7 @@ no_lines [] held e = refl
 no_lines (line ∷ lines) held e = absurd (lacks_no_stop 10 (spelling line) [] (text_of lines ++ held) tt (sym (append_assoc (spelling line) (10 ∷ text_of lines) held) ∙ sym e))
 
 -- the most bytes may still come at the beginning
-pub left_at_start : (audit : Auditing) → IsGoing audit → HasRead [] audit → bytes_left audit ≤ most_bytes audit.checker.net
+pub left_at_start : (audit : Auditing) → IsOngoingAudit audit → HasRead [] audit → audit_bytes_left audit ≤ most_bytes audit.checker.net
 left_at_start audit going h =
     let n = audit.checker.net.network.events in
     let m = length audit.checker.net.network.arcs in

@@ -16,14 +16,14 @@ use Rattle.pc_cert.specs.declared.place.Place.TheVariants.{Start, AfterHead, Nor
 use Rattle.pc_check.specs.declared.kept.Kept.{Kept}
 use Rattle.pc_check.specs.declared.walk.Reached.{Reached}
 use Rattle.pc_check.specs.Walks.{is_through}
-use Rattle.pc_check.specs.inside.Walks.{sum_of}
+use Rattle.pc_check.specs.inside.Walks.{sum_of_reached}
 use Rattle.pc_check.specs.Conditions.{conditions}
 use Rattle.pc_check.specs.Failures.{first_failing}
 use Rattle.pc_check.specs.Known.{Known}
 use Rattle.pc_check.specs.inside.Kept.{known_by}
 use Rattle.pc_check.specs.Bounds.{longest_walk, lines_below, lines_from, lines_of_all}
 use Rattle.pc_check.specs.inside.Bounds.{lines_left, IsShaped, IsInNormal, IsInPart, IsAtPlace, IsBounded}
-use Rattle.pc_check.specs.inside.Advances.{Adds, moved_on}
+use Rattle.pc_check.specs.inside.Advances.{AddsToKept, moved_on}
 use Rattle.pc_check.specs.inside.Additions.{MayBeAdded}
 use Rattle.pc_check.specs.inside.Safe.{IsBegun}
 use Rattle.pc_check.proofs.ReasonLaws.{holds_first}
@@ -49,7 +49,7 @@ head_passes net known version project events activities h =
     let rest = and_parts _ _ ((and_parts _ _ ((and_parts _ _ all).1)).1) in
     (eqb-true _ _ (rest.0), eqb-true _ _ (rest.1))
 
-through_sum : (net : PricedNetwork) (sum : ℕ) (at : Option Reached) → is_through net.network sum at ≡ true → sum_of at ≡ sum
+through_sum : (net : PricedNetwork) (sum : ℕ) (at : Option Reached) → is_through net.network sum at ≡ true → sum_of_reached at ≡ sum
 through_sum net sum None h = absurd cc
 through_sum net sum (Some at) h = eqb-true _ _ ((and_parts _ _ h).1)
 
@@ -84,7 +84,7 @@ later_ends net known upper lower cost slope some h =
 
 -- the upper end of the first segment is the sum of the normal walk, and its lower end is not above it
 first_passes : (net : PricedNetwork) (known : Known) (upper lower cost slope : ℕ) → known.segments ≡ 0 →
-    first_failing (conditions net known (Segment upper lower cost slope)) ≡ None → (sum_of known.normal ≡ upper) × (lower ≤ upper)
+    first_failing (conditions net known (Segment upper lower cost slope)) ≡ None → (sum_of_reached known.normal ≡ upper) × (lower ≤ upper)
 first_passes net known upper lower cost slope none h =
     (through_sum net upper known.normal (first_walk net known upper lower cost slope none h), (first_ends net known upper lower cost slope none h).0)
 
@@ -139,22 +139,22 @@ moved n m kept to count Ended h = h
 record HasStepped (is_crash : Bool) (old new : Kept) : Type 0 where
   normal : new.crash_walk_started ≡ is_crash
   none : new.segments ≡ 0
-  short_normal : sum_of new.normal ≤ sum_of old.normal + cond is_crash 0 MAX_DURATION
-  short_crash : sum_of new.crash ≤ sum_of old.crash + cond is_crash MAX_DURATION 0
+  short_normal : sum_of_reached new.normal ≤ sum_of_reached old.normal + cond is_crash 0 MAX_DURATION
+  short_crash : sum_of_reached new.crash ≤ sum_of_reached old.crash + cond is_crash MAX_DURATION 0
 
-has_stepped : (is_crash : Bool) (net : PricedNetwork) (code : List ℕ) (old new : Kept) → Adds net (Step code) old new → old.crash_walk_started ≡ is_crash → old.segments ≡ 0 →
+has_stepped : (is_crash : Bool) (net : PricedNetwork) (code : List ℕ) (old new : Kept) → AddsToKept net (Step code) old new → old.crash_walk_started ≡ is_crash → old.segments ≡ 0 →
     HasStepped is_crash old new
 has_stepped is_crash net code old new added is none = record {
   normal = ap (λ k. k.crash_walk_started) added.rest ∙ is;
   none = ap (λ k. k.segments) added.rest ∙ none;
-  short_normal = subst (λ b. sum_of new.normal ≤ sum_of old.normal + cond b 0 MAX_DURATION) is added.short_normal;
-  short_crash = subst (λ b. sum_of new.crash ≤ sum_of old.crash + cond b MAX_DURATION 0) is added.short_crash;
+  short_normal = subst (λ b. sum_of_reached new.normal ≤ sum_of_reached old.normal + cond b 0 MAX_DURATION) is added.short_normal;
+  short_crash = subst (λ b. sum_of_reached new.crash ≤ sum_of_reached old.crash + cond b MAX_DURATION 0) is added.short_crash;
 }
 
 -- the state at each place fits the place after the line
 at_place : (net : PricedNetwork) (place : Place) (line : CertLine) (behind : Place) (old new : Kept)
     → IsAtPlace net.network.events (length net.network.arcs) place old → next place line ≡ Some behind
-    → first_failing (conditions net (known_by old) line) ≡ None → Adds net line old new
+    → first_failing (conditions net (known_by old) line) ≡ None → AddsToKept net line old new
     → IsAtPlace net.network.events (length net.network.arcs) behind new
 at_place net Start (Head version project events activities) behind old new h goes passes added =
     let known = head_passes net (known_by old) version project events activities passes in
@@ -243,7 +243,7 @@ lines_below-less n m low high less =
 
 fewer_lines : (net : PricedNetwork) (place : Place) (line : CertLine) (behind : Place) (old new : Kept)
     → IsAtPlace net.network.events (length net.network.arcs) place old → next place line ≡ Some behind
-    → first_failing (conditions net (known_by old) line) ≡ None → Adds net line old new
+    → first_failing (conditions net (known_by old) line) ≡ None → AddsToKept net line old new
     → lines_from net.network.events (length net.network.arcs) behind new.tally.lower < lines_from net.network.events (length net.network.arcs) place old.tally.lower
 fewer_lines net Start (Head version project events activities) behind old new h goes passes added =
     less net.network.events (length net.network.arcs) new goes (omega arith)
@@ -307,7 +307,7 @@ all_few n m few_events few_acts =
     let unit : n + m + 2 ≤ 30002 = omega arith in
     omega (arith, mul-le-mul_right (n + m + 2) long, mul-le-mul_left 1000000001 unit)
 
-segments_kept : (net : PricedNetwork) (line : CertLine) (old new : Kept) → Adds net line old new → (new.segments ≤ old.segments + 1) × (new.lines ≡ old.lines)
+segments_kept : (net : PricedNetwork) (line : CertLine) (old new : Kept) → AddsToKept net line old new → (new.segments ≤ old.segments + 1) × (new.lines ≡ old.lines)
 segments_kept net (Head version project events activities) old new added = (omega (arith, ap (λ k. k.segments) added), ap (λ k. k.lines) added)
 segments_kept net Normal old new added = (omega (arith, ap (λ k. k.segments) added), ap (λ k. k.lines) added)
 segments_kept net (Step code) old new added = (omega (arith, ap (λ k. k.segments) added.rest), ap (λ k. k.lines) added.rest)
@@ -318,7 +318,7 @@ segments_kept net (Act code duration flows) old new added = (omega (arith, ap (�
 segments_kept net Close old new added = (omega (arith, ap (λ k. k.segments) added), ap (λ k. k.lines) added)
 segments_kept net End old new added = (omega (arith, ap (λ k. k.segments) added), ap (λ k. k.lines) added)
 
-moves_kept : (net : PricedNetwork) (line : CertLine) (old new : Kept) → Adds net line old new →
+moves_kept : (net : PricedNetwork) (line : CertLine) (old new : Kept) → AddsToKept net line old new →
     length old.tally.moves.items ≡ length old.tally.times.items → length new.tally.moves.items ≡ length new.tally.times.items
 moves_kept net (Head version project events activities) old new added h = ap (λ k. length k.tally.moves.items) added ∙ h ∙ ap (λ k. length k.tally.times.items) (sym added)
 moves_kept net Normal old new added h = ap (λ k. length k.tally.moves.items) added ∙ h ∙ ap (λ k. length k.tally.times.items) (sym added)
@@ -341,7 +341,7 @@ pub record Passes (net : PricedNetwork) (line : CertLine) (old : Kept) (behind :
 
 -- the bounds hold after the line too, and fewer lines may come
 pub bounded_behind : {net : PricedNetwork} {line : CertLine} {old : Kept} {behind : Place} (between : Kept) → IsBounded net old →
-    Passes net line old behind → Adds net line old between → IsBounded net (moved_on between behind)
+    Passes net line old behind → AddsToKept net line old between → IsBounded net (moved_on between behind)
 bounded_behind {net} {line} {old} {behind} between h p added =
     let fewer = fewer_lines net old.place line behind old between h.place p.goes p.passes added in
     let kept = segments_kept net line old between added in
@@ -353,7 +353,7 @@ bounded_behind {net} {line} {old} {behind} between h p added =
     }
 
 pub fewer_behind : {net : PricedNetwork} {line : CertLine} {old : Kept} {behind : Place} (between : Kept) → IsBounded net old →
-    Passes net line old behind → Adds net line old between → lines_left net (moved_on between behind) < lines_left net old
+    Passes net line old behind → AddsToKept net line old between → lines_left net (moved_on between behind) < lines_left net old
 fewer_behind {net} {line} {old} {behind} between h p added = fewer_lines net old.place line behind old between h.place p.goes p.passes added
 
 -- the count of lines has capacity
@@ -362,7 +362,7 @@ lines_few {net} {kept} h few_events few_acts = omega (arith, h.lines, all_few ne
 
 walk_has_room : (n m : ℕ) (place : Place) (code : List ℕ) (behind : Place) (old : Kept) → IsAtPlace n m place old →
     next place (Step code) ≡ Some behind → n ≤ MAX_EVENTS →
-    (sum_of old.normal + MAX_DURATION < 2 ^ 64) × (sum_of old.crash + MAX_DURATION < 2 ^ 64)
+    (sum_of_reached old.normal + MAX_DURATION < 2 ^ 64) × (sum_of_reached old.crash + MAX_DURATION < 2 ^ 64)
 walk_has_room n m (NormalWalk shape steps) code behind old h goes few = (omega (arith, h.1.short), omega (arith, h.1.nothing))
 walk_has_room n m (CrashWalk shape steps) code behind old h goes few = (omega (arith, h.1.whole), omega (arith, h.1.short))
 walk_has_room n m Start code behind old h goes few = absurd (none-some behind goes)
@@ -413,5 +413,5 @@ all_come net (Between shape) behind old h goes = absurd (none-some behind goes)
 all_come net Ended behind old h goes = absurd (none-some behind goes)
 
 -- a line is counted once
-pub lines_kept : (net : PricedNetwork) (line : CertLine) (old new : Kept) → Adds net line old new → new.lines ≡ old.lines
+pub lines_kept : (net : PricedNetwork) (line : CertLine) (old new : Kept) → AddsToKept net line old new → new.lines ≡ old.lines
 lines_kept net line old new added = (segments_kept net line old new added).1

@@ -3,21 +3,21 @@ use Rattle.std.proofs.Common.{◌≡◌, ℕ, ◌<◌, ◌≤◌, List, [], ◌+
 use Rattle.std.proofs.lemmas.List.{take-append-drop, nil_from_length}
 use Rattle.pc_check.specs.declared.checker.Fail.{Fail}
 use Rattle.pc_check.specs.Texts.{IsFailing}
-use Rattle.pc_check.specs.inside.Auditing.{Auditing, HasRead, IsGoing, bytes_left}
+use Rattle.pc_check.specs.inside.Auditing.{Auditing, HasRead, IsOngoingAudit, audit_bytes_left}
 
 -- a front of the piece was used, and the rest is left
 pub record IsFeeding (before now : Auditing) (piece rest : List ℕ) : Type 0 where
   pub front : List ℕ
   pub whole : piece ≡ front ++ rest
-  pub going : IsGoing now
+  pub going : IsOngoingAudit now
   pub net : now.checker.net ≡ before.checker.net
   pub goes_on : (text : List ℕ) → HasRead text before → HasRead (text ++ front) now
   pub read : (text : List ℕ) × HasRead text now
-  pub less : 0 < length front → bytes_left now < bytes_left before
-  pub not_more : bytes_left now ≤ bytes_left before
+  pub less : 0 < length front → audit_bytes_left now < audit_bytes_left before
+  pub not_more : audit_bytes_left now ≤ audit_bytes_left before
 
 -- nothing is used yet
-pub begun : (audit : Auditing) (piece : List ℕ) → IsGoing audit → ((text : List ℕ) × HasRead text audit) → IsFeeding audit audit piece piece
+pub begun : (audit : Auditing) (piece : List ℕ) → IsOngoingAudit audit → ((text : List ℕ) × HasRead text audit) → IsFeeding audit audit piece piece
 begun audit piece going read = record {
   front = [];
   whole = refl;
@@ -30,9 +30,9 @@ begun audit piece going read = record {
 }
 
 -- one more line, or the rest, is used
-pub more : {before now : Auditing} {piece rest : List ℕ} (new : Auditing) (used : ℕ) → IsFeeding before now piece rest → IsGoing new →
+pub more : {before now : Auditing} {piece rest : List ℕ} (new : Auditing) (used : ℕ) → IsFeeding before now piece rest → IsOngoingAudit new →
     new.checker.net ≡ now.checker.net → ((text : List ℕ) → HasRead text now → HasRead (text ++ take used rest) new) →
-    bytes_left new < bytes_left now → IsFeeding before new piece (drop used rest)
+    audit_bytes_left new < audit_bytes_left now → IsFeeding before new piece (drop used rest)
 more {before} {now} {piece} {rest} new used h going net goes_on less = record {
   front = h.front ++ take used rest;
   whole = h.whole ∙ ap (λ t. h.front ++ t) (sym (take-append-drop used rest)) ∙ sym (append_assoc h.front (take used rest) (drop used rest));
@@ -61,5 +61,5 @@ front_is_all {piece = piece} {rest = rest} h none = sym (append-nil h.front) ∙
 pub ended : {before now : Auditing} {piece rest : List ℕ} → IsFeeding before now piece rest → length rest ≡ 0 → ((text : List ℕ) → HasRead text before → HasRead (text ++ piece) now)
 ended {before} {now} {piece} {rest} h none text read = subst (λ t. HasRead (text ++ t) now) (front_is_all h none) (h.goes_on text read)
 
-pub ended_less : {before now : Auditing} {piece rest : List ℕ} → IsFeeding before now piece rest → length rest ≡ 0 → 0 < length piece → bytes_left now < bytes_left before
+pub ended_less : {before now : Auditing} {piece rest : List ℕ} → IsFeeding before now piece rest → length rest ≡ 0 → 0 < length piece → audit_bytes_left now < audit_bytes_left before
 ended_less {before} {now} {piece} {rest} h none some = h.less (omega (arith, ap length (front_is_all h none), some))

@@ -9,7 +9,7 @@ use Rattle.pc_model.proofs.Sums.{sum_to-same}
 use Rattle.pc_crash.specs.inside.KneeLists.{AreKneesOf}
 use Rattle.pc_check.specs.Known.{each_below, some_below}
 use Rattle.pc_check.specs.KneeTests.{is_slack_at_knee}
-use Rattle.pc_check.specs.inside.KneeTests.{is_within_capacity_over, is_slack_over, rises_over}
+use Rattle.pc_check.specs.inside.KneeTests.{is_within_capacity_over, is_slack_over, knee_rises_over}
 use Rattle.pc_check.proofs.BelowLaws.{each_below-same, some_below-same}
 
 module _ (knees : Knees) (a : ℕ) (list : List Knee) (are : AreKneesOf knees a list) where
@@ -36,8 +36,8 @@ module _ (knees : Knees) (a : ℕ) (list : List Knee) (are : AreKneesOf knees a 
       (λ k. is_slack_at_knee head tail (knees.knee a k) (knees.rise a k) (slice_index flows k))
       && (not (nat_lt (tail + crash) head) || slice_index flows n == 0)) are.count
 
-  pub rises_over-list : (head tail : ℕ) → rises_over head tail list ≡ sum_to (knees.count a) (λ k. if nat_lt head (tail + knees.knee a k) then knees.rise a k else 0)
-  rises_over-list head tail =
+  pub knee_rises_over-list : (head tail : ℕ) → knee_rises_over head tail list ≡ sum_to (knees.count a) (λ k. if nat_lt head (tail + knees.knee a k) then knees.rise a k else 0)
+  knee_rises_over-list head tail =
       sum_to-same (length list) (λ k. if nat_lt head (tail + (knee_at list k).at) then (knee_at list k).rise else 0)
       (λ k. if nat_lt head (tail + knees.knee a k) then knees.rise a k else 0) (λ k lt. rw (are.at k lt, are.rise k lt) refl)
       ∙ ap (λ n. sum_to n (λ k. if nat_lt head (tail + knees.knee a k) then knees.rise a k else 0)) are.count

@@ -23,12 +23,12 @@ use Rattle.pc_check.specs.inside.KneeTests.{flow_sum}
 use Rattle.pc_check.specs.Segments.{segment_in, stops_in}
 use Rattle.pc_check.specs.Said.{flow_along, flow_at, spent_in, forward_by, backward_by, said}
 use Rattle.pc_check.specs.declared.fast.passed.Passed.{Passed}
-use Rattle.pc_check.specs.inside.fast.Passed.{flow_of, cost_of}
+use Rattle.pc_check.specs.inside.fast.Passed.{passed_flow, passed_cost}
 use Rattle.pc_check.specs.Conditions.{conditions}
 use Rattle.pc_check.specs.Failures.{first_failing, reason_at}
 use Rattle.pc_check.specs.inside.Safe.{AreSums, IsSafe, IsBegun, AddsAct}
 use Rattle.pc_check.specs.Walks.{length_in, stepped, walked, at_start}
-use Rattle.pc_check.specs.inside.Advances.{AddsStep, AddsEvent, Adds}
+use Rattle.pc_check.specs.inside.Advances.{AddsStep, AddsEvent, AddsToKept}
 use Rattle.pc_check.specs.inside.Checking.{IsKept, IsTallied}
 use Rattle.pc_check.proofs.Drafts.{begun_part, with_step, with_event, with_act, outline}
 use Rattle.pc_check.proofs.BelowLaws.{some_below-same}
@@ -63,18 +63,18 @@ flows_come net part tally event_of sums all k are e lt =
     let rows = tally.rows.items in
     let here : ltb e net.network.events ≡ true = lt-ltb e net.network.events lt in
     are e lt
-    ∙ ap (λ n. sum_to n (λ a. if event_of a == e then flow_of rows a else 0)) (sym all)
-    ∙ sum_to-same (length part.acts) (λ a. if event_of a == e then flow_of rows a else 0)
+    ∙ ap (λ n. sum_to n (λ a. if event_of a == e then passed_flow rows a else 0)) (sym all)
+    ∙ sum_to-same (length part.acts) (λ a. if event_of a == e then passed_flow rows a else 0)
     (λ a. if event_of a == e then flow_along net part a else 0) (λ a below. ap (λ x. if event_of a == e then x else 0) (k.flows a below))
     ∙ ap (λ b. cond b (sum_to (length part.acts) (λ a. if event_of a == e then flow_along net part a else 0)) 0) (sym here)
 
 -- and so is the cost
 spent_come : (net : PricedNetwork) (part : Part) (tally : Tally) → length part.acts ≡ length net.network.arcs → IsTallied net part tally →
-    tally.spent ≡ sum_to (length net.network.arcs) (cost_of tally.rows.items) → tally.spent ≡ spent_in net part
+    tally.spent ≡ sum_to (length net.network.arcs) (passed_cost tally.rows.items) → tally.spent ≡ spent_in net part
 spent_come net part tally all k is =
     is
-    ∙ ap (λ n. sum_to n (cost_of tally.rows.items)) (sym all)
-    ∙ sum_to-same (length part.acts) (cost_of tally.rows.items) (λ a. activity_cost net.terms (knees_in net) a ((segment_in net part).duration a)) k.costs
+    ∙ ap (λ n. sum_to n (passed_cost tally.rows.items)) (sym all)
+    ∙ sum_to-same (length part.acts) (passed_cost tally.rows.items) (λ a. activity_cost net.terms (knees_in net) a ((segment_in net part).duration a)) k.costs
 
 -- the state, with these sums of flows and of the cost
 abbrev known_with : Kept → (ℕ → ℕ) → (ℕ → ℕ) → ℕ → Known
@@ -261,21 +261,21 @@ module _ (net : PricedNetwork) (part : Part) (row : ActRow) where
   grown_cases a below last earlier = ⊎_elim last (λ other. earlier (omega (arith, below, grown, other)) other) (cases_eq a (length part.acts))
 
   flows_grown : (old new : Tally) (a : ℕ) → length row.flows ≡ (knees_in net).count (length part.acts) + 1 → old.acts ≡ length part.acts →
-      ((b : ℕ) → b < length part.acts → flow_of old.rows.items b ≡ flow_along net part b) → AddsAct net old row.duration row.flows new →
-      a < length (part.acts ++ row ∷ []) → flow_of new.rows.items a ≡ flow_along net (with_act part row) a
+      ((b : ℕ) → b < length part.acts → passed_flow old.rows.items b ≡ flow_along net part b) → AddsAct net old row.duration row.flows new →
+      a < length (part.acts ++ row ∷ []) → passed_flow new.rows.items a ≡ flow_along net (with_act part row) a
   flows_grown old new a long acts before added below =
       grown_cases a below
-      (λ last. ap (flow_of new.rows.items) (last ∙ sym acts) ∙ added.row.flow ∙ sym (flow_along-last long) ∙ ap (flow_along net (with_act part row)) (sym last))
+      (λ last. ap (passed_flow new.rows.items) (last ∙ sym acts) ∙ added.row.flow ∙ sym (flow_along-last long) ∙ ap (flow_along net (with_act part row)) (sym last))
       (λ earlier other. ap (λ (r : Passed). r.flow) (added.row.others a (λ q. other (q ∙ acts))) ∙ before a earlier ∙ sym (flow_along-earlier a earlier))
 
   costs_grown : (old new : Tally) (a : ℕ) → old.acts ≡ length part.acts →
-      ((b : ℕ) → b < length part.acts → cost_of old.rows.items b ≡ activity_cost net.terms (knees_in net) b (act_at part.acts b).duration) →
+      ((b : ℕ) → b < length part.acts → passed_cost old.rows.items b ≡ activity_cost net.terms (knees_in net) b (act_at part.acts b).duration) →
       AddsAct net old row.duration row.flows new → a < length (part.acts ++ row ∷ [])
-      → cost_of new.rows.items a ≡ activity_cost net.terms (knees_in net) a (act_at (part.acts ++ row ∷ []) a).duration
+      → passed_cost new.rows.items a ≡ activity_cost net.terms (knees_in net) a (act_at (part.acts ++ row ∷ []) a).duration
   costs_grown old new a acts before added below =
       grown_cases a below
       (λ last.
-      ap (cost_of new.rows.items) (last ∙ sym acts) ∙ added.row.cost ∙ ap (λ b. activity_cost net.terms (knees_in net) b row.duration) acts
+      ap (passed_cost new.rows.items) (last ∙ sym acts) ∙ added.row.cost ∙ ap (λ b. activity_cost net.terms (knees_in net) b row.duration) acts
       ∙ ap (λ (r : ActRow). activity_cost net.terms (knees_in net) (length part.acts) r.duration) (sym at_last)
       ∙ ap (λ b. activity_cost net.terms (knees_in net) b (act_at (part.acts ++ row ∷ []) b).duration) (sym last))
       (λ earlier other.
@@ -344,7 +344,8 @@ IsReady net (Event code time moves) draft = length draft.part.acts ≡ 0
 IsReady net (Act code duration flows) draft = length flows ≡ (knees_in net).count (length draft.part.acts) + 1
 IsReady net other draft = Unit {0}
 
-pub kept_more : (net : PricedNetwork) (draft : Draft) (line : CertLine) (old new : Kept) → IsReady net line draft → IsKept net draft old → Adds net line old new → IsKept net (with_line draft line) new
+pub kept_more : (net : PricedNetwork) (draft : Draft) (line : CertLine) (old new : Kept) → IsReady net line draft → IsKept net draft old → AddsToKept net line old new → IsKept net
+    (with_line draft line) new
 kept_more net draft (Head version project events activities) old new ready k added = kept_same net draft old new added k
 kept_more net draft Normal old new ready k added = kept_same net draft old new added k
 kept_more net draft (Step code) old new ready k added = kept_step net draft code draft.crash_walk_started old new (sym k.crash_walk_started) k added

@@ -12,7 +12,7 @@ use Rattle.pc_check.specs.declared.checker.Verdict.{Verdict}
 use Rattle.pc_check.specs.Texts.{IsFailing, Finds}
 use Rattle.pc_check.specs.declared.checker.Verdict.TheVariants.{Yes, No}
 use Rattle.pc_check.specs.inside.Certified.{OnYes}
-use Rattle.pc_check.specs.inside.Auditing.{Auditing, HasRead, IsGoing, bytes_left}
+use Rattle.pc_check.specs.inside.Auditing.{Auditing, HasRead, IsOngoingAudit, audit_bytes_left}
 use Rattle.pc_check.specs.Stops.{HasNoFailure, IsSettled, IsUnsettled}
 use Rattle.pc_check.proofs.AuditLaws.{reading, checking}
 use Rattle.pc_check.proofs.PieceLaws.{CameIn-pulls}
@@ -35,7 +35,7 @@ on_any (No line reason) P is = tt
 -- ---- between two pulls
 
 -- nothing fails in what was read
-no_failure : (audit : Auditing) (text : List ℕ) → IsGoing audit → HasRead text audit → HasNoFailure audit.checker.net text
+no_failure : (audit : Auditing) (text : List ℕ) → IsOngoingAudit audit → HasRead text audit → HasNoFailure audit.checker.net text
 no_failure audit text going h =
     let read = reading audit.reader h.lines text going.well_formed h.read in
     let checked = checking audit.checker h.lines going.no_fail h.checked in
@@ -57,12 +57,12 @@ pub record IsPulling {X : Type 0} (left : X → Option (List ℕ)) (faults : X �
   pub came : CameIn left faults pulls pieces text old mid
   pub no_fault : faults mid ≡ faults old
   pub read : HasRead text now
-  pub going : IsGoing now
+  pub going : IsOngoingAudit now
   pub net : now.checker.net ≡ before.checker.net
-  pub fewer : length pieces + bytes_left now ≤ bytes_left before
+  pub fewer : length pieces + audit_bytes_left now ≤ audit_bytes_left before
 
 -- nothing is pulled yet
-pub none_pulled : {X : Type 0} (left : X → Option (List ℕ)) (faults : X → ℕ) (pulls : X → Option ℕ) (old : X) (audit : Auditing) → HasRead [] audit → IsGoing audit
+pub none_pulled : {X : Type 0} (left : X → Option (List ℕ)) (faults : X → ℕ) (pulls : X → Option ℕ) (old : X) (audit : Auditing) → HasRead [] audit → IsOngoingAudit audit
     → IsPulling left faults pulls old old audit audit
 none_pulled left faults pulls old audit read going = record {
   pieces = [];
@@ -88,8 +88,8 @@ module _ {X : Type 0} (left : X → Option (List ℕ)) (faults : X → ℕ) (pul
 
   -- one more piece is pulled and used
   pub piece_pulled : (after : Auditing) (piece : List ℕ) → Consumes (left mid) (left new) piece → faults new ≡ faults mid → TakesPulls 1 (pulls mid) (pulls new) → 0 < length piece
-      → IsGoing after → after.checker.net ≡ now.checker.net → ((text : List ℕ) → HasRead text now → HasRead (text ++ piece) after) →
-      (0 < length piece → bytes_left after < bytes_left now) → IsPulling left faults pulls old new before after
+      → IsOngoingAudit after → after.checker.net ≡ now.checker.net → ((text : List ℕ) → HasRead text now → HasRead (text ++ piece) after) →
+      (0 < length piece → audit_bytes_left after < audit_bytes_left now) → IsPulling left faults pulls old new before after
   piece_pulled after piece pulled quiet once some going net goes_on less = record {
     pieces = h.pieces ++ piece ∷ [];
     text = h.text ++ piece;
@@ -102,9 +102,9 @@ module _ {X : Type 0} (left : X → Option (List ℕ)) (faults : X → ℕ) (pul
   }
 
   -- the pulls so far and one more
-  pub pulls_and_one : TakesPulls 1 (pulls mid) (pulls new) → TakesPulls (bytes_left before + 1) (pulls old) (pulls new)
+  pub pulls_and_one : TakesPulls 1 (pulls mid) (pulls new) → TakesPulls (audit_bytes_left before + 1) (pulls old) (pulls new)
   pulls_and_one once =
-      TakesPulls-more (length h.pieces + 1) (bytes_left before + 1) (pulls old) (pulls new) (omega (arith, h.fewer))
+      TakesPulls-more (length h.pieces + 1) (audit_bytes_left before + 1) (pulls old) (pulls new) (omega (arith, h.fewer))
       (TakesPulls-then (length h.pieces) 1 (pulls old) (pulls mid) (pulls new) (CameIn-pulls left faults pulls h.pieces h.text old mid h.came) once)
 
   -- the source is at its end, and the text is found to be this

@@ -10,7 +10,7 @@ use Rattle.pc_model.specs.Walk.{from_of, to_of}
 use Rattle.pc_crash.specs.Priced.{PricedNetwork, knees_in}
 use Rattle.pc_laws.specs.Segment.{Segment, span, head_at, tail_at, is_forward, is_backward}
 use Rattle.pc_check.specs.Conditions.{has_room, is_slack, is_slack_in}
-use Rattle.pc_check.specs.inside.Crossings.{IsCrossing, IsStill}
+use Rattle.pc_check.specs.inside.Crossings.{IsCrossing, EndsMoveAlike}
 use Rattle.pc_check.specs.declared.gaps.Crossing.{Crossing}
 use Rattle.pc_check.specs.Known.{each_below, some_below}
 use Rattle.pc_check.specs.KneeTests.{is_slack_at_knee}
@@ -61,7 +61,7 @@ alike false false x y span same = record { by = 0; head_is = omega arith; tail_i
 alike true false x y span same = absurd cc
 alike false true x y span same = absurd cc
 
-grows_alike : (arcs : List Arc) (seg : Segment) (a : ℕ) → IsStill arcs seg.moves a →
+grows_alike : (arcs : List Arc) (seg : Segment) (a : ℕ) → EndsMoveAlike arcs seg.moves a →
     GrowsAlike (head_at arcs seg 0 a) (head_at arcs seg (span seg) a) (tail_at arcs seg 0 a) (tail_at arcs seg (span seg) a)
 grows_alike arcs seg a still = alike (seg.moves (from_of arcs a)) (seg.moves (to_of arcs a)) (seg.time (from_of arcs a)) (seg.time (to_of arcs a)) (span seg) still
 
@@ -80,7 +80,7 @@ and_itself : (b other : Bool) → other ≡ b → b ≡ (b && other)
 and_itself true other same = sym same
 and_itself false other same = refl
 
-pub still_slack : (net : PricedNetwork) (seg : Segment) (a : ℕ) (flows : List ℕ) → IsStill net.network.arcs seg.moves a →
+pub still_slack : (net : PricedNetwork) (seg : Segment) (a : ℕ) (flows : List ℕ) → EndsMoveAlike net.network.arcs seg.moves a →
     is_slack net seg 0 a flows ≡ (is_slack net seg 0 a flows && is_slack net seg (span seg) a flows)
 still_slack net seg a flows still =
     let grows = grows_alike net.network.arcs seg a still in
@@ -91,7 +91,8 @@ still_slack net seg a flows still =
     ∙ ap (λ t. is_slack_in net (head + grows.by) t a flows) grows.tail_is
     ∙ slack_shift net a head tail grows.by flows)
 
-pub still_room : (net : PricedNetwork) (seg : Segment) (a : ℕ) → IsStill net.network.arcs seg.moves a → has_room net seg 0 a ≡ true → (has_room net seg 0 a && has_room net seg (span seg) a) ≡ true
+pub still_room : (net : PricedNetwork) (seg : Segment) (a : ℕ) → EndsMoveAlike net.network.arcs seg.moves a → has_room net seg 0 a ≡ true → (has_room net seg 0 a && has_room net seg (span seg) a)
+    ≡ true
 still_room net seg a still room =
     let grows = grows_alike net.network.arcs seg a still in
     let enough = leb-true (tail_at net.network.arcs seg 0 a + crash_of net.terms a) (head_at net.network.arcs seg 0 a) room in
@@ -125,7 +126,7 @@ same_bits true false p q = absurd cc
 same_bits false true p q = absurd cc
 
 -- an activity that crosses neither way
-pub stands_still : (arcs : List Arc) (seg : Segment) (a : ℕ) (crossing : Crossing) → IsCrossing arcs seg a crossing → (crossing.forward || crossing.backward) ≡ false → IsStill arcs seg.moves a
+pub stands_still : (arcs : List Arc) (seg : Segment) (a : ℕ) (crossing : Crossing) → IsCrossing arcs seg a crossing → (crossing.forward || crossing.backward) ≡ false → EndsMoveAlike arcs seg.moves a
 stands_still arcs seg a crossing is still =
     let parts = or_parts crossing.forward crossing.backward still in
     same_bits (seg.moves (from_of arcs a)) (seg.moves (to_of arcs a)) (sym is.forward ∙ parts.0) (sym is.backward ∙ parts.1)
@@ -136,10 +137,10 @@ neither false false same = (refl, refl)
 neither true false same = absurd cc
 neither false true same = absurd cc
 
-pub rests : (arcs : List Arc) (seg : Segment) (a : ℕ) → IsStill arcs seg.moves a → (is_forward arcs seg.moves a ≡ false) × (is_backward arcs seg.moves a ≡ false)
+pub rests : (arcs : List Arc) (seg : Segment) (a : ℕ) → EndsMoveAlike arcs seg.moves a → (is_forward arcs seg.moves a ≡ false) × (is_backward arcs seg.moves a ≡ false)
 rests arcs seg a still = neither (seg.moves (from_of arcs a)) (seg.moves (to_of arcs a)) still
 
-pub no_stop_in : (net : PricedNetwork) (seg : Segment) (a : ℕ) → IsStill net.network.arcs seg.moves a → stops_in net seg a ≡ false
+pub no_stop_in : (net : PricedNetwork) (seg : Segment) (a : ℕ) → EndsMoveAlike net.network.arcs seg.moves a → stops_in net seg a ≡ false
 no_stop_in net seg a still =
     let parts = rests net.network.arcs seg a still in
     let none : some_below ((knees_in net).count a) (stops_at_knee_in net seg a) ≡ false =

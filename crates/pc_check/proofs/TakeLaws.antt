@@ -19,7 +19,7 @@ use Rattle.pc_check.specs.Failures.{first_failing, reason_at, or_later, failure_
 use Rattle.pc_check.specs.inside.Kept.{known_by}
 use Rattle.pc_check.specs.inside.Bounds.{IsBounded}
 use Rattle.pc_check.specs.inside.Advances.{Advances, moved_on}
-use Rattle.pc_check.specs.inside.Checking.{IsKept, IsGoing, Stands}
+use Rattle.pc_check.specs.inside.Checking.{IsKept, HasCheckedLines, HasCheckedOrFailed}
 use Rattle.pc_check.specs.inside.Safe.{IsSafe}
 use Rattle.pc_check.proofs.ReasonLaws.{holds_first}
 use Rattle.pc_check.proofs.BoundLaws.{Passes, event_first, all_come, lines_kept}
@@ -54,8 +54,8 @@ reason_is net lines line kept behind safe bounded goes k =
 
 -- a line that does not fail
 pub goes_on : {net : PricedNetwork} {lines : List CertLine} {old new : Kept} (line : CertLine) → IsSafe net old.tally → IsBounded net old →
-    None ≡ first_failing (conditions net (known_by old) line) → Advances net line old new → IsGoing net old lines →
-    IsGoing net new (lines ++ line ∷ [])
+    None ≡ first_failing (conditions net (known_by old) line) → Advances net line old new → HasCheckedLines net old lines →
+    HasCheckedLines net new (lines ++ line ∷ [])
 goes_on {net} {lines} {old} {new} line safe bounded reason a h =
     let passes : Passes net line old new.place = record { goes = a.goes; passes = sym reason } in
     let before = kept_more net (draft_of lines) line old a.between (ready net (draft_of lines) line old new.place bounded h.keeps passes) h.keeps a.added in
@@ -70,7 +70,7 @@ goes_on {net} {lines} {old} {new} line safe bounded reason a h =
 -- a line that fails
 pub fails : {net : PricedNetwork} {lines : List CertLine} {kept : Kept} (line : CertLine) (behind : Place) (reason number : ℕ) →
     IsSafe net kept.tally → IsBounded net kept → next kept.place line ≡ Some behind →
-    Some reason ≡ first_failing (conditions net (known_by kept) line) → number ≡ kept.lines + 1 → IsGoing net kept lines →
+    Some reason ≡ first_failing (conditions net (known_by kept) line) → number ≡ kept.lines + 1 → HasCheckedLines net kept lines →
     failure_of net (lines ++ line ∷ []) ≡ Some (record { line = number; reason = reason })
 fails {net} {lines} {kept} line behind reason number safe bounded goes found is h =
     failure_of-next net lines line h.none
@@ -79,22 +79,22 @@ fails {net} {lines} {kept} line behind reason number safe bounded goes found is 
 
 -- a failure that is stored
 pub stays : (net : PricedNetwork) (kept : Kept) (found : Option Fail) (lines : List CertLine) (line : CertLine) (fail : Fail) →
-    found ≡ Some fail → Stands net kept found lines → Stands net kept found (lines ++ line ∷ [])
+    found ≡ Some fail → HasCheckedOrFailed net kept found lines → HasCheckedOrFailed net kept found (lines ++ line ∷ [])
 stays net kept found lines line fail is h =
-    subst (λ f. Stands net kept f (lines ++ line ∷ [])) (sym is) (failure_of-more net lines (line ∷ []) fail (subst (λ f. Stands net kept f lines) is h))
+    subst (λ f. HasCheckedOrFailed net kept f (lines ++ line ∷ [])) (sym is) (failure_of-more net lines (line ∷ []) fail (subst (λ f. HasCheckedOrFailed net kept f lines) is h))
 
 -- if the line is not allowed, a failure is stored
 pub stays_failed : (net : PricedNetwork) (kept : Kept) (found : Option Fail) (lines : List CertLine) (line : CertLine) →
-    IfNone found (IsSome (next kept.place line)) → next kept.place line ≡ None → Stands net kept found lines → Stands net kept found (lines ++ line ∷ [])
+    IfNone found (IsSome (next kept.place line)) → next kept.place line ≡ None → HasCheckedOrFailed net kept found lines → HasCheckedOrFailed net kept found (lines ++ line ∷ [])
 stays_failed net kept None lines line allowed none h = absurd (let e : false ≡ true = subst (λ behind. IsSome behind) none allowed in cc)
 stays_failed net kept (Some fail) lines line allowed none h = failure_of-more net lines (line ∷ []) fail h
 
 -- none is stored
-pub is_going : (net : PricedNetwork) (kept : Kept) (found : Option Fail) (lines : List CertLine) → found ≡ None → Stands net kept found lines → IsGoing net kept lines
-is_going net kept found lines none h = subst (λ f. Stands net kept f lines) none h
+pub is_going : (net : PricedNetwork) (kept : Kept) (found : Option Fail) (lines : List CertLine) → found ≡ None → HasCheckedOrFailed net kept found lines → HasCheckedLines net kept lines
+is_going net kept found lines none h = subst (λ f. HasCheckedOrFailed net kept f lines) none h
 
-pub still_going : (net : PricedNetwork) (kept : Kept) (found : Option Fail) (lines : List CertLine) → found ≡ None → IsGoing net kept lines → Stands net kept found lines
-still_going net kept found lines none h = subst (λ f. Stands net kept f lines) (sym none) h
+pub still_going : (net : PricedNetwork) (kept : Kept) (found : Option Fail) (lines : List CertLine) → found ≡ None → HasCheckedLines net kept lines → HasCheckedOrFailed net kept found lines
+still_going net kept found lines none h = subst (λ f. HasCheckedOrFailed net kept f lines) (sym none) h
 
 pub when_none : {P : Type 0} (found : Option Fail) → found ≡ None → IfNone found P → P
 when_none None none h = h

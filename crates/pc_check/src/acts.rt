@@ -5,7 +5,7 @@ ghost use Rattle.pc_check.specs.inside.KneeTests.{
   is_within_capacity_over,
   is_slack_over,
   is_still_over,
-  rises_over,
+  knee_rises_over,
   stops_over,
   stops_at_knee_over,
   flow_sum,
@@ -78,7 +78,7 @@ pub(crate) fn flow_sum(flows: &[u64]) -> u128
 pub(crate) fn rises_over(gap: Gap, knees: &[Knee]) -> u128
     requires few { length knees.now ≤ 5 }
     requires small { gap.tail < 2 ^ 65 }
-    ensures sum { result ≡ rises_over gap.head gap.tail knees.now }
+    ensures sum { result ≡ knee_rises_over gap.head gap.tail knees.now }
     ensures small { result < 2 ^ 67 }
 {
     let mut sum = 0;

@@ -18,7 +18,7 @@ ghost use Rattle.std.specs.Prelude.{
 };
 ghost use Rattle.pc_cert.specs.Grammar.{next};
 ghost use Rattle.pc_cert.specs.declared.line.CertLine.TheVariants.{Step, Act};
-ghost use Rattle.pc_check.specs.inside.Advances.{Adds, AddsStep, Advances};
+ghost use Rattle.pc_check.specs.inside.Advances.{AddsToKept, AddsStep, Advances};
 ghost use Rattle.pc_check.specs.inside.Bounds.{IsBounded, lines_left};
 ghost use Rattle.pc_check.specs.Conditions.{conditions};
 ghost use Rattle.pc_check.specs.Failures.{first_failing};
@@ -86,7 +86,7 @@ fn judge(
     requires fits { first_failing (conditions net.now (known_by kept.old) line.now) ≡ None →
         MayBeAdded net.now line.now kept.old }
     ensures reason { reason_of result ≡ first_failing (conditions net.now (known_by kept.old) line.now) }
-    ensures added { IfNone result (Adds net.now line.now kept.old kept.new) }
+    ensures added { IfNone result (AddsToKept net.now line.now kept.old kept.new) }
     ensures same { OnSome result (kept.new ≡ kept.old) }
     ensures safe { IsSafe net.now kept.new.tally }
 {
@@ -120,7 +120,7 @@ fn judge_act(
     requires known { known.now.line ≡ Some (Act code.now duration flows.now) }
     ensures reason { reason_of result ≡
         first_failing (conditions net.now (known_by kept.old) (Act code.now duration flows.now)) }
-    ensures added { IfNone result (Adds net.now (Act code.now duration flows.now) kept.old kept.new) }
+    ensures added { IfNone result (AddsToKept net.now (Act code.now duration flows.now) kept.old kept.new) }
     ensures same { OnSome result (kept.new ≡ kept.old) }
     ensures safe { IsSafe net.now kept.new.tally }
 {
@@ -144,7 +144,7 @@ fn add(net: &CrashNet<'_>, kept: &mut Kept, line: &CertLine)
     requires safe { IsSafe net.now kept.old.tally }
     requires other { IsAct line.now → ⊥ }
     requires fits { MayBeAdded net.now line.now kept.old }
-    ensures added { Adds net.now line.now kept.old kept.new }
+    ensures added { AddsToKept net.now line.now kept.old kept.new }
     ensures safe { IsSafe net.now kept.new.tally }
 {
     match line {

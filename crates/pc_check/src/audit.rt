@@ -18,7 +18,7 @@ ghost use Rattle.std.specs.Prelude.{
 };
 ghost use Rattle.pc_check.specs.Texts.{IsFailing, Finds};
 ghost use Rattle.pc_check.specs.Auditing.{most_bytes};
-ghost use Rattle.pc_check.specs.inside.Auditing.{HasRead, HasUsed, IsGoing, MayUse, bytes_left};
+ghost use Rattle.pc_check.specs.inside.Auditing.{HasRead, HasUsed, IsOngoingAudit, MayUse, audit_bytes_left};
 ghost use Rattle.std.specs.Io.KnownBytes.{IsAtEnd};
 ghost use Rattle.pc_edges.specs.Faults.{Rose};
 ghost use Rattle.pc_edges.specs.Pulls.{TakesPulls};
@@ -61,9 +61,9 @@ impl<'n> Audit<'n> {
     /// `AllocError` if out of memory.
     pub fn build(alloc: Global, net: &'n CrashNet<'n>) -> Result<Audit<'n>, AllocError>
         ensures read { IfOk result (HasRead []) }
-        ensures going { IfOk result IsGoing }
+        ensures going { IfOk result IsOngoingAudit }
         ensures net { IfOk result (λ audit. audit.checker.net ≡ net.now) }
-        ensures left { IfOk result (λ audit. bytes_left audit ≤ most_bytes net.now) }
+        ensures left { IfOk result (λ audit. audit_bytes_left audit ≤ most_bytes net.now) }
     {
         Ok(Audit {
             reader: CertReader::begin(),
@@ -77,14 +77,14 @@ impl<'n> Audit<'n> {
     /// It is the first failure of the text, however the text continues. Its reason is 0 if the line is malformed.
     pub fn feed(&mut self, piece: &[u8]) -> Option<Fail>
         requires read { (text : List ℕ) × HasRead text self.old }
-        requires going { IsGoing self.old }
+        requires going { IsOngoingAudit self.old }
         ensures goes_on { IfNone result ((text : List ℕ) → HasRead text self.old →
             HasRead (text ++ piece.now) self.new) }
-        ensures going { IfNone result (IsGoing self.new) }
+        ensures going { IfNone result (IsOngoingAudit self.new) }
         ensures fails { IfSome result (λ fail. (text more : List ℕ) → HasRead text self.old →
             IsFailing self.old.checker.net (text ++ (piece.now ++ more)) fail) }
         ensures net { self.new.checker.net ≡ self.old.checker.net }
-        ensures left { IfNone result (0 < length piece.now → bytes_left self.new < bytes_left self.old) }
+        ensures left { IfNone result (0 < length piece.now → audit_bytes_left self.new < audit_bytes_left self.old) }
     {
         let mut rest = piece;
         while !rest.is_empty() {
@@ -136,7 +136,7 @@ impl<'n> Audit<'n> {
     /// Returns the verdict on the text, which was read to its end.
     pub fn finish(self) -> Verdict
         requires read { (text : List ℕ) × HasRead text self }
-        requires going { IsGoing self }
+        requires going { IsOngoingAudit self }
         ensures { (text : List ℕ) → HasRead text self.entry → Finds self.entry.checker.net text result }
     {
         match self.reader.finish() {
@@ -222,7 +222,7 @@ fn audit_by<C: Source>(
 ) -> Result<Verdict, AuditError>
     requires room { length buffer.old ≡ STREAM_ROOM }
     requires read { HasRead [] audit }
-    requires going { IsGoing audit }
+    requires going { IsOngoingAudit audit }
     ensures finds { IfOk result (λ verdict. IfSome (C.left source.old)
         (λ text. Finds audit.entry.checker.net text verdict)) }
     ensures stops { IfOk result (λ verdict. IsSettled audit.entry.checker.net verdict STREAM_ROOM C.left C.faults
@@ -234,7 +234,7 @@ fn audit_by<C: Source>(
         source.new) }
     ensures room { IsErrOf result AuditError.OutOfMemory → ⊥ }
     ensures count { C.faults source.old ≤ C.faults source.new }
-    ensures turns { TakesPulls (bytes_left audit.entry + 1) (C.pulls source.old) (C.pulls source.new) }
+    ensures turns { TakesPulls (audit_bytes_left audit.entry + 1) (C.pulls source.old) (C.pulls source.new) }
 {
     loop {
         let Ok(n) = source.pull(buffer) else {

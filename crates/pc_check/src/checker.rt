@@ -5,9 +5,9 @@ ghost use Rattle.pc_cert.specs.declared.line.CertLine.{CertLine};
 ghost use Rattle.pc_cert.specs.declared.place.Place.TheVariants.{Ended};
 ghost use Rattle.pc_check.specs.inside.Bounds.{lines_left};
 ghost use Rattle.pc_check.specs.Certified.{segments_of};
-ghost use Rattle.pc_check.specs.inside.Certified.{Finds, OnYes};
+ghost use Rattle.pc_check.specs.inside.Certified.{FindsInLines, OnYes};
 ghost use Rattle.pc_check.specs.Certified.{AreCurve};
-ghost use Rattle.pc_check.specs.inside.Checking.{StandsFor};
+ghost use Rattle.pc_check.specs.inside.Checking.{ChecksAs};
 ghost use Rattle.pc_check.specs.inside.fast.Along.{TakesAlong};
 ghost use Rattle.pc_check.specs.declared.checker.Fail.{Fail};
 
@@ -45,11 +45,11 @@ impl<'n> Model for Checker<'n> {
 
     ghost Value = { Checking };
 
-    ghost use Rattle.pc_check.specs.inside.Checkers.{checking, IsSound};
+    ghost use Rattle.pc_check.specs.inside.Checkers.{checking, IsSoundChecker};
 
     ghost view = { checking };
 
-    ghost invariant = { IsSound };
+    ghost invariant = { IsSoundChecker };
 }
 
 impl<'n> Checker<'n> {
@@ -60,7 +60,7 @@ impl<'n> Checker<'n> {
     ///
     /// `AllocError` if out of memory.
     pub fn begin(alloc: Global, net: &'n CrashNet<'n>) -> Result<Checker<'n>, AllocError>
-        ensures stands { IfOk result (λ checker. StandsFor checker []) }
+        ensures stands { IfOk result (λ checker. ChecksAs checker []) }
         ensures net { IfOk result (λ checker. checker.net ≡ net.now) }
         ensures no_fail { IfOk result (λ checker. checker.fail ≡ None) }
         ensures few { IfOk result (λ checker. checker.kept.lines < 2 ^ 63) }
@@ -79,7 +79,7 @@ impl<'n> Checker<'n> {
     /// events.
     pub fn take(&mut self, line: CertLine) -> Option<Fail>
         requires { IfNone self.old.fail (IsSome (next self.old.kept.place line)) }
-        ensures stands { (lines : List CertLine) → StandsFor self.old lines → StandsFor self.new (lines ++ line ∷ []) }
+        ensures stands { (lines : List CertLine) → ChecksAs self.old lines → ChecksAs self.new (lines ++ line ∷ []) }
         ensures fail { result ≡ self.new.fail }
         ensures again { (fail : Fail) → self.old.fail ≡ Some fail → self.new ≡ self.old }
         ensures net { self.new.net ≡ self.old.net }
@@ -103,8 +103,8 @@ impl<'n> Checker<'n> {
     ) -> Option<Fail>
         requires known { known.now.line ≡ Some line.now }
         requires goes { IfNone self.old.fail (next self.old.kept.place line.now ≡ Some behind) }
-        ensures stands { (lines : List CertLine) → StandsFor self.old lines →
-            StandsFor self.new (lines ++ line.now ∷ []) }
+        ensures stands { (lines : List CertLine) → ChecksAs self.old lines →
+            ChecksAs self.new (lines ++ line.now ∷ []) }
         ensures fail { result ≡ self.new.fail }
         ensures again { (fail : Fail) → self.old.fail ≡ Some fail → self.new ≡ self.old }
         ensures net { self.new.net ≡ self.old.net }
@@ -153,8 +153,8 @@ impl<'n> Checker<'n> {
     /// Certified lines prove the complete time-cost curve of the network, whoever wrote them.
     pub fn finish(self) -> Verdict
         requires { IfNone self.fail (self.kept.place ≡ Ended) }
-        ensures finds { (lines : List CertLine) → StandsFor self.entry lines → Finds self.entry.net lines result }
-        ensures curve { (lines : List CertLine) → StandsFor self.entry lines →
+        ensures finds { (lines : List CertLine) → ChecksAs self.entry lines → FindsInLines self.entry.net lines result }
+        ensures curve { (lines : List CertLine) → ChecksAs self.entry lines →
             OnYes result (AreCurve self.entry.net (segments_of self.entry.net lines)) }
     {
         // What is known of the network says that lines that do not fail show its curve.

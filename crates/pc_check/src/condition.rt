@@ -1,6 +1,6 @@
 //! The conditions of a certificate, and the numbers that report them.
 ghost use Rattle.std.specs.Prelude.{◌≡◌};
-ghost use Rattle.pc_check.specs.inside.Reasons.{number_of};
+ghost use Rattle.pc_check.specs.inside.Reasons.{number_of_condition};
 
 /// A condition of a certificate. Its number is the reason that a failure reports.
 #[derive(Clone, Copy)]
@@ -40,7 +40,7 @@ pub(crate) enum Condition {
 impl Condition {
     /// Returns the number that reports the condition, from 1 to 15.
     pub(crate) fn number(self) -> u8
-        ensures { result ≡ number_of self }
+        ensures { result ≡ number_of_condition self }
     {
         self as u8
     }

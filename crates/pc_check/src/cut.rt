@@ -1,8 +1,8 @@
 //! The cut of a segment: the sums over the activities that cross it, and what an activity adds to them.
 ghost use Rattle.std.specs.Prelude.{◌≡◌, ◌+◌, ◌^◌, ◌<◌, ◌≤◌, length, if◌then◌else◌};
 ghost use Rattle.pc_check.specs.inside.Kept.{stretch_of};
-ghost use Rattle.pc_check.specs.inside.Safe.{IsCutOf, joined, no_cut};
-ghost use Rattle.pc_check.specs.inside.KneeTests.{rises_over};
+ghost use Rattle.pc_check.specs.inside.Safe.{IsCutOf, joined_cuts, no_cut};
+ghost use Rattle.pc_check.specs.inside.KneeTests.{knee_rises_over};
 ghost use Rattle.pc_check.specs.inside.Crossings.{IsCrossing};
 
 use crate::acts::{rises_over, stops};
@@ -35,7 +35,7 @@ impl Cut {
     pub(crate) fn add(&mut self, more: &Cut)
         requires forward { self.old.forward + more.now.forward < 2 ^ 128 }
         requires backward { self.old.backward + more.now.backward < 2 ^ 128 }
-        ensures { self.new ≡ joined self.old more.now }
+        ensures { self.new ≡ joined_cuts self.old more.now }
     {
         self.forward += more.forward;
         self.backward += more.backward;
@@ -63,7 +63,7 @@ pub(crate) fn cut_of(net: &CrashNet<'_>, tally: &Tally, a: u32, crossing: &Cross
 fn rises_if(counts: bool, gap: Gap, knees: &[Knee]) -> u128
     requires few { length knees.now ≤ 5 }
     requires small { gap.tail < 2 ^ 65 }
-    ensures sum { result ≡ (if counts then rises_over gap.head gap.tail knees.now else 0) }
+    ensures sum { result ≡ (if counts then knee_rises_over gap.head gap.tail knees.now else 0) }
     ensures small { result < 2 ^ 67 }
 {
     if counts { rises_over(gap, knees) } else { 0 }

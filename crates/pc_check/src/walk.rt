@@ -2,7 +2,7 @@
 ghost use Rattle.std.specs.Prelude.{◌≡◌, ◌+◌, ◌^◌, ◌<◌, ◌≤◌, length};
 ghost use Rattle.pc_model.specs.declared.limits.TheConstants.{MAX_DURATION};
 ghost use Rattle.pc_check.specs.Walks.{length_in, further, stepped, is_through};
-ghost use Rattle.pc_check.specs.inside.Walks.{sum_of};
+ghost use Rattle.pc_check.specs.inside.Walks.{sum_of_reached};
 
 use pc_crash::CrashNet;
 use pc_model::MAX_DURATION;
@@ -23,9 +23,9 @@ pub(crate) fn stepped(
     code: &Code,
     is_crash: bool,
 ) -> Option<Reached>
-    requires { sum_of at + MAX_DURATION < 2 ^ 64 }
+    requires { sum_of_reached at + MAX_DURATION < 2 ^ 64 }
     ensures step { result ≡ stepped net.now (length_in net.now is_crash) at code.now }
-    ensures short { sum_of result ≤ sum_of at + MAX_DURATION }
+    ensures short { sum_of_reached result ≤ sum_of_reached at + MAX_DURATION }
 {
     let here = at?;
     // Each activity has one code, and no two have the same.
@@ -38,7 +38,7 @@ fn further(net: &CrashNet<'_>, here: Reached, a: u32, is_crash: bool) -> Option<
     requires known { a < length net.now.network.arcs }
     requires short { here.sum + MAX_DURATION < 2 ^ 64 }
     ensures step { result ≡ further net.now.network (length_in net.now is_crash) here a }
-    ensures short { sum_of result ≤ here.sum + MAX_DURATION }
+    ensures short { sum_of_reached result ≤ here.sum + MAX_DURATION }
 {
     if net.net().from(a) != here.event {
         return None;

@@ -17,7 +17,7 @@ use Rattle.pc_model.specs.Schedule.{term_at, AreTerms}
 use Rattle.pc_model.proofs.Sums.{sum_to-le, sum_to-most, sum_to-same, sum_to-times}
 use Rattle.pc_model.proofs.Costs.PieceLaws.{knee-normal, last_slope-pieces, pieces_fit}
 use Rattle.pc_crash.specs.inside.KneeLists.{AreKneesOf, AreSmallKnees}
-use Rattle.pc_crash.specs.inside.CrashNets.{IsWhole}
+use Rattle.pc_crash.specs.inside.CrashNets.{IsWholeNetwork}
 use Rattle.pc_crash.specs.Priced.{PricedNetwork, knees_in, ArePiecesWithinLimits}
 use Rattle.pc_crash.specs.Terms.{AreWithinLimits}
 
@@ -104,7 +104,8 @@ module _ (net : Network) (terms : List Term) (pieces : List PieceRow) (fit : Are
       last = omega (arith, last_slope-pieces terms pieces a right inside, slope_in-most (length own))
 
 -- the first k activities cost at most k times as much
-pub costs-most : (net : PricedNetwork) → IsWhole net → (durations : ℕ → ℕ) (k : ℕ) → k ≤ length net.terms → sum_to k (λ a. activity_cost net.terms (knees_in net) a (durations a)) ≤ k * 11000000000000
+pub costs-most : (net : PricedNetwork) → IsWholeNetwork net → (durations : ℕ → ℕ) (k : ℕ) → k ≤ length net.terms → sum_to k
+    (λ a. activity_cost net.terms (knees_in net) a (durations a)) ≤ k * 11000000000000
 costs-most net whole durations k within =
     sum_to-most k 11000000000000 (λ a. activity_cost net.terms (knees_in net) a (durations a))
     (λ a below. activity_cost-most net.network net.terms net.pieces whole.terms whole.limits whole.pieces whole.piece_limits a (omega arith) (durations a))

@@ -9,7 +9,7 @@ use Rattle.pc_crash.specs.declared.crash_net.CrashNet.TheInside.{Inside}
 use Rattle.pc_crash.specs.declared.price_table.PriceRow.{PriceRow}
 use Rattle.pc_crash.specs.inside.CrashNets.{priced_network, IsWholeInside}
 use Rattle.pc_crash.specs.inside.KneeLists.{AreKneesOf}
-use Rattle.pc_crash.specs.inside.Laid.{AreLaid, IsRowOf, part_of}
+use Rattle.pc_crash.specs.inside.Laid.{AreLaid, IsPriceRowOf, knees_of_row}
 use Rattle.pc_crash.specs.Priced.{PricedNetwork, knees_in}
 use Rattle.pc_crash.proofs.KneeListLaws.{AreKneesOf-knee_list}
 
@@ -19,10 +19,10 @@ rows-each s is = sym (length-map s.layout.rows.items (λ row. row.term)) ∙ is.
 
 -- the row of an activity as it is read
 pub row-read : (s : Inside) (a : ℕ) (row : PriceRow) → IsWholeInside s → a < length s.net.now.arcs → row ≡ get_or s.layout.rows.items a row →
-    IsRowOf s.net.now.arcs (priced_network s).terms s.pieces.items s.layout.knees.items a row
+    IsPriceRowOf s.net.now.arcs (priced_network s).terms s.pieces.items s.layout.knees.items a row
 row-read s a row is inside read =
     let here : a < length s.layout.rows.items = omega (arith, rows-each s is) in
-    subst (IsRowOf s.net.now.arcs (priced_network s).terms s.pieces.items s.layout.knees.items a)
+    subst (IsPriceRowOf s.net.now.arcs (priced_network s).terms s.pieces.items s.layout.knees.items a)
     (sym (get_or_read s.layout.rows.items a row here read (record { arc = record { from = 0; to = 0 }; term = record { normal = 0; crash = 0; cost = 0; slope = 0 }; first = 0; count = 0 })))
     (is.laid.each a here)
 
@@ -38,15 +38,15 @@ ends-within s net view is a known row read =
 
 -- the knees of a row are those of its activity
 pub knees-read : (s : Inside) (a : ℕ) (row : PriceRow) →
-    IsRowOf s.net.now.arcs (priced_network s).terms s.pieces.items s.layout.knees.items a row →
-    AreKneesOf (knees_in (priced_network s)) a (part_of s.layout.knees.items row)
+    IsPriceRowOf s.net.now.arcs (priced_network s).terms s.pieces.items s.layout.knees.items a row →
+    AreKneesOf (knees_in (priced_network s)) a (knees_of_row s.layout.knees.items row)
 knees-read s a row is = subst (AreKneesOf (knees_in (priced_network s)) a) (sym is.part) (AreKneesOf-knee_list (priced_network s).terms s.pieces.items a)
 
 -- what holds once an activity's row was read
 pub record IsRead (s : Inside) (a : ℕ) (row : PriceRow) : Type 0 where
   pub known : a < length (priced_network s).terms
-  pub is : IsRowOf s.net.now.arcs (priced_network s).terms s.pieces.items s.layout.knees.items a row
-  pub knees : AreKneesOf (knees_in (priced_network s)) a (part_of s.layout.knees.items row)
+  pub is : IsPriceRowOf s.net.now.arcs (priced_network s).terms s.pieces.items s.layout.knees.items a row
+  pub knees : AreKneesOf (knees_in (priced_network s)) a (knees_of_row s.layout.knees.items row)
 
 pub activity-read : (s : Inside) (a : ℕ) (row : PriceRow) → IsWholeInside s → a < length s.net.now.arcs → row ≡ get_or s.layout.rows.items a row → IsRead s a row
 activity-read s a row is known read =

@@ -12,7 +12,7 @@ use Rattle.pc_model.specs.Schedule.{term_at}
 use Rattle.pc_model.specs.Walk.{arc_at}
 use Rattle.pc_crash.specs.declared.price_table.PriceRow.{PriceRow}
 use Rattle.pc_crash.specs.inside.KneeLists.{knee_list}
-use Rattle.pc_crash.specs.inside.Laid.{AreLaid, IsRowOf, row_at}
+use Rattle.pc_crash.specs.inside.Laid.{AreLaid, IsPriceRowOf, price_row_at}
 
 -- a part of a list is the same after more is appended
 range-append : (items more : List Knee) (first count : ℕ) → first + count ≤ length items → slice_range (items ++ more) first (first + count) ≡ slice_range items first (first + count)
@@ -25,9 +25,9 @@ range_last items more first count begins counts =
     ap (take (first + count - first)) (drop_at items more first (sym begins)) ∙ take_all (first + count - first) more (omega arith)
 
 -- a row stays that of its activity when more knees are appended
-IsRowOf-append : (arcs : List Arc) (terms : List Term) (pieces : List PieceRow) (knees more : List Knee) (a : ℕ) (row : PriceRow) →
-    IsRowOf arcs terms pieces knees a row → IsRowOf arcs terms pieces (knees ++ more) a row
-IsRowOf-append arcs terms pieces knees more a row is = record {
+IsPriceRowOf-append : (arcs : List Arc) (terms : List Term) (pieces : List PieceRow) (knees more : List Knee) (a : ℕ) (row : PriceRow) →
+    IsPriceRowOf arcs terms pieces knees a row → IsPriceRowOf arcs terms pieces (knees ++ more) a row
+IsPriceRowOf-append arcs terms pieces knees more a row is = record {
   arc = is.arc;
   term = is.term;
   within = omega (arith, is.within, length-append knees more);
@@ -46,9 +46,10 @@ AreLaid-push arcs terms pieces n rows knees more row laid inside same_arc same_t
       ∙ ap (λ t. take n terms ++ t ∷ []) same_term ∙ sym (take_more terms n (record { normal = 0; crash = 0; cost = 0; slope = 0 }) inside);
   small = omega (arith, laid.small, length-append knees more);
   each = λ a below. ⊎_elim
-      (λ same. subst (λ b. IsRowOf arcs terms pieces (knees ++ more) b (row_at (rows ++ row ∷ []) b)) (sym same)
-      (subst (IsRowOf arcs terms pieces (knees ++ more) n) (sym (get_or_push rows row none n laid.one_each)) new))
-      (λ other. subst (IsRowOf arcs terms pieces (knees ++ more) a) (sym (kept a (omega arith))) (IsRowOf-append arcs terms pieces knees more a (row_at rows a) (laid.each a (omega arith))))
+      (λ same. subst (λ b. IsPriceRowOf arcs terms pieces (knees ++ more) b (price_row_at (rows ++ row ∷ []) b)) (sym same)
+      (subst (IsPriceRowOf arcs terms pieces (knees ++ more) n) (sym (get_or_push rows row none n laid.one_each)) new))
+      (λ other. subst (IsPriceRowOf arcs terms pieces (knees ++ more) a) (sym (kept a (omega arith)))
+      (IsPriceRowOf-append arcs terms pieces knees more a (price_row_at rows a) (laid.each a (omega arith))))
       (cases_eq a n);
   apart = λ a b order below. ⊎_elim
       (λ same. rw (kept a (omega arith), same, get_or_push rows row none n laid.one_each) (omega (arith, begins, (laid.each a (omega arith)).within)))
@@ -60,10 +61,10 @@ AreLaid-push arcs terms pieces n rows knees more row laid inside same_arc same_t
     none = record { arc = record { from = 0; to = 0 }; term = record { normal = 0; crash = 0; cost = 0; slope = 0 }; first = 0; count = 0 }
 
     -- the rows before are those that were there
-    kept : (a : ℕ) → a < n → row_at (rows ++ row ∷ []) a ≡ row_at rows a
+    kept : (a : ℕ) → a < n → price_row_at (rows ++ row ∷ []) a ≡ price_row_at rows a
     kept a below = get_or_append_left rows (row ∷ []) none a (omega (arith, laid.one_each))
 
-    new : IsRowOf arcs terms pieces (knees ++ more) n row
+    new : IsPriceRowOf arcs terms pieces (knees ++ more) n row
     new = record {
       arc = same_arc;
       term = same_term;

@@ -17,9 +17,9 @@ use Rattle.pc_model.specs.Schedule.{AreTerms, term_at}
 use Rattle.pc_model.specs.Walk.{arc_at}
 use Rattle.pc_crash.specs.declared.price_table.PriceRow.{PriceRow}
 use Rattle.pc_crash.specs.inside.KneeLists.{AreSmallKnees, knee_list}
-use Rattle.pc_crash.specs.inside.Laid.{AreLaid, IsRowOf, part_of, row_at}
+use Rattle.pc_crash.specs.inside.Laid.{AreLaid, IsPriceRowOf, knees_of_row, price_row_at}
 use Rattle.pc_crash.specs.declared.crash_net.CrashNet.TheInside.{Inside}
-use Rattle.pc_crash.specs.inside.CrashNets.{IsWhole, IsWholeInside, priced_network}
+use Rattle.pc_crash.specs.inside.CrashNets.{IsWholeNetwork, IsWholeInside, priced_network}
 use Rattle.pc_crash.specs.Priced.{PricedNetwork}
 use Rattle.pc_crash.specs.Terms.{AreWithinLimits}
 use Rattle.pc_crash.specs.inside.Moved.{AreMoved, IsMovable, moved_knee}
@@ -89,7 +89,7 @@ module _ (old new : Term) (own : List PieceRow) where
       below : k < length own
       below = omega (arith, length-knee_list old own)
 
-module _ (net : PricedNetwork) (whole : IsWhole net) (a : ℕ) (inside : a < length net.terms) (new : Term)
+module _ (net : PricedNetwork) (whole : IsWholeNetwork net) (a : ℕ) (inside : a < length net.terms) (new : Term)
     (limits : AreWithinLimits (set net.terms a new)) (fit : AreTerms net.network (set net.terms a new))
     (right : ArePieces (set net.terms a new) net.pieces) where
   abbrev own : List PieceRow
@@ -138,12 +138,12 @@ module _ (knees part : List Knee) (first count : ℕ) (within : first + count �
 
 module _ (arcs : List Arc) (terms : List Term) (pieces : List PieceRow) (rows : List PriceRow) (knees : List Knee) (laid : AreLaid arcs terms pieces (length terms) rows knees)
     (a : ℕ) (inside : a < length terms) (new : Term) (row : PriceRow) (first count : ℕ) (part : List Knee)
-    (begins : first ≡ (row_at rows a).first) (counts : count ≡ (row_at rows a).count) (long : length part ≡ count) (is : part ≡ knee_list new (pieces_of pieces a))
+    (begins : first ≡ (price_row_at rows a).first) (counts : count ≡ (price_row_at rows a).count) (long : length part ≡ count) (is : part ≡ knee_list new (pieces_of pieces a))
     (same_arc : row.arc ≡ arc_at arcs a) (same_term : row.term ≡ new) (same_first : row.first ≡ first) (same_count : row.count ≡ count) where
   abbrev knees' : List Knee
   knees' = put_mid first count knees part
 
-  old_row : IsRowOf arcs terms pieces knees a (row_at rows a)
+  old_row : IsPriceRowOf arcs terms pieces knees a (price_row_at rows a)
   old_row = laid.each a inside
 
   abbrev none : PriceRow
@@ -156,34 +156,34 @@ module _ (arcs : List Arc) (terms : List Term) (pieces : List PieceRow) (rows : 
   size' = size knees part first count within long
 
   -- the row that is given is that of its activity
-  given : row_at (set rows a row) a ≡ row
+  given : price_row_at (set rows a row) a ≡ row
   given = get_or-set_same rows a row none (omega (arith, laid.one_each))
 
   -- and the others are as they were
-  kept : (b : ℕ) → b ≢ a → row_at (set rows a row) b ≡ row_at rows b
+  kept : (b : ℕ) → b ≢ a → price_row_at (set rows a row) b ≡ price_row_at rows b
   kept b other = get_or-set_other rows a b row none other
 
   -- no row begins elsewhere or has more knees
-  same_begin : (b : ℕ) → (row_at (set rows a row) b).first ≡ (row_at rows b).first
+  same_begin : (b : ℕ) → (price_row_at (set rows a row) b).first ≡ (price_row_at rows b).first
   same_begin b = ⊎_elim
-      (λ same. subst (λ c. (row_at (set rows a row) c).first ≡ (row_at rows c).first) (sym same) (ap (λ (r : PriceRow). r.first) given ∙ same_first ∙ begins))
+      (λ same. subst (λ c. (price_row_at (set rows a row) c).first ≡ (price_row_at rows c).first) (sym same) (ap (λ (r : PriceRow). r.first) given ∙ same_first ∙ begins))
       (λ other. ap (λ (r : PriceRow). r.first) (kept b other))
       (cases_eq b a)
 
-  same_size : (b : ℕ) → (row_at (set rows a row) b).count ≡ (row_at rows b).count
+  same_size : (b : ℕ) → (price_row_at (set rows a row) b).count ≡ (price_row_at rows b).count
   same_size b = ⊎_elim
-      (λ same. subst (λ c. (row_at (set rows a row) c).count ≡ (row_at rows c).count) (sym same) (ap (λ (r : PriceRow). r.count) given ∙ same_count ∙ counts))
+      (λ same. subst (λ c. (price_row_at (set rows a row) c).count ≡ (price_row_at rows c).count) (sym same) (ap (λ (r : PriceRow). r.count) given ∙ same_count ∙ counts))
       (λ other. ap (λ (r : PriceRow). r.count) (kept b other))
       (cases_eq b a)
 
   -- the part of another row is as it was
-  part_kept : (b : ℕ) → b < length terms → b ≢ a → part_of knees' (row_at rows b) ≡ part_of knees (row_at rows b)
+  part_kept : (b : ℕ) → b < length terms → b ≢ a → knees_of_row knees' (price_row_at rows b) ≡ knees_of_row knees (price_row_at rows b)
   part_kept b below other = ⊎_elim
-      (λ less. before knees part first count within long (row_at rows b).first ((row_at rows b).first + (row_at rows b).count) (omega (arith, laid.apart b a less inside)))
-      (λ more. after knees part first count within long (row_at rows b).first ((row_at rows b).first + (row_at rows b).count) (omega (arith, laid.apart a b (omega arith) below)))
+      (λ less. before knees part first count within long (price_row_at rows b).first ((price_row_at rows b).first + (price_row_at rows b).count) (omega (arith, laid.apart b a less inside)))
+      (λ more. after knees part first count within long (price_row_at rows b).first ((price_row_at rows b).first + (price_row_at rows b).count) (omega (arith, laid.apart a b (omega arith) below)))
       (cases_lt b a)
 
-  here : IsRowOf arcs (set terms a new) pieces knees' a row
+  here : IsPriceRowOf arcs (set terms a new) pieces knees' a row
   here = record {
     arc = same_arc;
     term = same_term ∙ sym (get_or-set_same terms a new (record { normal = 0; crash = 0; cost = 0; slope = 0 }) inside);
@@ -197,7 +197,7 @@ module _ (arcs : List Arc) (terms : List Term) (pieces : List PieceRow) (rows : 
         ∙ ap (λ t. knee_list t (pieces_of pieces a)) (sym (get_or-set_same terms a new (record { normal = 0; crash = 0; cost = 0; slope = 0 }) inside));
   }
 
-  there : (b : ℕ) → b < length terms → b ≢ a → IsRowOf arcs (set terms a new) pieces knees' b (row_at rows b)
+  there : (b : ℕ) → b < length terms → b ≢ a → IsPriceRowOf arcs (set terms a new) pieces knees' b (price_row_at rows b)
   there b below other =
       let was = laid.each b below in
       let term : term_at (set terms a new) b ≡ term_at terms b = get_or-set_other terms a b new (record { normal = 0; crash = 0; cost = 0; slope = 0 }) other in
@@ -220,8 +220,9 @@ module _ (arcs : List Arc) (terms : List Term) (pieces : List PieceRow) (rows : 
         ∙ sym (take_all (length terms) (set terms a new) (omega (arith, length-set terms a new)));
     small = omega (arith, laid.small, size');
     each = λ b below. ⊎_elim
-        (λ same. subst (λ c. IsRowOf arcs (set terms a new) pieces knees' c (row_at (set rows a row) c)) (sym same) (subst (IsRowOf arcs (set terms a new) pieces knees' a) (sym given) here))
-        (λ other. subst (IsRowOf arcs (set terms a new) pieces knees' b) (sym (kept b other)) (there b below other))
+        (λ same. subst (λ c. IsPriceRowOf arcs (set terms a new) pieces knees' c (price_row_at (set rows a row) c)) (sym same)
+        (subst (IsPriceRowOf arcs (set terms a new) pieces knees' a) (sym given) here))
+        (λ other. subst (IsPriceRowOf arcs (set terms a new) pieces knees' b) (sym (kept b other)) (there b below other))
         (cases_eq b a);
     apart = λ b c order below. omega (arith, same_begin b, same_size b, same_begin c, laid.apart b c order below);
   }
@@ -235,7 +236,7 @@ module _ (s : Inside) (net : PricedNetwork) (view : priced_network s ≡ net) (i
   in_terms : a < length (priced_network s).terms
   in_terms = omega (arith, inv.whole.terms.one_each, in_inside)
 
-  read_row : IsRowOf s.net.now.arcs (priced_network s).terms s.pieces.items s.layout.knees.items a row
+  read_row : IsPriceRowOf s.net.now.arcs (priced_network s).terms s.pieces.items s.layout.knees.items a row
   read_row = row-read s a row inv in_inside read
 
   -- no more knees than all activities may have
@@ -277,7 +278,7 @@ module _ (s : Inside) (net : PricedNetwork) (view : priced_network s ≡ net) (i
       abbrev pub after_set : Inside
       after_set = record s { layout = record { rows = with_item s.layout.rows a set_row; knees = with_items s.layout.knees set_knees } }
 
-      read_as : (r : PriceRow) → r ≡ get_or s.layout.rows.items a r → r ≡ row_at s.layout.rows.items a
+      read_as : (r : PriceRow) → r ≡ get_or s.layout.rows.items a r → r ≡ price_row_at s.layout.rows.items a
       read_as r is = get_or_read s.layout.rows.items a r (omega (arith, in_inside, rows-each s inv)) is
           (record { arc = record { from = 0; to = 0 }; term = record { normal = 0; crash = 0; cost = 0; slope = 0 }; first = 0; count = 0 })
 

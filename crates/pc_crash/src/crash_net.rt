@@ -34,7 +34,7 @@ ghost use Rattle.pc_crash.specs.inside.KneeLists.{AreKneesOf, AreSmallKnees};
 ghost use Rattle.pc_crash.specs.inside.Links.{activities_of, link_at};
 ghost use Rattle.pc_crash.specs.inside.Looks.{IsLookAt};
 ghost use Rattle.pc_crash.specs.Priced.{knees_in, ArePiecesWithinLimits};
-ghost use Rattle.pc_crash.specs.inside.Priced.{AreNames, AreDurations, Fits};
+ghost use Rattle.pc_crash.specs.inside.Priced.{AreNames, AreDurations, FitsActivity};
 ghost use Rattle.pc_crash.specs.Terms.{AreWithinLimits};
 ghost use Rattle.pc_model.specs.inside.Pieces.{knee_at};
 ghost use Rattle.pc_model.specs.Sums.{sum_to};
@@ -376,7 +376,7 @@ impl<'n> CrashNet<'n> {
     fn fits(&self, a: u32, duration: u64, times: &[u64]) -> bool
         requires activity { a < length self.now.network.arcs }
         requires times { length times.now ≡ self.now.network.events }
-        ensures { IsTrue result ↔ Fits self.now a duration (slice_index times.now) }
+        ensures { IsTrue result ↔ FitsActivity self.now a duration (slice_index times.now) }
     {
         let row = self.layout.rows[a as usize];
         let begins = times[row.arc.from as usize];

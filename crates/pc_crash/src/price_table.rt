@@ -4,7 +4,7 @@ ghost use Rattle.pc_model.specs.Network.{IsInRange, IsSound};
 ghost use Rattle.pc_model.specs.Schedule.{AreTerms};
 ghost use Rattle.pc_model.specs.Pieces.{ArePieces, units_of};
 ghost use Rattle.pc_crash.specs.inside.KneeLists.{knee_list};
-ghost use Rattle.pc_crash.specs.inside.Laid.{AreLaid, IsRising, part_of, row_at};
+ghost use Rattle.pc_crash.specs.inside.Laid.{AreLaid, IsRising, knees_of_row, price_row_at};
 ghost use Rattle.pc_crash.specs.Terms.{AreWithinLimits};
 
 use crate::knee_list::KneeList;
@@ -101,7 +101,7 @@ impl PriceTable {
     /// The knees that belong to a row.
     pub(crate) fn part(&self, row: &PriceRow) -> &[Knee]
         requires { row.now.first + row.now.count ≤ vec_len self.now.knees }
-        ensures { result.now ≡ part_of self.now.knees.items row.now }
+        ensures { result.now ≡ knees_of_row self.now.knees.items row.now }
     {
         let first = row.first as usize;
         &self.knees[first..first + row.count as usize]
@@ -110,10 +110,10 @@ impl PriceTable {
     /// The knees of an activity.
     pub(crate) fn knees_of(&self, a: u32) -> KneeList<'_>
         requires row { a < vec_len self.now.rows }
-        requires within { (row_at self.now.rows.items a).first + (row_at self.now.rows.items a).count
+        requires within { (price_row_at self.now.rows.items a).first + (price_row_at self.now.rows.items a).count
             ≤ vec_len self.now.knees }
-        requires few { (row_at self.now.rows.items a).count ≤ MAX_PIECES_EACH + 1 }
-        ensures { result ≡ part_of self.now.knees.items (row_at self.now.rows.items a) }
+        requires few { (price_row_at self.now.rows.items a).count ≤ MAX_PIECES_EACH + 1 }
+        ensures { result ≡ knees_of_row self.now.knees.items (price_row_at self.now.rows.items a) }
     {
         KneeList::new(self.part(&self.rows[a as usize]))
     }

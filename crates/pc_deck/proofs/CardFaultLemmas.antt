@@ -15,10 +15,10 @@ use Rattle.pc_cards.specs.Forms.{Slot, first_misshapen, first_over_limit}
 use Rattle.pc_cards.specs.Cards.{Numbered}
 use Rattle.pc_cards.specs.Named.{is_among}
 use Rattle.pc_cards.specs.Findings.{width_wanted}
-use Rattle.pc_cards.specs.inside.Findings.{wrong_fields, misshapen_at, over_limit_at, flaw_of_fields, repeated, one_too_many, fault_of_place}
+use Rattle.pc_cards.specs.inside.Findings.{wrong_field_count, misshapen_at, over_limit_at, flaw_of_fields, repeated, one_too_many, fault_of_place}
 use Rattle.pc_cards.proofs.FitLemmas.{neither, no_shape, not_not, not_so}
 use Rattle.pc_deck.specs.Judged.{Seen}
-use Rattle.pc_deck.specs.inside.Judged.{place_of, not_project, second, fault_of_kind, unless, no_kind, judge_of, judge}
+use Rattle.pc_deck.specs.inside.Judged.{card_place_of, not_project, second, fault_of_kind, unless, no_kind, judge_of, judge}
 use Rattle.pc_deck.specs.Refusal.{HasCardFault, is_whole_as}
 use Rattle.pc_deck.specs.Refusal as has
 use Rattle.pc_deck.proofs.KindLemmas.{Some-injective}
@@ -105,11 +105,11 @@ is_equal n m h = grind (arith, nat_tests)
 module _ (seen : Seen) (row : ℕ) (fields : List (List ℕ)) (kind : Kind) where
   -- F5
   abbrev twice : Option Fault
-  twice = second (place_of seen kind row) (seen.count kind)
+  twice = second (card_place_of seen kind row) (seen.count kind)
 
   -- F6
   abbrev widths : Option Fault
-  widths = wrong_fields (place_of seen kind row) (least_width_of kind) (width_of kind) fields
+  widths = wrong_field_count (card_place_of seen kind row) (least_width_of kind) (width_of kind) fields
 
   -- F7 and F8
   abbrev flaws : Option Fault
@@ -125,7 +125,7 @@ module _ (seen : Seen) (row : ℕ) (fields : List (List ℕ)) (kind : Kind) wher
 
   -- F10 and F11
   abbrev behind : Option Fault
-  behind = fault_of_place (place_of seen kind row) (seen.count kind)
+  behind = fault_of_place (card_place_of seen kind row) (seen.count kind)
 
   bounded_3 : (n : ℕ) → 3 ≤ n → Bounded (not_project seen kind row) row n
   bounded_3 n few = bounded_test _ (faults.first_not_project row) row n refl few

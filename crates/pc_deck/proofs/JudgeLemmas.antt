@@ -5,12 +5,12 @@ use Rattle.pc_faults.specs.declared.kind.Kind.{Kind}
 use Rattle.pc_faults.specs.declared.fault.Fault.{Fault}
 use Rattle.pc_cards.specs.Forms.{AllFit, first_misshapen, first_over_limit}
 use Rattle.pc_cards.specs.Named.{is_among}
-use Rattle.pc_cards.specs.inside.Findings.{wrong_fields, misshapen_at, flaw_of_fields, repeated, one_too_many}
+use Rattle.pc_cards.specs.inside.Findings.{wrong_field_count, misshapen_at, flaw_of_fields, repeated, one_too_many}
 use Rattle.pc_cards.proofs.FitLemmas.{neither, not_so, not_not, no_shape, no_limit, all_fit}
 use Rattle.pc_deck.specs.Kinds.{kind_of, stands_once, limit_of, least_width_of, slots_of, width_of}
 use Rattle.pc_deck.specs.inside.Kinds.{is_project}
 use Rattle.pc_deck.specs.Judged.{Seen}
-use Rattle.pc_deck.specs.inside.Judged.{place_of, not_project, second, fault_of_kind, unless, judge_of, judge}
+use Rattle.pc_deck.specs.inside.Judged.{card_place_of, not_project, second, fault_of_kind, unless, judge_of, judge}
 use Rattle.pc_deck.specs.Refusal.{is_whole_as}
 
 -- what is known of a card that has no fault
@@ -31,10 +31,10 @@ Ok-injective x y h = cc
 faultless_kind : (seen : Seen) (row : ℕ) (fields : List (List ℕ)) (kind : Kind) → kind_of seen.sort (text_at fields 0) ≡ Some kind →
     fault_of_kind seen kind row fields ≡ None → IsFaultless seen row fields kind
 faultless_kind seen row fields kind named none =
-    let place = place_of seen kind row in
+    let place = card_place_of seen kind row in
     let first = neither (not_project seen kind row) _ none in
     let once = neither (second place (seen.count kind)) _ first.1 in
-    let widths = neither (wrong_fields place (least_width_of kind) (width_of kind) fields) _ once.1 in
+    let widths = neither (wrong_field_count place (least_width_of kind) (width_of kind) fields) _ once.1 in
     let flaws = neither (flaw_of_fields row (slots_of seen.sort kind) fields) _ widths.1 in
     let each = neither (misshapen_at row (first_misshapen (slots_of seen.sort kind) fields)) _ flaws.0 in
     let code = neither (repeated row (seen.codes kind) (text_at fields 1)) _ flaws.1 in

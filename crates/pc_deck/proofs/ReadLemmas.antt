@@ -8,7 +8,7 @@ use Rattle.pc_records.proofs.Utf8Facts.{deck_records-text}
 use Rattle.pc_cards.specs.Cards.{Numbered, cards_from, deck_cards, is_card}
 use Rattle.pc_cards.specs.inside.Cards.{CardsLeft, Follows}
 use Rattle.pc_deck.specs.inside.Judged.{judge}
-use Rattle.pc_deck.specs.inside.Reading.{IsKept, and_then, read_from, seen_in, with_card}
+use Rattle.pc_deck.specs.inside.Reading.{KeepsCard, and_then, read_from, seen_in, with_card}
 use Rattle.pc_faults.specs.declared.kind.Kind.{Kind}
 use Rattle.pc_faults.specs.declared.fault.Fault.{Fault}
 use Rattle.pc_deck.specs.declared.draft.Draft.{Draft}
@@ -37,15 +37,15 @@ read_from-added draft added kind found row fields old new is follows judged same
 
 -- the same of a card that was taken
 pub read_from-kept : (draft added : Draft) (found : NextCard) (row : ℕ) (fields : List (List ℕ)) (old new : CardsLeft) → found ≡ Card row →
-    Follows found old new fields → IsKept draft row fields added → read_from added new.end new.cards ≡ read_from draft old.end old.cards
+    Follows found old new fields → KeepsCard draft row fields added → read_from added new.end new.cards ≡ read_from draft old.end old.cards
 read_from-kept draft added found row fields old new is follows (kind, (judged, same)) = read_from-added draft added kind found row fields old new is follows judged same
 
 -- a card that was taken leaves the sort of the deck
-pub sort-kept : (draft added : Draft) (row : ℕ) (fields : List (List ℕ)) → IsKept draft row fields added → added.sort ≡ draft.sort
+pub sort-kept : (draft added : Draft) (row : ℕ) (fields : List (List ℕ)) → KeepsCard draft row fields added → added.sort ≡ draft.sort
 sort-kept draft added row fields (kind, (judged, same)) = ap (λ (d : Draft). d.sort) same
 
 -- a card that was taken keeps the cards within the limits
-pub within-kept : (draft added : Draft) (row : ℕ) (fields : List (List ℕ)) → IsKept draft row fields added → All IsUtf8 fields → IsDraftWithin draft → IsDraftWithin added
+pub within-kept : (draft added : Draft) (row : ℕ) (fields : List (List ℕ)) → KeepsCard draft row fields added → All IsUtf8 fields → IsDraftWithin draft → IsDraftWithin added
 within-kept draft added row fields (kind, (judged, same)) text old = subst IsDraftWithin (sym same) (next_within draft kind row fields text old judged)
 
 -- the fields of a card are text

@@ -8,7 +8,7 @@ use Rattle.pc_faults.specs.declared.kind.Kind.TheVariants.{Project, End}
 use Rattle.pc_cards.specs.Cards.{Numbered}
 use Rattle.pc_deck.specs.Project.{project_card}
 use Rattle.pc_deck.specs.Kinds.{card_of, entry_of, has_code_of_its_own}
-use Rattle.pc_deck.specs.inside.Reading.{count_in, codes_in, list_so_far, seen_in, version_of}
+use Rattle.pc_deck.specs.inside.Reading.{count_in, codes_in, list_so_far, seen_in, project_version}
 use Rattle.pc_deck.specs.Refusal.{of_kind, own_codes, are_none, seen_among, version_said}
 use Rattle.pc_deck.specs.declared.kinds.project.ProjectCard.{ProjectCard}
 use Rattle.pc_deck.specs.declared.draft.Draft.{Draft}
@@ -28,7 +28,7 @@ said_first : (cards : List Numbered) → version_said cards ≡ version_first (m
 said_first [] = refl
 said_first (card ∷ cards) = refl
 
-first_of : (project : Option ProjectCard) → version_first (option_to_list project) ≡ version_of project
+first_of : (project : Option ProjectCard) → version_first (option_to_list project) ≡ project_version project
 first_of None = refl
 first_of (Some project) = refl
 
@@ -50,7 +50,7 @@ seen cards draft says =
       has_ended = some_ends (of_kind End cards) draft.has_ended (count End) i;
     }
   where
-    version : version_said (of_kind Project cards) ≡ version_of draft.project
+    version : version_said (of_kind Project cards) ≡ project_version draft.project
     version = said_first (of_kind Project cards) ∙ (ap version_first (says.lists Project) ∙ first_of draft.project)
 
     -- as many cards as they spell

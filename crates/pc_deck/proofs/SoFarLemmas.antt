@@ -16,7 +16,7 @@ use Rattle.pc_cards.specs.Named.{HeldBy, listed_by}
 use Rattle.pc_cards.specs.inside.Named.{more_if}
 use Rattle.pc_deck.specs.Project.{project_card}
 use Rattle.pc_deck.specs.inside.Judged.{judge}
-use Rattle.pc_deck.specs.inside.Reading.{no_cards, with_card, codes_among, codes_in, count_in, list_so_far, seen_in}
+use Rattle.pc_deck.specs.inside.Reading.{no_cards, with_card, own_codes_among, codes_in, count_in, list_so_far, seen_in}
 use Rattle.pc_deck.specs.Refusal.{of_kind, are_none}
 use Rattle.pc_deck.specs.Says.{spelled}
 use Rattle.pc_deck.specs.declared.kinds.project.ProjectCard.{ProjectCard}
@@ -78,7 +78,7 @@ pub count-is : (draft : Draft) (kind : Kind) → count_in draft kind ≡ length 
 count-is draft Project = refl
 count-is draft other = refl
 
-pub codes-are : (draft : Draft) (kind : Kind) → codes_in draft kind ≡ codes_among kind (list_so_far draft kind)
+pub codes-are : (draft : Draft) (kind : Kind) → codes_in draft kind ≡ own_codes_among kind (list_so_far draft kind)
 codes-are draft Project = refl
 codes-are draft other = refl
 

@@ -18,7 +18,7 @@ use Rattle.pc_cards.specs.declared.sort.Sort.{Sort}
 use Rattle.pc_deck.specs.Project.{project_card}
 use Rattle.pc_cards.specs.inside.Findings.{one_too_many}
 use Rattle.pc_deck.specs.inside.Judged.{judge}
-use Rattle.pc_deck.specs.inside.Reading.{no_cards, with_card, deck_with, list_so_far, seen_in, version_of}
+use Rattle.pc_deck.specs.inside.Reading.{no_cards, with_card, deck_with, list_so_far, seen_in, project_version}
 use Rattle.pc_deck.specs.Within.{IsUpTo, IsFit, IsListWithin}
 use Rattle.pc_deck.specs.inside.Within.{IsDraftWithin}
 use Rattle.pc_deck.specs.declared.kinds.project.ProjectCard.{ProjectCard}
@@ -78,11 +78,11 @@ none_yet (Some project) once = absurd (let once' = once in cc)
 -- what one more card without a fault does to each list
 module _ (draft : Draft) (row : ℕ) (fields : List (List ℕ)) (text : All IsUtf8 fields) (old : IsDraftWithin draft) where
   -- to that of its own kind
-  own_list : (kind : Kind) → IsFaultless (seen_in draft) row fields kind → IsListWithin draft.sort kind (version_of draft.project) (list_so_far draft kind ++ card_of kind row fields ∷ [])
+  own_list : (kind : Kind) → IsFaultless (seen_in draft) row fields kind → IsListWithin draft.sort kind (project_version draft.project) (list_so_far draft kind ++ card_of kind row fields ∷ [])
   own_list kind known =
-      list_more draft.sort kind (version_of draft.project) (list_so_far draft kind) (card_of kind row fields) (old.lists kind)
-      (up_to_more kind row (length (list_so_far draft kind)) (limit_of draft.sort (version_of draft.project) kind) (old.lists kind).few
-      (subst (λ (count : ℕ). one_too_many kind row count (limit_of draft.sort (version_of draft.project) kind) ≡ None) (count-is draft kind) known.room))
+      list_more draft.sort kind (project_version draft.project) (list_so_far draft kind) (card_of kind row fields) (old.lists kind)
+      (up_to_more kind row (length (list_so_far draft kind)) (limit_of draft.sort (project_version draft.project) kind) (old.lists kind).few
+      (subst (λ (count : ℕ). one_too_many kind row count (limit_of draft.sort (project_version draft.project) kind) ≡ None) (count-is draft kind) known.room))
       (λ coded.
       subst (λ (code : List ℕ). is_among code (map (entry_of kind).code (list_so_far draft kind)) ≡ false) (sym (own_code kind coded row fields))
       (among_codes (has_code_of_its_own kind) (text_at fields 1) (map (entry_of kind).code (list_so_far draft kind)) coded
@@ -91,26 +91,26 @@ module _ (draft : Draft) (row : ℕ) (fields : List (List ℕ)) (text : All IsUt
 
   -- the same if the card may give the version
   own_then : (kind : Kind) → IsFaultless (seen_in draft) row fields kind →
-      IsListWithin draft.sort kind (version_of (with_card draft kind row fields).project)
+      IsListWithin draft.sort kind (project_version (with_card draft kind row fields).project)
       (list_so_far draft kind ++ card_of kind row fields ∷ [])
   own_then Project known = let own = own_list Project known in record { few = tt; fit = own.fit; differ = own.differ }
   own_then kind known = own_list kind known
 
   -- and to those of the others
-  others_then : (kind other : Kind) → IsFaultless (seen_in draft) row fields kind → IsListWithin draft.sort other (version_of (with_card draft kind row fields).project) (list_so_far draft other)
+  others_then : (kind other : Kind) → IsFaultless (seen_in draft) row fields kind → IsListWithin draft.sort other (project_version (with_card draft kind row fields).project) (list_so_far draft other)
   others_then Project other known =
-      subst (IsListWithin draft.sort other (version_of (with_card draft Project row fields).project))
+      subst (IsListWithin draft.sort other (project_version (with_card draft Project row fields).project))
       (sym (old.empty (none_yet draft.project known.once) other))
-      (nothing_within draft.sort other (version_of (with_card draft Project row fields).project))
+      (nothing_within draft.sort other (project_version (with_card draft Project row fields).project))
   others_then kind other known = old.lists other
 
   list_then : (kind other : Kind) (test : Bool) → IsFaultless (seen_in draft) row fields kind → is_same kind other ≡ test →
-      IsListWithin draft.sort other (version_of (with_card draft kind row fields).project)
+      IsListWithin draft.sort other (project_version (with_card draft kind row fields).project)
       (list_so_far draft other ++ one_if test (card_of other row fields))
   list_then kind other false known is =
-      subst (IsListWithin draft.sort other (version_of (with_card draft kind row fields).project)) (unchanged (list_so_far draft other)) (others_then kind other known)
+      subst (IsListWithin draft.sort other (project_version (with_card draft kind row fields).project)) (unchanged (list_so_far draft other)) (others_then kind other known)
   list_then kind other true known is =
-      subst (λ (k : Kind). IsListWithin draft.sort k (version_of (with_card draft kind row fields).project)
+      subst (λ (k : Kind). IsListWithin draft.sort k (project_version (with_card draft kind row fields).project)
       (list_so_far draft k ++ card_of k row fields ∷ [])) (same_is kind other is) (own_then kind known)
 
 -- one more card without a fault keeps the cards within the limits
@@ -121,7 +121,7 @@ next_within draft kind row fields text old h =
     record {
       empty = λ none. absurd (let some = still_first (is_project kind) draft.project (project_card row fields) known.placed in let apart : true ≡ false = sym none ∙ some in cc);
       lists = λ other.
-          subst (IsListWithin draft.sort other (version_of (with_card draft kind row fields).project)) (sym (list-more draft row fields kind known other))
+          subst (IsListWithin draft.sort other (project_version (with_card draft kind row fields).project)) (sym (list-more draft row fields kind known other))
           (list_then draft row fields text old kind other (is_same kind other) known refl);
     }
 
@@ -136,6 +136,6 @@ end_within sort = record { few = tt; fit = All-replicate (IsFit sort End) 1 tt (
 pub deck_within : (draft : Draft) (project : ProjectCard) → draft.project ≡ Some project → IsDraftWithin draft → (kind : Kind) → IsListWithin draft.sort kind 2 (list_of (deck_with draft project) kind)
 deck_within draft project is within Project =
     subst (λ (p : Option ProjectCard). IsListWithin draft.sort Project 2 (option_to_list p)) is
-    (list_wider draft.sort Project (version_of draft.project) (option_to_list draft.project) (within.lists Project))
+    (list_wider draft.sort Project (project_version draft.project) (option_to_list draft.project) (within.lists Project))
 deck_within draft project is within End = end_within draft.sort
-deck_within draft project is within other = list_wider draft.sort other (version_of draft.project) (list_so_far draft other) (within.lists other)
+deck_within draft project is within other = list_wider draft.sort other (project_version draft.project) (list_so_far draft other) (within.lists other)

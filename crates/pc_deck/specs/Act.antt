@@ -47,8 +47,7 @@ act_kind =
     (2, form.Code) ∷ (3, form.Code) ∷ (4, form.Code) ∷ (5, form.Code)
     ∷ (6, duration) ∷ (7, duration) ∷ (8, duration) ∷ (9, duration) ∷ (10, duration)
     ∷ (11, money) ∷ (12, form.Number 0 MAX_SLOPE) ∷ (13, form.Title) ∷ [])) 13
-    (λ lists. lists.acts) (in_plans (growing SMALL_ACTIVITIES MAX_ACTIVITIES)))
-    {
+    (λ lists. lists.acts) (in_plans (growing SMALL_ACTIVITIES MAX_ACTIVITIES))) {
       names = λ sort act. by_sort (record { target = Event; code = act.from } ∷ record { target = Event; code = act.to } ∷ record { target = Item; code = act.item } ∷ []) [] sort;
       flaws = flaws_in_plans HasActFlaw;
     }

@@ -24,8 +24,7 @@ abbrev pub after_kind : Entry CardLists
 after_kind =
     record (listed_kind after_card (λ after. after.row)
     (in_both ((2, form.Code) ∷ (3, form.Code) ∷ [])) 3
-    (λ lists. lists.afters) (in_tasks (up_to MAX_AFTERS)))
-    {
+    (λ lists. lists.afters) (in_tasks (up_to MAX_AFTERS))) {
       names = λ sort after. by_sort [] (record { target = Task; code = after.task } ∷ record { target = Task; code = after.before } ∷ []) sort;
       flaws = flaws_in_tasks HasAfterFlaw;
     }

@@ -42,8 +42,7 @@ project_kind =
     (λ sort.
     (2, form.Code) ∷ (3, own_code sort) ∷ (4, own_code sort) ∷ (5, form.Date) ∷ (6, form.Number 1 MAX_UNIT_DAYS)
     ∷ (7, form.NumberOrNone 0 MAX_DIRECTED) ∷ (8, form.Title) ∷ (9, form.NumberOrNone 1 2) ∷ []) 8 9
-    (λ lists. None))
-    {
+    (λ lists. None)) {
       names = λ sort project. by_sort (record { target = Event; code = project.start } ∷ record { target = Event; code = project.end } ∷ []) [] sort;
       flaws = λ sort. HasProjectFlaw;
     }

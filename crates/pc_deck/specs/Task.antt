@@ -36,8 +36,7 @@ task_kind =
     (2, form.GivenCode) ∷ (3, form.Code)
     ∷ (4, duration) ∷ (5, duration) ∷ (6, duration) ∷ (7, duration) ∷ (8, duration)
     ∷ (9, money) ∷ (10, form.Number 0 MAX_SLOPE) ∷ (11, form.Title) ∷ [])) 11
-    (λ lists. lists.tasks) (in_tasks (up_to MAX_TASKS)))
-    {
+    (λ lists. lists.tasks) (in_tasks (up_to MAX_TASKS))) {
       names = λ sort task. by_sort [] (record { target = Item; code = task.item } ∷ []) sort;
       flaws = flaws_in_tasks (λ task. HasDurationFault task.row task.opt task.likely task.pess task.normal task.crash);
     }

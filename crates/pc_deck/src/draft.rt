@@ -25,15 +25,15 @@ pub struct Draft {
 }
 
 impl Draft {
-    ghost use Rattle.pc_deck.specs.inside.Judged.{fault_at, judge, place_of};
+    ghost use Rattle.pc_deck.specs.inside.Judged.{fault_at, judge, card_place_of};
     ghost use Rattle.pc_deck.specs.inside.Reading.{
-      IsKept,
+      KeepsCard,
       codes_in,
       no_cards,
       closed,
       count_in,
       seen_in,
-      version_of,
+      project_version,
       with_card,
     };
     ghost use Rattle.pc_deck.specs.Within.{IsWithin};
@@ -53,7 +53,7 @@ impl Draft {
 
     /// The version of the deck, as its PROJECT card says.
     fn version(&self) -> u64
-        ensures { result ≡ version_of self.now.project }
+        ensures { result ≡ project_version self.now.project }
     {
         match self.project.get() {
             Some(project) => project.version,
@@ -63,7 +63,7 @@ impl Draft {
 
     /// Returns the place of a card of the kind after the cards so far.
     fn place(&self, kind: Kind, row: u32) -> CardPlace
-        ensures { result ≡ place_of (seen_in self.now) kind row }
+        ensures { result ≡ card_place_of (seen_in self.now) kind row }
     {
         CardPlace {
             sort: self.sort,
@@ -80,7 +80,7 @@ impl Draft {
     ///
     /// Returns the fault of the card, or `DeckError::OutOfMemory` if memory runs out.
     pub fn take(&mut self, row: u32, fields: &Row) -> Result<(), DeckError>
-        ensures kept { OnOk result (IsKept self.old row fields.now self.new) }
+        ensures kept { OnOk result (KeepsCard self.old row fields.now self.new) }
         ensures fault { IfErr result (Refuses (λ fault. judge (seen_in self.old) row fields.now ≡ Err fault)) }
     {
         let is_first = self.project.get().is_none();

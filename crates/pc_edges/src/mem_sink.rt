@@ -42,11 +42,11 @@ impl Model for MemSink {
 
     ghost Value = { Intake };
 
-    ghost use Rattle.pc_edges.specs.inside.MemSink.{intake_of, HasRoom};
+    ghost use Rattle.pc_edges.specs.inside.MemSink.{intake_of, HasCapacity};
 
     ghost view = { intake_of };
 
-    ghost invariant = { HasRoom };
+    ghost invariant = { HasCapacity };
 }
 
 impl MemSink {

@@ -16,7 +16,7 @@ use Rattle.pc_flow.specs.search.Labelling.{slopes_in}
 use Rattle.pc_flow.specs.inside.search.Labelling.{slope_at, IsStateWith, MayFall}
 use Rattle.pc_flow.proofs.lemmas.search.StateLaws.{IsKnown, slopes-small, value-bounded, flow-bounded}
 use Rattle.pc_flow.specs.Courses.{Course, upper_of, lower_of}
-use Rattle.pc_flow.specs.inside.Courses.{moves_at, present, IsOnCurve, IsOnCourse, HasSmallNumbers}
+use Rattle.pc_flow.specs.inside.Courses.{moves_at, present, IsOnCurve, IsOnCourse, HasBoundedNumbers}
 
 -- where a segment has more than one length, the events without a label move
 pub moves-are : (s : Sheet) (fall : ℕ) → 0 < fall → moves_at s fall ≡ moving s
@@ -147,7 +147,7 @@ module _ (c : Course) (on : IsOnCourse c) where
       )
 
   -- all numbers of the present segment are small
-  pub small : c.given ≡ true → HasSmallNumbers c.net (present c)
+  pub small : c.given ≡ true → HasBoundedNumbers c.net (present c)
   small given = record {
     upper = omega (arith, on.within, on.small);
     lower = omega (arith, on.within, on.small);

@@ -16,7 +16,7 @@ use Rattle.pc_flow.specs.inside.board.Moves.{SetsTime}
 use Rattle.pc_crash.specs.Terms.{AreWithinLimits}
 use Rattle.pc_flow.specs.declared.early.Pace.{Pace}
 use Rattle.pc_flow.specs.declared.early.Pace.TheVariants.{Crash, Normal}
-use Rattle.pc_flow.specs.inside.Paces.{durations_at, HasSmallTimes, AreEarlyBefore}
+use Rattle.pc_flow.specs.inside.Paces.{durations_at, HasSmallTimes, HasEarlyPredecessors}
 
 module _ (net : Network) (lengths : List ℕ) (times : ℕ → ℕ) where
   -- what activity a brings to the event where it ends
@@ -42,7 +42,7 @@ module _ (net : Network) (lengths : List ℕ) (times : ℕ → ℕ) where
   }
 
   -- the latest arrival at an event is its time, where the times of the events before it are right
-  module _ (sound : IsSound net) (e n : ℕ) (before : AreEarlyBefore net lengths times e) (items : List ℕ)
+  module _ (sound : IsSound net) (e n : ℕ) (before : HasEarlyPredecessors net lengths times e) (items : List ℕ)
       (listed : IsListed (λ a. to_of net.arcs a ≡ e) (length net.arcs) items) (all : IsArrivalOf items (length items) n) where
     bounded : (a : ℕ) → a < length net.arcs → to_of net.arcs a ≡ e → brought a ≤ n
     bounded a known ends =
@@ -117,7 +117,7 @@ pub record AreEarlyTo (net : Network) (lengths order : List ℕ) (s t : Sheet) (
 
 module _ (net : Network) (lengths order : List ℕ) (ordered : IsOrder net order) (s t : Sheet) where
   -- the next event in the order has all it needs before it
-  pub early-before : (k : ℕ) → AreEarlyTo net lengths order s t k → k < length order → AreEarlyBefore net lengths (kept_time t) (slice_index order k)
+  pub early-before : (k : ℕ) → AreEarlyTo net lengths order s t k → k < length order → HasEarlyPredecessors net lengths (kept_time t) (slice_index order k)
   early-before k so_far inside = record {
     known = ordered.part.range k inside;
     each = λ a known ends. let (j, lower, at) = ordered.part.before k a inside known ends in

@@ -10,10 +10,10 @@ use Rattle.pc_model.proofs.Costs.NormalCost.{cost_of-same}
 use Rattle.pc_laws.specs.Segment.{fall_of}
 use Rattle.pc_crash.specs.Priced.{PricedNetwork, knees_in}
 use Rattle.pc_flow.specs.board.Sheets.{Sheet, time_of, rank_of, flow_of}
-use Rattle.pc_flow.specs.inside.search.Growing.{AreListed}
+use Rattle.pc_flow.specs.inside.search.Growing.{AreDueLater}
 use Rattle.pc_flow.specs.inside.search.Choosing.{moving}
 use Rattle.pc_flow.specs.search.Labelling.{length_at}
-use Rattle.pc_flow.specs.inside.search.Labelling.{slope_at, IsBetween, HasFallen}
+use Rattle.pc_flow.specs.inside.search.Labelling.{slope_at, IsBetweenLabellings, HasFallen}
 use Rattle.pc_flow.specs.Courses.{Course, upper_of, lower_of, IsLevel, IsSameCurve, IsFurther, most_looks}
 use Rattle.pc_flow.specs.inside.Courses.{IsOnCourse, HasEnded, IsNext}
 use Rattle.pc_flow.specs.inside.Descents.{HasDescended, HasSearched}
@@ -35,18 +35,18 @@ module _ (c : Course) (on : IsOnCourse c) (s : Sheet) (descended : HasDescended 
   event : (e : ℕ) → e < c.net.network.events → e < c.board.events
   event e inside = omega (arith, inside, on.between.search.fits.events)
 
-  pub between-mid : IsBetween c.net s
+  pub between-mid : IsBetweenLabellings c.net s
   between-mid =
       elim (cases_lt 0 c.fall) [
         | inl some ↦ (descended.fallen some).between
-        | inr none ↦ subst (λ (v : Sheet). IsBetween c.net v) (sym (descended.still (omega arith))) on.between
+        | inr none ↦ subst (λ (v : Sheet). IsBetweenLabellings c.net v) (sym (descended.still (omega arith))) on.between
       ]
 
-  pub listed-mid : AreListed c.net s
+  pub listed-mid : AreDueLater c.net s
   listed-mid =
       elim (cases_lt 0 c.fall) [
         | inl some ↦ (descended.fallen some).listed
-        | inr none ↦ subst (λ (v : Sheet). AreListed c.net v) (sym (descended.still (omega arith))) on.listed
+        | inr none ↦ subst (λ (v : Sheet). AreDueLater c.net v) (sym (descended.still (omega arith))) on.listed
       ]
 
   upper-mid : length_at c.net s ≡ lower_of c
@@ -119,18 +119,18 @@ module _ (c : Course) (on : IsOnCourse c) (s : Sheet) (descended : HasDescended 
       given = true;
     }
 
-    between-after : IsBetween c.net t
+    between-after : IsBetweenLabellings c.net t
     between-after =
         elim (cases_lt c.shortest (length_at c.net s)) [
           | inl above ↦ (searched.above above).between
-          | inr at ↦ subst (λ (v : Sheet). IsBetween c.net v) (sym (searched.still at)) between-mid
+          | inr at ↦ subst (λ (v : Sheet). IsBetweenLabellings c.net v) (sym (searched.still at)) between-mid
         ]
 
-    listed-after : AreListed c.net t
+    listed-after : AreDueLater c.net t
     listed-after =
         elim (cases_lt c.shortest (length_at c.net s)) [
           | inl above ↦ (searched.above above).listed
-          | inr at ↦ subst (λ (v : Sheet). AreListed c.net v) (sym (searched.still at)) listed-mid
+          | inr at ↦ subst (λ (v : Sheet). AreDueLater c.net v) (sym (searched.still at)) listed-mid
         ]
 
     pub upper-after : upper_of after ≡ lower_of c

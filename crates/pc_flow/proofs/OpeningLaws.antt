@@ -24,13 +24,13 @@ use Rattle.pc_crash.specs.Priced.{PricedNetwork, knees_in, ArePiecesWithinLimits
 use Rattle.pc_crash.specs.Terms.{AreWithinLimits}
 use Rattle.pc_flow.specs.board.Sheets.{Sheet, kept_time, time_of, rank_of, flow_of}
 use Rattle.pc_flow.specs.inside.board.Sheets.{queue_of, slot_of, clear_sheet}
-use Rattle.pc_flow.specs.inside.board.Labelling.{HasStep, HaveRoom, AreTimes, IsRanked}
+use Rattle.pc_flow.specs.inside.board.Labelling.{HasStep, HaveRoom, AreStoredTimes, IsRanked}
 use Rattle.pc_flow.specs.inside.board.Moves.{StartsAt}
 use Rattle.pc_flow.proofs.lemmas.board.AfterPruning.{time-labelled, time-unlabelled}
-use Rattle.pc_flow.specs.inside.search.Searches.{stair_at, IsSearch, IsOnStairs, AreLengths, IsWaiting}
-use Rattle.pc_flow.specs.inside.search.Growing.{IsScanned, IsMet, AreListed}
+use Rattle.pc_flow.specs.inside.search.Searches.{stair_at, IsSearch, IsOnStairs, HaveLengths, IsWaitingList}
+use Rattle.pc_flow.specs.inside.search.Growing.{IsScanned, IsMet, AreDueLater}
 use Rattle.pc_flow.specs.search.Labelling.{length_at}
-use Rattle.pc_flow.specs.inside.search.Labelling.{slope_at, IsStateWith, IsBetween}
+use Rattle.pc_flow.specs.inside.search.Labelling.{slope_at, IsStateWith, IsBetweenLabellings}
 use Rattle.pc_flow.proofs.lemmas.search.KeptLaws.{with_lengths, lengths-kept}
 use Rattle.pc_flow.proofs.lemmas.search.StateLaws.{state-own}
 use Rattle.pc_flow.specs.declared.early.TheConstants.{MAX_LENGTH}
@@ -102,7 +102,7 @@ module _ (net : PricedNetwork) (home : Cells) (b s t v u : Sheet) (events activi
   rest = reached ∙ ap (opened_as (clear_sheet home net.network.events (length net.network.arcs))) (sym reached)
 
   pub opened : ((e : ℕ) → e < net.network.events → IsEarly net.network (normals net.terms) e (kept_time t e))
-      → ((e : ℕ) → e < net.network.events → kept_time t e ≤ MAX_LENGTH) → AreLengths net v → IsOpened net home u
+      → ((e : ℕ) → e < net.network.events → kept_time t e ≤ MAX_LENGTH) → HaveLengths net v → IsOpened net home u
   opened early small lengths = record {
     rest = rest;
     queue = starts.queue_at ∙ is_start;
@@ -213,13 +213,13 @@ module _ (net : PricedNetwork) (home : Cells) (s : Sheet) (is : IsOpened net hom
         ap (queue_of s) place ∙ (is.queue ∙ sym (labelled-start e some));
   }
 
-  times : AreTimes s
+  times : AreStoredTimes s
   times = record {
     deep = λ e inside none. omega (arith, fallen-is);
     fits = λ e inside. omega (arith, fallen-is, time-is e, is.small e (omega (arith, inside, events-are)));
   }
 
-  waiting : IsWaiting s
+  waiting : IsWaitingList s
   waiting = record {
     few = omega (arith, len-is);
     range = λ k below. absurd (omega (arith, below, len-is));
@@ -274,7 +274,7 @@ module _ (net : PricedNetwork) (home : Cells) (s : Sheet) (is : IsOpened net hom
   room : HaveRoom s
   room = record { some = λ e inside has. absurd (no-step e has) }
 
-  between : IsBetween net s
+  between : IsBetweenLabellings net s
   between = record {
     search = search;
     room = room;
@@ -290,7 +290,7 @@ module _ (net : PricedNetwork) (home : Cells) (s : Sheet) (is : IsOpened net hom
   none-met a (inl from) = none-scanned (from_of net.network.arcs a) from
   none-met a (inr to) = none-scanned (to_of net.network.arcs a) to
 
-  listed : AreListed net s
+  listed : AreDueLater net s
   listed a known met way may = absurd (none-met a met)
 
   normal-is : (a : ℕ) → a < length net.network.arcs → lesser_of net.network net.terms (time_of s) a ≡ normal_of net.terms a

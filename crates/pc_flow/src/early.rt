@@ -1,6 +1,6 @@
 //! The times of the events on a board, from the durations of the activities.
 ghost use Rattle.std.specs.Prelude.{◌≡◌, ◌<◌, length, slice_index, ◌≤◌, ℕ};
-ghost use Rattle.pc_flow.specs.inside.Paces.{durations_at, HasSmallTimes, AreEarlyBefore};
+ghost use Rattle.pc_flow.specs.inside.Paces.{durations_at, HasSmallTimes, HasEarlyPredecessors};
 ghost use Rattle.pc_model.specs.Network.{IsEarly};
 ghost use Rattle.pc_flow.specs.board.Sheets.{kept_time};
 ghost use Rattle.pc_flow.specs.inside.board.Labelling.{IsFor};
@@ -52,7 +52,7 @@ pub(crate) fn keep_early_times(board: &mut Board, net: &CrashNet<'_>, pace: Pace
 fn latest_arrival(board: &Board, net: &CrashNet<'_>, pace: Pace, e: u32) -> u64
     requires fits { IsFor net.now.network board.now }
     requires small { HasSmallTimes net.now.network (durations_at net.now.terms pace) }
-    requires before { AreEarlyBefore net.now.network (durations_at net.now.terms pace) (kept_time board.now) e }
+    requires before { HasEarlyPredecessors net.now.network (durations_at net.now.terms pace) (kept_time board.now) e }
     ensures { IsEarly net.now.network (durations_at net.now.terms pace) e result }
 {
     let shape = net.net();

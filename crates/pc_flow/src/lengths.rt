@@ -4,7 +4,7 @@ ghost use Rattle.pc_laws.specs.Stair.{full_reach};
 ghost use Rattle.pc_flow.specs.board.Sheets.{flow_of};
 ghost use Rattle.pc_flow.specs.inside.board.Sheets.{step_of, room_of};
 ghost use Rattle.pc_flow.specs.inside.board.Labelling.{IsFor};
-ghost use Rattle.pc_flow.specs.inside.search.Searches.{stair_at, AreLengths};
+ghost use Rattle.pc_flow.specs.inside.search.Searches.{stair_at, HaveLengths};
 ghost use Rattle.pc_flow.specs.inside.search.Lengths.{IsLevelAt, RenewsAt};
 
 use crate::board::Board;
@@ -16,7 +16,7 @@ pub(crate) fn keep_lengths(board: &mut Board, net: &CrashNet<'_>)
     requires fits { IsFor net.now.network board.old }
     requires empty { (a : ℕ) → flow_of board.old a ≡ 0 }
     ensures rest { board.new ≡ record board.old { up = board.new.up; down = board.new.down } }
-    ensures lengths { AreLengths net.now board.new }
+    ensures lengths { HaveLengths net.now board.new }
 {
     net.facts();
     let shape = net.net();

@@ -10,8 +10,8 @@ ghost use Rattle.pc_cells.specs.inside.Spans.{free_of};
 ghost use Rattle.pc_flow.specs.search.Labelling.{slopes_in};
 ghost use Rattle.pc_flow.specs.Courses.{IsLevel, lower_of, IsSameCurve, IsFurther, most_looks};
 ghost use Rattle.pc_flow.specs.inside.Courses.{IsOnCurve, IsNext, HasEnded, present};
-ghost use Rattle.pc_flow.specs.inside.search.Growing.{AreListed};
-ghost use Rattle.pc_flow.specs.inside.search.Labelling.{IsBetween, MayFall};
+ghost use Rattle.pc_flow.specs.inside.search.Growing.{AreDueLater};
+ghost use Rattle.pc_flow.specs.inside.search.Labelling.{IsBetweenLabellings, MayFall};
 ghost use Rattle.pc_flow.specs.inside.Descents.{HasDescended, HasSearched};
 ghost use Rattle.pc_laws.specs.Stair.{stair_of, knee_flow, crash_flow};
 ghost use Rattle.pc_crash.specs.Priced.{knees_in, ArePiecesWithinLimits};
@@ -305,8 +305,8 @@ impl<'n> SegmentView for Solver<'n> {
 
 // Has the events without a label fall to the lower end of the present segment, if it has one.
 fn descend(board: &mut Board, net: &CrashNet<'_>, fall: u64)
-    requires between { IsBetween net.now board.old }
-    requires listed { AreListed net.now board.old }
+    requires between { IsBetweenLabellings net.now board.old }
+    requires listed { AreDueLater net.now board.old }
     requires falls { 0 < fall → MayFall net.now board.old fall }
     ensures { HasDescended net.now board.old board.new fall }
 {
@@ -324,8 +324,8 @@ fn search_on<L: Ledger>(
     shortest: u64,
     steps: &mut Steps<L>,
 ) -> Labelling
-    requires between { IsBetween net.now board.old }
-    requires listed { AreListed net.now board.old }
+    requires between { IsBetweenLabellings net.now board.old }
+    requires listed { AreDueLater net.now board.old }
     requires shortest { IsAllCrashLength net.now.network net.now.terms shortest }
     ensures counted { steps.new ≤ steps.old + 4 * length net.now.network.arcs * (result.rise + result.fall) }
     ensures searched { HasSearched net.now board.old board.new shortest result.rise

@@ -8,9 +8,9 @@ use Rattle.std.proofs.Math.Nat.{lt-mul-div-succ, mul-div-le, mul-le-mul_left}
 use Rattle.pc_rollup.specs.Totals.{amount_at}
 use Rattle.pc_load.specs.declared.spread.Spread.{Spread}
 use Rattle.pc_load.specs.declared.table.LoadRow.{LoadRow}
-use Rattle.pc_load.specs.inside.Adding.{CanTake, IsAdded, IsGrown}
+use Rattle.pc_load.specs.inside.Adding.{CanGrowRow, IsAdded, IsGrown}
 use Rattle.pc_load.specs.Share.{share, part}
-use Rattle.pc_load.specs.Table.{column_of}
+use Rattle.pc_load.specs.Table.{cells_of_period}
 use Rattle.pc_load.proofs.ColumnLaws.{read_cell, column-set_same, column-set_other}
 use Rattle.pc_load.proofs.ShareLaws.{share_none, part_before, part_behind}
 
@@ -18,13 +18,13 @@ use Rattle.pc_load.proofs.ShareLaws.{share_none, part_before, part_behind}
 pub record IsAddedTo (rows periods : ℕ) (entry : LoadRow) (width n : ℕ) (old new : List ℤ) : Type 0 where
   pub one_each : length new ≡ length old
   pub done : (k : ℕ) → k < n → k < periods → IsGrown rows entry width old new k
-  pub rest : (k : ℕ) → n ≤ k → column_of rows new k ≡ column_of rows old k
+  pub rest : (k : ℕ) → n ≤ k → cells_of_period rows new k ≡ cells_of_period rows old k
 
 -- a period with nothing of the entry stays as it is
-grown_by_none : (rows : ℕ) (entry : LoadRow) (width : ℕ) (old new : List ℤ) (k : ℕ) → column_of rows new k ≡ column_of rows old k →
+grown_by_none : (rows : ℕ) (entry : LoadRow) (width : ℕ) (old new : List ℤ) (k : ℕ) → cells_of_period rows new k ≡ cells_of_period rows old k →
     part entry.spread (width * k) (width * (k + 1)) ≡ 0 → IsGrown rows entry width old new k
 grown_by_none rows entry width old new k same none =
-    let column = column_of rows old k in
+    let column = cells_of_period rows old k in
     let still : amount_at column entry.row ≡ amount_at column entry.row +ℤ pos 0 = omega (arith, ints) in
     same ∙ (sym (set-get_or column entry.row (pos 0)) ∙ ap (set column entry.row) (still ∙ ap (λ (n : ℕ). amount_at column entry.row +ℤ pos n) (sym none)))
 
@@ -46,9 +46,9 @@ begun_none s width = share_none s (width * (s.begin / width)) (mul-div-le s.begi
 
 -- a cell that is still to come holds what it held, which is small
 pub still_small : (rows periods : ℕ) (entry : LoadRow) (width n : ℕ) (old new : List ℤ) → IsAddedTo rows periods entry width n old new →
-    entry.row < rows → CanTake rows periods entry.row old → n < periods → unsigned_abs (amount_at new (n * rows + entry.row)) < 2 ^ 62
+    entry.row < rows → CanGrowRow rows periods entry.row old → n < periods → unsigned_abs (amount_at new (n * rows + entry.row)) < 2 ^ 62
 still_small rows periods entry width n old new are known room within =
-    let same : amount_at (column_of rows old n) entry.row ≡ amount_at new (n * rows + entry.row) =
+    let same : amount_at (cells_of_period rows old n) entry.row ≡ amount_at new (n * rows + entry.row) =
     sym (ap (λ (l : List ℤ). amount_at l entry.row) (are.rest n (omega arith))) ∙ read_cell rows new n entry.row known in
     subst (λ (z : ℤ). unsigned_abs z < 2 ^ 62) same (room n within)
 
@@ -65,7 +65,7 @@ added_more rows periods entry width n old new by so_far v are known before behin
 }
   where
     column : List ℤ
-    column = column_of rows old n
+    column = cells_of_period rows old n
 
     value : v ≡ amount_at column entry.row +ℤ pos (part entry.spread (width * n) (width * (n + 1)))
     value =

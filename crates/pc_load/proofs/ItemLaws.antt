@@ -13,14 +13,14 @@ use Rattle.pc_rollup.proofs.SumLaws.{IsSumOver-natural}
 use Rattle.pc_rollup.proofs.WholeLaws.{lines_have_all}
 use Rattle.pc_load.specs.Items.{LevelsAddUp}
 use Rattle.pc_load.specs.inside.Items.{IsItemTable}
-use Rattle.pc_load.specs.Table.{Table, column, column_of}
+use Rattle.pc_load.specs.Table.{Table, column, cells_of_period}
 use Rattle.pc_load.specs.inside.Table.{IsTable}
 use Rattle.pc_load.proofs.ColumnLaws.{before_next}
 
 -- the first n periods are rolled up
 pub record AreRolledTo (tree : List ItemRow) (leaves : Table) (n : ℕ) (cells : List ℤ) : Type 0 where
   pub whole : length cells ≡ n * length tree
-  pub each : (k : ℕ) → k < n → AreRolledUp tree (column leaves k) (column_of (length tree) cells k)
+  pub each : (k : ℕ) → k < n → AreRolledUp tree (column leaves k) (cells_of_period (length tree) cells k)
 
 -- one period more
 pub rolled_more : (tree : List ItemRow) (leaves : Table) (n : ℕ) (cells totals : List ℤ) → AreRolledTo tree leaves n cells →
@@ -32,20 +32,20 @@ rolled_more tree leaves n cells totals so_far rolled = record {
   each = λ k lt. ⊎_elim (λ e. last k e) (λ ne. earlier k (omega arith)) (cases_eq k n);
 }
   where
-    last : (k : ℕ) → k ≡ n → AreRolledUp tree (column leaves k) (column_of (length tree) (cells ++ totals) k)
+    last : (k : ℕ) → k ≡ n → AreRolledUp tree (column leaves k) (cells_of_period (length tree) (cells ++ totals) k)
     last k e =
-        let here : column_of (length tree) (cells ++ totals) n
+        let here : cells_of_period (length tree) (cells ++ totals) n
         ≡ totals = ap (take (length tree)) (drop_at cells totals (n * length tree) so_far.whole)
         ∙ take_all (length tree) totals (omega (arith, rolled.one_each)) in
-        subst (λ (j : ℕ). AreRolledUp tree (column leaves j) (column_of (length tree) (cells ++ totals) j)) (sym e) (subst (AreRolledUp tree (column leaves n)) (sym here) rolled)
+        subst (λ (j : ℕ). AreRolledUp tree (column leaves j) (cells_of_period (length tree) (cells ++ totals) j)) (sym e) (subst (AreRolledUp tree (column leaves n)) (sym here) rolled)
 
-    earlier : (k : ℕ) → k < n → AreRolledUp tree (column leaves k) (column_of (length tree) (cells ++ totals) k)
+    earlier : (k : ℕ) → k < n → AreRolledUp tree (column leaves k) (cells_of_period (length tree) (cells ++ totals) k)
     earlier k lt =
         let up = before_next (length tree) k n lt in
         let rest = length-drop (k * length tree) cells in
         let whole = so_far.whole in
-        let same : column_of (length tree) (cells ++ totals) k
-        ≡ column_of (length tree) cells k = ap (take (length tree)) (drop-append-le (k * length tree) cells totals (omega arith))
+        let same : cells_of_period (length tree) (cells ++ totals) k
+        ≡ cells_of_period (length tree) cells k = ap (take (length tree)) (drop-append-le (k * length tree) cells totals (omega arith))
         ∙ take-append-le (length tree) (drop (k * length tree) cells) totals (omega arith) in
         subst (AreRolledUp tree (column leaves k)) (sym same) (so_far.each k lt)
 
@@ -67,7 +67,7 @@ items_natural tree leaves n cells is one_each whole so_far = record {
   whole = so_far.whole ∙ ap (λ (m : ℕ). m * length tree) whole;
   natural = λ row k known lt.
       let rolled = so_far.each k (omega arith) in
-      IsSumOver-natural (λ x. IsLeaf tree x × IsBelow tree x row) (length tree) (amount_at (column leaves k)) (amount_at (column_of (length tree) cells k) row)
+      IsSumOver-natural (λ x. IsLeaf tree x × IsBelow tree x row) (length tree) (amount_at (column leaves k)) (amount_at (cells_of_period (length tree) cells k) row)
       (λ x h. is.natural x k (omega arith) lt) (rolled.each row known);
 }
 

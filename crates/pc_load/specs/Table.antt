@@ -12,12 +12,12 @@ pub record Table : Type 0 where
   pub cells : List ℤ
 
 -- the amounts of period k, one for each of `rows` rows
-abbrev pub column_of : ℕ → List ℤ → ℕ → List ℤ
-column_of rows cells k = take rows (drop (k * rows) cells)
+abbrev pub cells_of_period : ℕ → List ℤ → ℕ → List ℤ
+cells_of_period rows cells k = take rows (drop (k * rows) cells)
 
 -- the amounts of period k of a table
 abbrev pub column : Table → ℕ → List ℤ
-column table k = column_of table.rows table.cells k
+column table k = cells_of_period table.rows table.cells k
 
 -- the amount of a row in period k
 abbrev pub amount_in : Table → ℕ → ℕ → ℤ

@@ -1,6 +1,6 @@
 //! What a project spreads: the costs of its activities, and its loads on resources.
 ghost use Rattle.std.specs.Prelude.{◌≡◌, ◌<◌, length, IfOk};
-ghost use Rattle.pc_load.specs.inside.Entries.{AreCosts, AreLoads, AreTimes};
+ghost use Rattle.pc_load.specs.inside.Entries.{AreCosts, AreLoads, AreEarliestTimes};
 ghost use Rattle.pc_load.specs.Loading.{spread_at};
 ghost use Rattle.pc_load.specs.inside.Table.{AreEntries};
 
@@ -15,7 +15,7 @@ pub(crate) fn costs(
     project: &Project,
     times: &[u64],
 ) -> Result<Vec<LoadRow>, AllocError>
-    requires { AreTimes project.now times.now }
+    requires { AreEarliestTimes project.now times.now }
     ensures costs { IfOk result (λ entries. AreCosts project.now times.now
         (length project.now.network.arcs) entries.items) }
     ensures entries { IfOk result (λ entries. AreEntries (length project.now.tree) entries.items) }
@@ -38,7 +38,7 @@ pub(crate) fn loads(
     project: &Project,
     times: &[u64],
 ) -> Result<Vec<LoadRow>, AllocError>
-    requires { AreTimes project.now times.now }
+    requires { AreEarliestTimes project.now times.now }
     ensures loads { IfOk result (λ entries. AreLoads project.now times.now (length project.now.loads) entries.items) }
     ensures entries { IfOk result (λ entries. AreEntries (length project.now.resources) entries.items) }
 {
@@ -56,7 +56,7 @@ pub(crate) fn loads(
 
 /// An amount of an activity, spread over its expected time from the time of the event where it begins.
 fn spread_at(project: &Project, times: &[u64], a: u32, amount: u64) -> Spread
-    requires times { AreTimes project.now times.now }
+    requires times { AreEarliestTimes project.now times.now }
     requires known { a < length project.now.network.arcs }
     ensures { result ≡ spread_at project.now times.now a amount }
 {

@@ -1,9 +1,9 @@
 //! What a project spends and takes of its resources in each period.
 ghost use Rattle.std.specs.Prelude.{◌≡◌, ◌*◌, ◌<◌, ◌≤◌, slice_index, IfOk, IfErr};
-ghost use Rattle.pc_load.specs.inside.Entries.{AreTimes};
+ghost use Rattle.pc_load.specs.inside.Entries.{AreEarliestTimes};
 ghost use Rattle.pc_load.specs.Items.{LevelsAddUp};
 ghost use Rattle.pc_load.specs.Loading.{AreItemParts, IsLoading, ItemsAddUp};
-ghost use Rattle.pc_load.specs.inside.Loading.{HasNoLoad, IsReadyFor};
+ghost use Rattle.pc_load.specs.inside.Loading.{HasNoLoad, IsReadyToLoad};
 ghost use Rattle.pc_load.specs.inside.PrintedLoad.{loading_of};
 
 use crate::entries::{costs, loads};
@@ -93,7 +93,7 @@ impl Loading {
         requires least { 1 ≤ days }
         requires most { days ≤ MAX_DAYS }
         ensures loading { IfOk result (IsLoading project.now days) }
-        ensures ready { IfOk result (IsReadyFor project.now) }
+        ensures ready { IfOk result (IsReadyToLoad project.now) }
         ensures none { IfErr result (HasNoLoad project.now days) }
     {
         let times = early(alloc, project.net(), project.expected())?;
@@ -134,7 +134,7 @@ fn items_of(
     width: u64,
     periods: u32,
 ) -> Result<Table, AllocError>
-    requires times { AreTimes project.now times.now }
+    requires times { AreEarliestTimes project.now times.now }
     requires least_width { 6 ≤ width }
     requires most_width { width ≤ 21_960 }
     requires some_periods { 1 ≤ periods }

@@ -2,7 +2,7 @@
 ghost use Rattle.std.specs.Prelude.{◌≡◌, ◌<◌, pos, ◌+ℤ◌, length};
 ghost use Rattle.pc_days.specs.Calendar.{date_or_none};
 ghost use Rattle.pc_edges.specs.inside.page.Puts.{Puts};
-ghost use Rattle.pc_load.specs.inside.Loading.{IsReadyFor};
+ghost use Rattle.pc_load.specs.inside.Loading.{IsReadyToLoad};
 ghost use Rattle.pc_load.specs.inside.PrintedLoad.{loading_of};
 ghost use Rattle.pc_load.specs.LoadText.{amount_row, item_rows, period_cells, period_row, resource_rows};
 ghost use Rattle.pc_load.specs.Table.{amount_in};
@@ -37,7 +37,7 @@ impl<'a> Rows for PeriodRows<'a> {
 
     ghost row_text = { λ t. period_row t.project.now t.printed.now.days };
 
-    ghost IsReady = { λ t. IsReadyFor t.project.now (loading_of t.printed.now) };
+    ghost IsReady = { λ t. IsReadyToLoad t.project.now (loading_of t.printed.now) };
 
     fn count(&self) -> usize {
         self.printed.items.periods() as usize
@@ -61,7 +61,7 @@ impl<'a> Rows for ItemLoadRows<'a> {
 
     ghost row_text = { λ t. item_rows t.project.now (loading_of t.printed.now) };
 
-    ghost IsReady = { λ t. IsReadyFor t.project.now (loading_of t.printed.now) };
+    ghost IsReady = { λ t. IsReadyToLoad t.project.now (loading_of t.printed.now) };
 
     fn count(&self) -> usize {
         self.printed.order.len()
@@ -87,7 +87,7 @@ impl<'a> Rows for ResourceRows<'a> {
 
     ghost row_text = { λ t. resource_rows t.project.now (loading_of t.printed.now) };
 
-    ghost IsReady = { λ t. IsReadyFor t.project.now (loading_of t.printed.now) };
+    ghost IsReady = { λ t. IsReadyToLoad t.project.now (loading_of t.printed.now) };
 
     fn count(&self) -> usize {
         self.project.resource_count() as usize

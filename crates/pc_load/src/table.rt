@@ -5,7 +5,7 @@ ghost use Rattle.pc_rollup.specs.inside.Totals.{AreAtLeaves};
 ghost use Rattle.pc_load.specs.Items.{LevelsAddUp};
 ghost use Rattle.pc_load.specs.inside.Items.{IsItemTable};
 ghost use Rattle.pc_load.specs.Table.{amount_in, column};
-ghost use Rattle.pc_load.specs.inside.Adding.{CanTake, IsAdded};
+ghost use Rattle.pc_load.specs.inside.Adding.{CanGrowRow, IsAdded};
 ghost use Rattle.pc_load.specs.inside.Share.{IsSpread};
 ghost use Rattle.pc_load.specs.inside.Table.{AreEntries, IsTableOf, RowsAddUp};
 
@@ -129,7 +129,7 @@ fn add(cells: &mut [i64], rows: u32, periods: u32, entry: &LoadRow, width: u64)
     requires spread { IsSpread entry.now.spread }
     requires least_width { 6 ≤ width }
     requires most_width { width ≤ 21_960 }
-    requires room { CanTake rows periods entry.now.row cells.old }
+    requires room { CanGrowRow rows periods entry.now.row cells.old }
     ensures { IsAdded rows periods entry.now width cells.old cells.new }
 {
     let s = &entry.spread;

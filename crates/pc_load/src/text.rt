@@ -2,7 +2,7 @@
 ghost use Rattle.std.specs.Prelude.{◌≡◌, ℕ, ◌≤◌, List, length};
 ghost use Rattle.pc_edges.specs.inside.Writes.{Writes};
 ghost use Rattle.pc_edges.specs.inside.page.Puts.{Puts};
-ghost use Rattle.pc_load.specs.inside.Loading.{IsReadyFor};
+ghost use Rattle.pc_load.specs.inside.Loading.{IsReadyToLoad};
 ghost use Rattle.pc_load.specs.inside.PrintedLoad.{loading_of};
 ghost use Rattle.pc_load.specs.LoadText.{load_text};
 ghost use Rattle.pc_wbs.specs.Preorder.{IsPreorder};
@@ -55,7 +55,7 @@ pub fn write_load<O: Sink>(
 /// Puts the report of a project's loads on a page: a row for each period, and then, for each item in preorder and for
 /// each resource in card order, a row for each period in which it has a part.
 pub fn put_loading<O: Sink>(page: &mut Page, sink: &mut O, project: &Project, loading: &Loading)
-    requires { IsReadyFor project.now loading.now }
+    requires { IsReadyToLoad project.now loading.now }
     ensures { Puts O.taken O.faults page.old sink.old page.new sink.new (load_text project.now loading.now) }
 {
     put_load(page, sink, project, &loading.printed());
@@ -63,7 +63,7 @@ pub fn put_loading<O: Sink>(page: &mut Page, sink: &mut O, project: &Project, lo
 
 /// Puts the report on a page.
 fn put_load<O: Sink>(page: &mut Page, sink: &mut O, project: &Project, printed: &PrintedLoad<'_>)
-    requires { IsReadyFor project.now (loading_of printed.now) }
+    requires { IsReadyToLoad project.now (loading_of printed.now) }
     ensures { Puts O.taken O.faults page.old sink.old page.new sink.new
         (load_text project.now (loading_of printed.now)) }
 {

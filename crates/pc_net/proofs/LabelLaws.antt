@@ -8,7 +8,7 @@ use Rattle.pc_model.specs.Walk.{from_of, to_of, IsWalk}
 use Rattle.pc_model.specs.Network.{Network}
 use Rattle.pc_model.proofs.Walks.OrderLaws.{room_below}
 use Rattle.pc_net.specs.Cycles.{LiesOnCycle}
-use Rattle.pc_net.specs.inside.Labels.{IsQueued, IsSpread, NeverFalls}
+use Rattle.pc_net.specs.inside.Labels.{IsQueued, AreSpreadLabels, NeverFalls}
 use Rattle.pc_net.proofs.SearchLaws.{way_round}
 
 -- nor do they along a walk
@@ -24,8 +24,8 @@ apart_off_cycle arcs labels a rising apart lies =
     apart (omega (arith, rising a a_in, never_fall_along arcs labels rising (to_of arcs a) (from_of arcs a) rest walked))
 
 -- nothing is reached yet
-pub IsSpread-start : (net : Network) (label : ℕ) (labels : List ℕ) → length labels ≡ net.events → ((v : ℕ) → slice_index labels v ≡ 0) → 0 < label → IsSpread net label [] labels 0
-IsSpread-start net label labels sized cleared some = record {
+pub AreSpreadLabels-start : (net : Network) (label : ℕ) (labels : List ℕ) → length labels ≡ net.events → ((v : ℕ) → slice_index labels v ≡ 0) → 0 < label → AreSpreadLabels net label [] labels 0
+AreSpreadLabels-start net label labels sized cleared some = record {
   labels_len = sized;
   some = some;
   within = omega arith;
@@ -38,9 +38,10 @@ IsSpread-start net label labels sized cleared some = record {
 }
 
 -- nor where none has been reached, and each event has the label 0
-pub IsSpread-fresh : (net : Network) (label : ℕ) (reached labels : List ℕ) → reached ≡ [] → labels ≡ replicate net.events 0 → 0 < label → IsSpread net label reached labels (length reached)
-IsSpread-fresh net label reached labels none made some =
-    rw (none, made) (IsSpread-start net label (replicate net.events 0) (length-replicate {A = ℕ} net.events 0) cleared some)
+pub AreSpreadLabels-fresh : (net : Network) (label : ℕ) (reached labels : List ℕ) → reached ≡ [] → labels ≡ replicate net.events 0 → 0 < label → AreSpreadLabels net label reached labels
+    (length reached)
+AreSpreadLabels-fresh net label reached labels none made some =
+    rw (none, made) (AreSpreadLabels-start net label (replicate net.events 0) (length-replicate {A = ℕ} net.events 0) cleared some)
   where
     cleared : (v : ℕ) → slice_index (replicate net.events 0) v ≡ 0
     cleared v = ⊎_elim
@@ -49,9 +50,9 @@ IsSpread-fresh net label reached labels none made some =
         (cases_lt v net.events)
 
 -- between two rounds the label may fall
-pub IsSpread-lower : (net : Network) (label lower : ℕ) (reached labels : List ℕ) → IsSpread net label reached labels (length reached) →
-    0 < lower → lower ≤ label → IsSpread net lower reached labels (length reached)
-IsSpread-lower net label lower reached labels spread some below = record {
+pub AreSpreadLabels-lower : (net : Network) (label lower : ℕ) (reached labels : List ℕ) → AreSpreadLabels net label reached labels (length reached) →
+    0 < lower → lower ≤ label → AreSpreadLabels net lower reached labels (length reached)
+AreSpreadLabels-lower net label lower reached labels spread some below = record {
   labels_len = spread.labels_len;
   some = some;
   within = spread.within;
@@ -64,16 +65,16 @@ IsSpread-lower net label lower reached labels spread some below = record {
 }
 
 -- where nothing is left to cross, the labels never fall
-pub NeverFalls-from_spread : (net : Network) (label : ℕ) (reached labels : List ℕ) → IsSpread net label reached labels (length reached) → NeverFalls net.arcs labels
+pub NeverFalls-from_spread : (net : Network) (label : ℕ) (reached labels : List ℕ) → AreSpreadLabels net label reached labels (length reached) → NeverFalls net.arcs labels
 NeverFalls-from_spread net label reached labels spread a below =
     ⊎_elim (λ rises. rises) (λ queued. absurd (omega (arith, queued.1, queued.2))) (spread.follows a below)
 
 -- the events reached are different, and so no more than there are
-pub IsSpread-short : (net : Network) (label : ℕ) (reached labels : List ℕ) (at : ℕ) → IsSpread net label reached labels at → length reached ≤ net.events
-IsSpread-short net label reached labels at spread =
+pub AreSpreadLabels-short : (net : Network) (label : ℕ) (reached labels : List ℕ) (at : ℕ) → AreSpreadLabels net label reached labels at → length reached ≤ net.events
+AreSpreadLabels-short net label reached labels at spread =
     room_below reached net.events spread.range spread.once
 
-module _ (net : Network) (label : ℕ) (reached labels : List ℕ) (at : ℕ) (spread : IsSpread net label reached labels at) (w : ℕ) (w_in : w < net.events) (fresh : slice_index labels w ≡ 0) where
+module _ (net : Network) (label : ℕ) (reached labels : List ℕ) (at : ℕ) (spread : AreSpreadLabels net label reached labels at) (w : ℕ) (w_in : w < net.events) (fresh : slice_index labels w ≡ 0) where
   in_front : (k : ℕ) → k < length reached → slice_index (reached ++ w ∷ []) k ≡ slice_index reached k
   in_front k below = get_or_append_left reached (w ∷ []) 0 k below
 
@@ -103,8 +104,8 @@ module _ (net : Network) (label : ℕ) (reached labels : List ℕ) (at : ℕ) (s
   queued_still v (k, from, below, is) = (k, from, omega (arith, length_push reached w), in_front k below ∙ is)
 
   -- an event without a label gets this one, and is appended to those reached
-  pub IsSpread-push : IsSpread net label (reached ++ w ∷ []) (set labels w label) at
-  IsSpread-push = record {
+  pub AreSpreadLabels-push : AreSpreadLabels net label (reached ++ w ∷ []) (set labels w label) at
+  AreSpreadLabels-push = record {
     labels_len = length-set labels w label ∙ spread.labels_len;
     some = spread.some;
     within = omega (arith, spread.within, length_push reached w);
@@ -139,7 +140,7 @@ module _ (net : Network) (label : ℕ) (reached labels : List ℕ) (at : ℕ) (s
 
 -- the event at a place among those reached, of whose leaving activities the first j are crossed
 pub record IsSpreading (net : Network) (label : ℕ) (reached labels : List ℕ) (at event : ℕ) (leaving : List ℕ) (j : ℕ) : Type 0 where
-  pub spread : IsSpread net label reached labels at
+  pub spread : AreSpreadLabels net label reached labels at
   pub queued : at < length reached
   pub here : slice_index reached at ≡ event
   pub crossed : (i : ℕ) → i < j → label ≤ slice_index labels (to_of net.arcs (slice_index leaving i))
@@ -163,7 +164,7 @@ pub IsSpreading-push : (net : Network) (label : ℕ) (reached labels : List ℕ)
     IsSpreading net label reached labels at event leaving j → to_of net.arcs (slice_index leaving j) ≡ w → w < net.events →
     slice_index labels w ≡ 0 → IsSpreading net label (reached ++ w ∷ []) (set labels w label) at event leaving (j + 1)
 IsSpreading-push net label reached labels at event leaving j w spreading ends w_in fresh = record {
-  spread = IsSpread-push net label reached labels at spreading.spread w w_in fresh;
+  spread = AreSpreadLabels-push net label reached labels at spreading.spread w w_in fresh;
   queued = omega (arith, spreading.queued, length_push reached w);
   here = get_or_append_left reached (w ∷ []) 0 at spreading.queued ∙ spreading.here;
   crossed = λ i below. ⊎_elim
@@ -175,7 +176,7 @@ IsSpreading-push net label reached labels at event leaving j w spreading ends w_
 -- all of them are crossed
 pub IsSpreading-end : (net : Network) (label : ℕ) (reached labels : List ℕ) (at event : ℕ) (leaving : List ℕ) (j : ℕ) →
     IsListed (λ a. from_of net.arcs a ≡ event) (length net.arcs) leaving → IsSpreading net label reached labels at event leaving j →
-    j ≡ length leaving → IsSpread net label reached labels (at + 1)
+    j ≡ length leaving → AreSpreadLabels net label reached labels (at + 1)
 IsSpreading-end net label reached labels at event leaving j listed spreading done = record {
   labels_len = spreading.spread.labels_len;
   some = spreading.spread.some;

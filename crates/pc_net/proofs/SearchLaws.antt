@@ -8,11 +8,11 @@ use Rattle.pc_model.specs.Network.{Network}
 use Rattle.pc_model.proofs.Walks.WalkLaws.{IsWalk-append, IsWalk-push, split_walk_at}
 use Rattle.pc_model.proofs.Walks.OrderLaws.{room_below}
 use Rattle.pc_net.specs.Cycles.{LiesOnCycle, MeetsOnce, IsFirstCycle}
-use Rattle.pc_net.specs.inside.Cycles.{IsRound, IsSearch}
+use Rattle.pc_net.specs.inside.Cycles.{IsRound, IsSearchBack}
 
 -- the events that were found are different, and so no more than there are
-pub IsSearch-short : (net : Network) (a : ℕ) (steps ranks : List ℕ) (at : ℕ) → IsSearch net a steps ranks at → length steps ≤ net.events
-IsSearch-short net a steps ranks at search =
+pub IsSearchBack-short : (net : Network) (a : ℕ) (steps ranks : List ℕ) (at : ℕ) → IsSearchBack net a steps ranks at → length steps ≤ net.events
+IsSearchBack-short net a steps ranks at search =
     omega (arith, length-map steps (from_of net.arcs), room_below (map (from_of net.arcs) steps) net.events small once)
   where
     at_place : (k : ℕ) → k < length steps → slice_index (map (from_of net.arcs) steps) k ≡ from_of net.arcs (slice_index steps k)
@@ -32,7 +32,7 @@ IsSearch-short net a steps ranks at search =
 
 -- the event at a place of the search, of whose entering activities the first j were looked at
 pub record IsVisit (net : Network) (a : ℕ) (steps ranks : List ℕ) (at event : ℕ) (entering : List ℕ) (j : ℕ) : Type 0 where
-  pub search : IsSearch net a steps ranks at
+  pub search : IsSearchBack net a steps ranks at
   pub queued : at < length steps
   pub here : from_of net.arcs (slice_index steps at) ≡ event
   pub seen : (i : ℕ) → i < j → slice_index ranks (from_of net.arcs (slice_index entering i)) ≢ 0
@@ -124,7 +124,7 @@ module _ (net : Network) (a : ℕ) (steps ranks : List ℕ) (at event : ℕ) (en
   }
 
 -- every event from which a walk leads to where the activity begins is found
-pub found_from_walk : (net : Network) (a : ℕ) (steps ranks : List ℕ) → IsSearch net a steps ranks (length steps) → (e : ℕ) (walk : List ℕ) →
+pub found_from_walk : (net : Network) (a : ℕ) (steps ranks : List ℕ) → IsSearchBack net a steps ranks (length steps) → (e : ℕ) (walk : List ℕ) →
     IsWalk net.arcs e walk (from_of net.arcs a) → slice_index ranks e ≢ 0
 found_from_walk net a steps ranks search e [] walked none =
     omega (arith, search.ranked 0 search.some, ap (λ x. slice_index ranks (from_of net.arcs x)) search.begins, ap (slice_index ranks) walked, none)
@@ -147,7 +147,7 @@ way_round arcs a (cycle, (some, (e, walked)), (i, below, is)) =
     )
 
 -- if the end of an activity was not found, it is on no cycle
-pub off_cycle : (net : Network) (a : ℕ) (steps ranks : List ℕ) → IsSearch net a steps ranks (length steps) → slice_index ranks (to_of net.arcs a) ≡ 0 → LiesOnCycle net.arcs a → ⊥
+pub off_cycle : (net : Network) (a : ℕ) (steps ranks : List ℕ) → IsSearchBack net a steps ranks (length steps) → slice_index ranks (to_of net.arcs a) ≡ 0 → LiesOnCycle net.arcs a → ⊥
 off_cycle net a steps ranks search none lies =
     let (rest, walked) = (way_round net.arcs a lies).1 in
     found_from_walk net a steps ranks search (to_of net.arcs a) rest walked none
@@ -164,7 +164,7 @@ pub record IsWayBack (net : Network) (a : ℕ) (steps ranks cycle : List ℕ) (r
   pub once : MeetsOnce net.arcs cycle
 
 -- it continues by the step that leaves the event
-pub IsWayBack-step : (net : Network) (a : ℕ) (steps ranks cycle : List ℕ) (rank step next : ℕ) → IsSearch net a steps ranks (length steps) →
+pub IsWayBack-step : (net : Network) (a : ℕ) (steps ranks cycle : List ℕ) (rank step next : ℕ) → IsSearchBack net a steps ranks (length steps) →
     IsWayBack net a steps ranks cycle rank → 1 < rank → (k : ℕ) → k + 1 ≡ rank → step ≡ slice_index steps k →
     next ≡ slice_index ranks (to_of net.arcs step) → IsWayBack net a steps ranks (cycle ++ step ∷ []) next × (next < rank)
 IsWayBack-step net a steps ranks cycle rank step next search way more k k_is step_is next_is =

@@ -8,7 +8,7 @@ use Rattle.pc_model.specs.Network.{Network, IsInRange, IsEntered, IsLeft, IsDang
 use Rattle.pc_model.proofs.Walks.WalkLaws.{IsWalk-push}
 use Rattle.pc_model.proofs.Walks.OrderLaws.{stands_in_order, same_place, no_cycle_from_order}
 use Rattle.pc_model.proofs.Walks.CycleLaws.{HasCycle, long_walk_has_cycle, all_stand, stand_or_misses}
-use Rattle.pc_net.specs.inside.Queue.{IsMissing, IsBlocked}
+use Rattle.pc_net.specs.inside.Queue.{IsNotInOrder, IsBlocked}
 
 -- a function has a value somewhere below n, or nowhere
 value_or_not : (f : ℕ → ℕ) (v n : ℕ) → ((a : ℕ) × (a < n) × (f a ≡ v)) ⊎ ((a : ℕ) → a < n → f a ≢ v)
@@ -76,7 +76,7 @@ module _ (net : Network) (order : List ℕ) (ranged : IsInRange net) (ordered : 
   }
 
 -- back from a missing event there are walks of every length
-walk_back : (net : Network) (order : List ℕ) → IsInRange net → IsBlocked net order → (n v : ℕ) → v < net.events → IsMissing order v →
+walk_back : (net : Network) (order : List ℕ) → IsInRange net → IsBlocked net order → (n v : ℕ) → v < net.events → IsNotInOrder order v →
     (e : ℕ) × (e < net.events) × ((walk : List ℕ) × (length walk ≡ n) × IsWalk net.arcs e walk v)
 walk_back net order ranged blocked zero v known missing = (v, known, ([], refl, refl))
 walk_back net order ranged blocked (suc n) v known missing =

@@ -2,7 +2,7 @@
 //! activities finds an order of the events, and a search along them from each event in turn, the last one first, labels
 //! those that it reaches.
 ghost use Rattle.std.specs.Prelude.{◌≡◌, ◌+◌, ◌<◌, IfOk, OnOk, length, vec_len};
-ghost use Rattle.pc_net.specs.inside.Labels.{IsSpread, NeverFalls};
+ghost use Rattle.pc_net.specs.inside.Labels.{AreSpreadLabels, NeverFalls};
 ghost use Rattle.pc_net.specs.inside.Turns.{AreEvents, AreTurns};
 
 use crate::graph::Graph;
@@ -33,7 +33,7 @@ fn spread_all(
     labels: &mut Vec<u32>,
 ) -> Result<(), AllocError>
     requires roots { AreEvents graph.now.events roots.old.items }
-    requires spread { IsSpread graph.now (graph.now.events + 1) reached.old.items labels.old.items
+    requires spread { AreSpreadLabels graph.now (graph.now.events + 1) reached.old.items labels.old.items
         (length reached.old.items) }
     ensures sized { OnOk result (vec_len labels.new ≡ graph.now.events) }
     ensures never_falls { OnOk result (NeverFalls graph.now.arcs labels.new.items) }
@@ -53,9 +53,9 @@ fn spread_next(
     labels: &mut Vec<u32>,
 ) -> Result<(), AllocError>
     requires roots { AreEvents graph.now.events roots.old.items }
-    requires spread { IsSpread graph.now label reached.old.items labels.old.items (length reached.old.items) }
+    requires spread { AreSpreadLabels graph.now label reached.old.items labels.old.items (length reached.old.items) }
     ensures roots { AreEvents graph.now.events roots.new.items }
-    ensures spread { OnOk result (IsSpread graph.now label reached.new.items labels.new.items
+    ensures spread { OnOk result (AreSpreadLabels graph.now label reached.new.items labels.new.items
         (length reached.new.items)) }
 {
     match roots.pop() {
@@ -73,8 +73,9 @@ fn spread(
     labels: &mut Vec<u32>,
 ) -> Result<(), AllocError>
     requires known { root < graph.now.events }
-    requires spread { IsSpread graph.now label reached.old.items labels.old.items (length reached.old.items) }
-    ensures { OnOk result (IsSpread graph.now label reached.new.items labels.new.items (length reached.new.items)) }
+    requires spread { AreSpreadLabels graph.now label reached.old.items labels.old.items (length reached.old.items) }
+    ensures { OnOk result (AreSpreadLabels graph.now label reached.new.items labels.new.items
+        (length reached.new.items)) }
 {
     if labels[root as usize] != 0 {
         return Ok(());
@@ -98,8 +99,8 @@ fn cross(
     labels: &mut Vec<u32>,
 ) -> Result<(), AllocError>
     requires queued { at < length reached.old.items }
-    requires spread { IsSpread graph.now label reached.old.items labels.old.items at }
-    ensures spread { OnOk result (IsSpread graph.now label reached.new.items labels.new.items (at + 1)) }
+    requires spread { AreSpreadLabels graph.now label reached.old.items labels.old.items at }
+    ensures spread { OnOk result (AreSpreadLabels graph.now label reached.new.items labels.new.items (at + 1)) }
 {
     for a in graph.out_arcs(reached[at]) {
         let next = graph.to(*a);

@@ -2,7 +2,7 @@
 ghost use Rattle.std.specs.Prelude.{◌≡◌, ◌≢◌, ℕ, ◌+◌, ◌<◌, ◌≤◌, IfOk, MatchOption, OnOk, length, slice_index, vec_len};
 ghost use Rattle.pc_model.specs.Walk.{to_of};
 ghost use Rattle.pc_net.specs.Cycles.{LiesOnCycle, IsFirstCycle};
-ghost use Rattle.pc_net.specs.inside.Cycles.{IsRound, IsSearch};
+ghost use Rattle.pc_net.specs.inside.Cycles.{IsRound, IsSearchBack};
 
 use crate::components::labels_of;
 use crate::graph::Graph;
@@ -48,7 +48,7 @@ fn search(
     requires sized { vec_len ranks.old ≡ graph.now.events }
     requires few { vec_len ranks.old ≤ MAX_EVENTS }
     ensures sized { vec_len ranks.new ≡ graph.now.events }
-    ensures searched { OnOk result (IsSearch graph.now a steps.new.items ranks.new.items (length steps.new.items)) }
+    ensures searched { OnOk result (IsSearchBack graph.now a steps.new.items ranks.new.items (length steps.new.items)) }
 {
     clear(ranks);
     steps.clear();
@@ -82,9 +82,9 @@ fn visit(
 ) -> Result<(), AllocError>
     requires queued { at < length steps.old.items }
     requires few { vec_len ranks.old ≤ MAX_EVENTS }
-    requires searched { IsSearch graph.now a steps.old.items ranks.old.items at }
+    requires searched { IsSearchBack graph.now a steps.old.items ranks.old.items at }
     ensures sized { vec_len ranks.new ≡ vec_len ranks.old }
-    ensures searched { OnOk result (IsSearch graph.now a steps.new.items ranks.new.items (at + 1)) }
+    ensures searched { OnOk result (IsSearchBack graph.now a steps.new.items ranks.new.items (at + 1)) }
     ensures queued { OnOk result (at < length steps.new.items) }
 {
     for step in graph.in_arcs(graph.from(steps[at])) {
@@ -106,7 +106,7 @@ fn round(
     ranks: &[u32],
 ) -> Result<Vec<u32>, AllocError>
     requires known { a < length graph.now.arcs }
-    requires searched { IsSearch graph.now a steps.now ranks.now (length steps.now) }
+    requires searched { IsSearchBack graph.now a steps.now ranks.now (length steps.now) }
     requires found { slice_index ranks.now (to_of graph.now.arcs a) ≢ 0 }
     ensures { IfOk result (λ cycle. IsRound graph.now.arcs a cycle.items) }
 {

@@ -42,9 +42,9 @@ impl Model for Graph {
 
     ghost Value = { Network };
 
-    ghost use Rattle.pc_net.specs.inside.Graphs.{network_of, IsIndexed};
+    ghost use Rattle.pc_net.specs.inside.Graphs.{network_of_graph, IsIndexed};
 
-    ghost view = { network_of };
+    ghost view = { network_of_graph };
 
     ghost invariant = { IsIndexed };
 }

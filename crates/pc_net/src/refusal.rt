@@ -3,7 +3,7 @@
 ghost use Rattle.std.specs.Prelude.{◌<◌, IfErr, IsErrOf, MatchBool, OnOk};
 ghost use Rattle.pc_model.specs.Network.{IsDangling};
 ghost use Rattle.pc_net.specs.Firmness.{EntersStart, LeavesEnd, Dangles, IsUnentered, IsFirm};
-ghost use Rattle.pc_net.specs.inside.Firmness.{IsFirstIn, IsUnleft};
+ghost use Rattle.pc_net.specs.inside.Firmness.{IsFirstOrNone, IsUnleft};
 ghost use Rattle.pc_net.specs.Refusals.{IsNetError};
 
 use crate::graph::Graph;
@@ -59,7 +59,7 @@ pub(crate) fn check(graph: &Graph) -> Result<(), NetError>
 
 /// The first activity that ends at the start.
 fn entering_start(graph: &Graph) -> Option<u32>
-    ensures { IsFirstIn (EntersStart graph.now) result }
+    ensures { IsFirstOrNone (EntersStart graph.now) result }
 {
     match graph.in_arcs(graph.start()) {
         [] => None,
@@ -69,7 +69,7 @@ fn entering_start(graph: &Graph) -> Option<u32>
 
 /// The first activity that begins at the end.
 fn leaving_end(graph: &Graph) -> Option<u32>
-    ensures { IsFirstIn (LeavesEnd graph.now) result }
+    ensures { IsFirstOrNone (LeavesEnd graph.now) result }
 {
     match graph.out_arcs(graph.end()) {
         [] => None,
@@ -79,7 +79,7 @@ fn leaving_end(graph: &Graph) -> Option<u32>
 
 /// The first event that dangles.
 fn dangling(graph: &Graph) -> Option<u32>
-    ensures { IsFirstIn (Dangles graph.now) result }
+    ensures { IsFirstOrNone (Dangles graph.now) result }
 {
     for event in 0..graph.events() {
         if is_dangling(graph, event) {

@@ -22,7 +22,7 @@ use Rattle.pc_faults.specs.inside.First.{IsFirstIn}
 use Rattle.pc_project.specs.PieceFaults.{HasFlaw, HasPieceFaultAt, pieces_before}
 use Rattle.pc_project.specs.Project.{piece_of, pieces_in, term_of, terms_in}
 use Rattle.pc_project.proofs.RunLaws.{AreRuns, IsRunOf}
-use Rattle.pc_project.specs.inside.Runs.{HasFlawBehind, IsNext, run_at}
+use Rattle.pc_project.specs.inside.Runs.{HasFlawBehind, IsNextPiece, run_at}
 use Rattle.pc_project.proofs.FitLaws.{no_act, piece_activity-within}
 use Rattle.pc_project.proofs.PlannedLaws.{no_piece, piece_there}
 
@@ -60,7 +60,7 @@ module _ (deck : Deck) (none : HasNoMisfit Plan deck) (limits : IsWithinLimits d
         )
 
     -- it can be taken in
-    pub next-is : IsNext (terms_in deck) runs piece
+    pub next-is : IsNextPiece (terms_in deck) runs piece
     next-is =
         let term = get_or-map term_of deck.acts piece.activity no_act (record { normal = 0; crash = 0; cost = 0; slope = 0 }) piece-known in
         let crash = (acts-within deck limits piece.activity no_act piece-known).crash in

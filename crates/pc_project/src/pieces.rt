@@ -6,7 +6,7 @@ ghost use Rattle.pc_faults.specs.First.{IsFirstFault};
 ghost use Rattle.pc_faults.specs.inside.First.{IsFirstIn, Refuses};
 ghost use Rattle.pc_project.specs.PieceFaults.{HasFlaw, HasNoPieceFault, HasPieceFault};
 ghost use Rattle.pc_project.specs.Project.{pieces_in, term_of};
-ghost use Rattle.pc_project.specs.inside.Runs.{HasFlawBehind, IsNext, run_at, run_with};
+ghost use Rattle.pc_project.specs.inside.Runs.{HasFlawBehind, IsNextPiece, run_at, run_with};
 
 use pc_deck::{ActCard, Cards, PieceCard};
 use pc_faults::{DeckError, Detail, Fault, earliest};
@@ -55,7 +55,7 @@ fn take_in(
     piece: PieceRow,
     card: &PieceCard,
 ) -> Option<Fault>
-    requires { IsNext (map term_of acts.now) runs.old.items piece }
+    requires { IsNextPiece (map term_of acts.now) runs.old.items piece }
     ensures fault { IsFirstIn (HasFlawBehind
         (map term_of acts.now) runs.old.items piece card.now.row card.now.activity) result }
     ensures runs { runs.new.items ≡ slice_set runs.old.items piece.activity

@@ -94,7 +94,12 @@ impl Refers for ItemCard {
 }
 
 /// Returns the fault of estimates and durations on the card at a record, if they are out of order (F18, F19).
-pub(crate) fn duration_fault(row: u32, estimates: Estimates, normal: u64, crash: u64) -> Option<Fault>
+pub(crate) fn duration_fault(
+    row: u32,
+    estimates: Estimates,
+    normal: u64,
+    crash: u64,
+) -> Option<Fault>
     ensures { IsFirstIn
         (HasDurationFault row estimates.optimistic estimates.likely estimates.pessimistic normal crash) result }
 {

@@ -5,7 +5,7 @@ use Rattle.csv.specs.Machine.{ends_at_end}
 use Rattle.csv.specs.Reading.{ReadRecord, Reached, default_config, is_flexible, reader_state, took_first}
 use Rattle.csv.specs.declared.parser.State.{State}
 use Rattle.csv.proofs.ReadFacts.{rows-end, rows-more}
-use Rattle.pc_records.specs.inside.Reading.{ByteReader, IsGoing, bytes_left, records_after}
+use Rattle.pc_records.specs.inside.Reading.{ByteReader, GivesRecords, unread_bytes, records_after}
 use Rattle.pc_records.proofs.DeckFacts.{next_record-between, records_after-next, records_after-none}
 
 -- the bytes that are left are known
@@ -19,8 +19,8 @@ is-known (Some ys) xs e = refl
 
 -- what a read that found a record leaves
 pub record Found (old new : ByteReader) (fields : List (List ℕ)) : Type 0 where
-  pub gives : records_after (reader_state old) (bytes_left old) ≡ fields ∷ records_after (reader_state new) (bytes_left new)
-  pub known : IsSome (bytes_left new)
+  pub gives : records_after (reader_state old) (unread_bytes old) ≡ fields ∷ records_after (reader_state new) (unread_bytes new)
+  pub known : IsSome (unread_bytes new)
   pub between : ends_at_end (reader_state new) ≡ false
 
 -- the record that a read found, by what was reached
@@ -32,19 +32,19 @@ reached-found s xs f s2 ys b h =
     let p = h.0 in
     (rw (h.2, ← h.3.0, ← h.3.1) (records_after-next s xs p b h.1), rw (← h.3.0) (next_record-between s xs p h.1))
 
-pub read-found : (old new : ByteReader) (fields : List (List ℕ)) → IsGoing old
+pub read-found : (old new : ByteReader) (fields : List (List ℕ)) → GivesRecords old
     → ReadRecord (λ (bytes : Bor (List ℕ)). Some bytes.now) old new true fields → Found old new fields
 unfolding Reached
 read-found old new fields g r =
-    let xs = some-known (bytes_left old) g.known in
+    let xs = some-known (unread_bytes old) g.known in
     let more = rows-more (λ (bytes : Bor (List ℕ)). Some bytes.now) old new fields default_config old.state xs.0 xs.0 [] g.config xs.1 (refl, refl) r in
     let one = reached-found old.state xs.0 fields new.state more.0 g.between more.2 in
     record { gives = rw (xs.1, more.1) one.0; known = is-known _ more.0 more.1; between = one.1 }
 
 -- a reader that found a record continues
-pub read-going : (old new : ByteReader) (fields : List (List ℕ)) → IsGoing old
+pub read-going : (old new : ByteReader) (fields : List (List ℕ)) → GivesRecords old
     → ReadRecord (λ (bytes : Bor (List ℕ)). Some bytes.now) old new true fields → took_first new ≡ true → is_flexible new ≡ is_flexible old
-    → IsGoing new
+    → GivesRecords new
 read-going old new fields g r first flexible =
     let found = read-found old new fields g r in
     record {
@@ -57,10 +57,10 @@ read-going old new fields g r first flexible =
     }
 
 -- a reader that found no record had none left
-pub read-none : (old new : ByteReader) (fields : List (List ℕ)) → IsGoing old
-    → ReadRecord (λ (bytes : Bor (List ℕ)). Some bytes.now) old new false fields → records_after (reader_state old) (bytes_left old) ≡ []
+pub read-none : (old new : ByteReader) (fields : List (List ℕ)) → GivesRecords old
+    → ReadRecord (λ (bytes : Bor (List ℕ)). Some bytes.now) old new false fields → records_after (reader_state old) (unread_bytes old) ≡ []
 read-none old new fields g r =
-    let xs = some-known (bytes_left old) g.known in
+    let xs = some-known (unread_bytes old) g.known in
     rw (xs.1) (records_after-none old.state xs.0 (rows-end (λ (bytes : Bor (List ℕ)). Some bytes.now) old new fields default_config xs.0 g.config xs.1 r))
 
 pub true-from_not : (b : Bool) → not b ≡ false → b ≡ true

@@ -4,7 +4,7 @@ ghost use Rattle.std.specs.Prelude.{◌≡◌, ◌+◌, ◌≤◌, ◌∷◌, []
 ghost use Rattle.csv.specs.Reading.{reader_state, strip_bom};
 ghost use Rattle.csv.specs.declared.parser.State.TheVariants as st;
 ghost use Rattle.pc_records.specs.Deck.{deck_records, without_mark};
-ghost use Rattle.pc_records.specs.inside.Reading.{bytes_left, IsGoing};
+ghost use Rattle.pc_records.specs.inside.Reading.{unread_bytes, GivesRecords};
 
 use crate::row::Row;
 use csv::{Reader, ReaderBuilder};
@@ -34,13 +34,13 @@ impl<'a> Drop for RowReader<'a> {
 
 impl<'a> Model for RowReader<'a> {
     ghost use Rattle.std.specs.Prelude.{ℕ, List};
-    ghost use Rattle.pc_records.specs.inside.Reading.{rows_left, GoesOn};
+    ghost use Rattle.pc_records.specs.inside.Reading.{rows_left, GoesUntilDone};
 
     ghost Value = { List (List (List ℕ)) };
 
     ghost view = { rows_left };
 
-    ghost invariant = { GoesOn };
+    ghost invariant = { GoesUntilDone };
 }
 
 impl<'a> RowReader<'a> {
@@ -95,9 +95,9 @@ fn unmarked(bytes: &[u8]) -> &[u8]
 
 // A reader of records of any length, without a header.
 fn reader_of(alloc: Global, bytes: &[u8]) -> Reader<&[u8]>
-    ensures going { IsGoing result }
+    ensures going { GivesRecords result }
     ensures state { reader_state result ≡ st.StartRecord }
-    ensures bytes { bytes_left result ≡ Some (strip_bom bytes.now) }
+    ensures bytes { unread_bytes result ≡ Some (strip_bom bytes.now) }
 {
     ReaderBuilder::new()
         .has_headers(false)

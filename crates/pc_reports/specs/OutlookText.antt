@@ -7,7 +7,7 @@ use Rattle.pc_edges.specs.Texts.{texts_to}
 use Rattle.pc_edges.specs.page.Cells.{left, right, row, cells_in, head_row}
 use Rattle.pc_project.specs.Project.{Project}
 use Rattle.pc_rollup.specs.declared.figures.outlook.OutlookAmounts.{OutlookAmounts}
-use Rattle.pc_rollup.specs.figures.Outline.{row_at}
+use Rattle.pc_rollup.specs.figures.Outline.{outline_row_at}
 use Rattle.pc_rollup.specs.figures.Outlook.{Outlook, IsOutlookOf, amounts_at}
 
 -- the columns of the items: the word above each, and at which side of which width its texts are
@@ -25,7 +25,7 @@ outlook_cells code level amounts title =
 -- the row of the k-th item of the outline
 abbrev pub outlook_row : Project → Outlook → ℕ → List ℕ
 outlook_row project outlook k =
-    let line = row_at outlook.outline k in
+    let line = outline_row_at outlook.outline k in
     outlook_cells (slice_index_or project.items line.item []) line.level (amounts_at outlook.amounts line.item) (slice_index_or project.titles line.item [])
 
 -- a row for each item, in preorder

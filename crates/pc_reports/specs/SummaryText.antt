@@ -7,7 +7,7 @@ use Rattle.pc_accounts.specs.Amounts.{entry_of_project}
 use Rattle.pc_project.specs.Project.{Project}
 use Rattle.pc_rollup.specs.declared.figures.summary.SummaryAmounts.{SummaryAmounts}
 use Rattle.pc_reports.specs.Lines.{dated_line}
-use Rattle.pc_rollup.specs.figures.Outline.{row_at}
+use Rattle.pc_rollup.specs.figures.Outline.{outline_row_at}
 use Rattle.pc_rollup.specs.figures.Summary.{Summary, IsSummaryOf, CountsOnce, item_amounts, level_amounts}
 
 -- the columns of the items and levels: the word above each, and at which side of which width its texts are
@@ -33,7 +33,7 @@ level_cells level amounts =
 -- the row of the k-th item of the outline
 abbrev pub item_row : Project → Summary → ℕ → List ℕ
 item_row project summary k =
-    let line = row_at summary.outline k in
+    let line = outline_row_at summary.outline k in
     item_cells (slice_index_or project.items line.item []) line.level (item_amounts summary line.item) (slice_index_or project.titles line.item [])
 
 -- the row of level k + 1

@@ -8,7 +8,7 @@ use Rattle.pc_rollup.specs.Least.{least_at}
 use Rattle.pc_rollup.specs.declared.figures.worth.WorthAmounts.{WorthAmounts}
 use Rattle.pc_reports.specs.Earned.{Earned, Forecasts, IsEarned}
 use Rattle.pc_reports.specs.Lines.{dated_line}
-use Rattle.pc_rollup.specs.figures.Outline.{row_at}
+use Rattle.pc_rollup.specs.figures.Outline.{outline_row_at}
 use Rattle.pc_rollup.specs.figures.Worth.{worth_amounts}
 
 -- the columns of the events: the word above each, and at which side of which width its texts are
@@ -46,7 +46,7 @@ worth_cells code level amounts slack title =
 -- the row of the k-th item of the outline
 abbrev pub worth_row : Project → Earned → ℕ → List ℕ
 worth_row project earned k =
-    let line = row_at earned.outline k in
+    let line = outline_row_at earned.outline k in
     worth_cells (slice_index_or project.items line.item []) line.level (worth_amounts earned.worth line.item) (least_at earned.forecasts.slacks line.item) (slice_index_or project.titles line.item [])
 
 -- a row for each event, in card order

@@ -4,7 +4,7 @@ ghost use Rattle.pc_edges.specs.inside.Writes.{Writes};
 ghost use Rattle.pc_edges.specs.inside.page.Puts.{Puts};
 ghost use Rattle.pc_reports.specs.Lines.{named_line_at};
 ghost use Rattle.pc_reports.specs.Schedule.{schedule_text};
-ghost use Rattle.pc_reports.specs.inside.Schedule.{plan_of, text_of, IsWhole};
+ghost use Rattle.pc_reports.specs.inside.Schedule.{plan_text_of, schedule_text_of, IsWholeSchedule};
 
 use pc_crash::CrashNet;
 use pc_edges::page::{Page, Rows, put_named, put_number, put_rows};
@@ -63,8 +63,8 @@ pub fn write_schedule<O: Sink>(
 /// Puts a schedule on a page: its length and its cost, the time of each event and the duration of each activity, in
 /// card order.
 pub fn put_schedule<O: Sink>(page: &mut Page, sink: &mut O, schedule: &Schedule<'_>)
-    requires { IsWhole schedule.now }
-    ensures { Puts O.taken O.faults page.old sink.old page.new sink.new (text_of schedule.now) }
+    requires { IsWholeSchedule schedule.now }
+    ensures { Puts O.taken O.faults page.old sink.old page.new sink.new (schedule_text_of schedule.now) }
 {
     put_number(page, sink, b"LENGTH ", schedule.length);
     put_number(page, sink, b"COST ", schedule.cost);
@@ -73,8 +73,8 @@ pub fn put_schedule<O: Sink>(page: &mut Page, sink: &mut O, schedule: &Schedule<
 
 /// Puts only the lines of the events and activities of a schedule on a page.
 pub fn put_plan<O: Sink>(page: &mut Page, sink: &mut O, schedule: &Schedule<'_>)
-    requires { IsWhole schedule.now }
-    ensures { Puts O.taken O.faults page.old sink.old page.new sink.new (plan_of schedule.now) }
+    requires { IsWholeSchedule schedule.now }
+    ensures { Puts O.taken O.faults page.old sink.old page.new sink.new (plan_text_of schedule.now) }
 {
     let events = Numbered {
         word: b"EVENT ",

@@ -4,7 +4,7 @@ ghost use Rattle.pc_edges.specs.inside.Writes.{Writes};
 ghost use Rattle.pc_edges.specs.inside.page.Puts.{Puts};
 ghost use Rattle.pc_reports.specs.Earned.{IsEarned};
 ghost use Rattle.pc_reports.specs.ValueText.{value_text};
-ghost use Rattle.pc_rollup.specs.figures.Outline.{row_at};
+ghost use Rattle.pc_rollup.specs.figures.Outline.{outline_row_at};
 
 use crate::dates::put_dated;
 use crate::forecasts::Forecasts;
@@ -109,7 +109,7 @@ impl ValueReport {
     /// Returns the `k`-th item in preorder, with its level.
     pub(crate) fn row(&self, k: usize) -> OutlineRow
         requires { k < length self.now.outline }
-        ensures { result ≡ row_at self.now.outline k }
+        ensures { result ≡ outline_row_at self.now.outline k }
     {
         self.outline[k]
     }

@@ -5,9 +5,9 @@ ghost use Rattle.pc_rollup.specs.inside.Totals.{
   AreRolledUp,
   IsRolledUp,
   AreTotalsOf,
-  AreAmountsOf,
+  ArePlacedSums,
   AreOnLeaves,
-  place_of,
+  placed_item,
 };
 ghost use Rattle.pc_rollup.specs.inside.Amounts.{CanBeRolled, AreRolled, CanBeAdded, IsSum, CanTake, HaveTaken};
 
@@ -94,9 +94,9 @@ pub fn totals_of(alloc: Global, tree: &Tree, placed: &[Placed]) -> Result<Vec<i6
 
 /// The sum of the amounts on each of `items` items.
 fn amounts_by_item(alloc: Global, items: u32, placed: &[Placed]) -> Result<Vec<i64>, AllocError>
-    requires known { (k : ℕ) → k < length placed.now → place_of placed.now k < items }
+    requires known { (k : ℕ) → k < length placed.now → placed_item placed.now k < items }
     requires small { sum_by (λ p. unsigned_abs p.amount) placed.now < 2 ^ 63 }
-    ensures amounts { IfOk result (λ amounts. AreAmountsOf items placed.now (length placed.now) amounts.items) }
+    ensures amounts { IfOk result (λ amounts. ArePlacedSums items placed.now (length placed.now) amounts.items) }
     ensures small { IfOk result (λ amounts. sum_by unsigned_abs amounts.items < 2 ^ 63) }
 {
     let mut amounts = vec![in alloc; 0; items as usize]?;

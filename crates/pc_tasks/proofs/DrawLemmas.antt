@@ -9,7 +9,7 @@ use Rattle.pc_deck.specs.declared.kinds.act.ActCard.{ActCard}
 use Rattle.pc_deck.specs.declared.kinds.titled.TitledCard.{TitledCard}
 use Rattle.pc_deck.specs.declared.kinds.task.TaskCard.{TaskCard}
 use Rattle.pc_tasks.specs.Codes.{after_code, begin_code, end_code}
-use Rattle.pc_tasks.specs.Drawn.{after_links, drawn_event, first_link, last_link, link, links_of, task_act, task_acts, task_events}
+use Rattle.pc_tasks.specs.Drawn.{after_links, drawn_event, first_link, last_link, link, drawn_links, task_act, task_acts, task_events}
 use Rattle.pc_tasks.specs.Lists.{afters_in}
 use Rattle.pc_tasks.proofs.NetworkLemmas.{firsts-below, lasts-below}
 
@@ -98,7 +98,7 @@ put_events tasks front now i begin end inside is begins ends =
 module _ (deck : Deck) (afters : List AfterRow) (n : ℕ) (heads tails : List ℕ) (all : n ≡ length deck.tasks) (rows : afters ≡ afters_in deck) where
   pub acts-put : heads ≡ firsts n afters → tails ≡ lasts n afters → (front items : List ActCard) → front ≡ [] →
       items ≡ front ++ (task_acts 0 deck.tasks ++ (after_links 0 afters ++ (map (first_link deck) heads ++ map (last_link deck) tails))) →
-      items ≡ task_acts 0 deck.tasks ++ links_of deck
+      items ≡ task_acts 0 deck.tasks ++ drawn_links deck
   acts-put first last front items none put =
       let h : heads ≡ firsts (length deck.tasks) (afters_in deck) = first ∙ (ap (λ m. firsts m afters) all ∙ ap (firsts (length deck.tasks)) rows) in
       let t : tails ≡ lasts (length deck.tasks) (afters_in deck) = last ∙ (ap (λ m. lasts m afters) all ∙ ap (lasts (length deck.tasks)) rows) in

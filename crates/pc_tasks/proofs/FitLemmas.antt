@@ -22,7 +22,7 @@ use Rattle.pc_deck.specs.declared.kinds.task.TaskCard.{TaskCard}
 use Rattle.pc_deck.specs.declared.kinds.wbs.ItemCard.{ItemCard}
 use Rattle.pc_deck.proofs.WrittenLemmas.{field-text}
 use Rattle.pc_tasks.specs.Codes.{after_code, begin_code, end_code, first_code, last_code, links_code}
-use Rattle.pc_tasks.specs.Drawn.{after_links, drawn_event, first_link, last_link, link, links_of, task_act, task_acts, task_events}
+use Rattle.pc_tasks.specs.Drawn.{after_links, drawn_event, first_link, last_link, link, drawn_links, task_act, task_acts, task_events}
 use Rattle.pc_tasks.specs.Known.{IsKnownAfter}
 use Rattle.pc_project.specs.After.{after_row}
 use Rattle.pc_tasks.specs.Lists.{afters_in}
@@ -179,7 +179,7 @@ module _ (deck : Deck) (few : length deck.tasks ≤ 4000) (start : is_code deck.
       All-cons (IsFit Plan Act) (last_link deck i) (map (last_link deck) xs) (link-fit (last_code i) (end_code i) deck.project.end (drawn-code 116 i refl small) (drawn-code 101 i refl small) end)
       (last_links-fit xs (All-tail (λ i. i < length deck.tasks) i xs below))
 
-  pub links-fit : length deck.afters ≤ 8000 → All (IsKnownAfter deck) deck.afters → All (IsFit Plan Act) (links_of deck)
+  pub links-fit : length deck.afters ≤ 8000 → All (IsKnownAfter deck) deck.afters → All (IsFit Plan Act) (drawn_links deck)
   links-fit few_afters known =
       let n = length deck.tasks in
       let rows = afters_in deck in

@@ -16,7 +16,7 @@ use Rattle.pc_deck.specs.declared.kinds.wbs.ItemCard.{ItemCard}
 use Rattle.pc_deck.specs.Misfit.{HasNoMisfit}
 use Rattle.pc_project.specs.Figures.{IsProjectOfDeck}
 use Rattle.pc_project.specs.Project.{Project, network_of, pieces_in, terms_in}
-use Rattle.pc_tasks.specs.Drawn.{arrows_deck, events_of, links_item, links_of, task_acts}
+use Rattle.pc_tasks.specs.Drawn.{arrows_deck, drawn_events, links_item, drawn_links, task_acts}
 use Rattle.pc_tasks.specs.Known.{CanBeDrawn}
 use Rattle.pc_tasks.specs.Lists.{afters_in, task_pieces, task_terms}
 use Rattle.pc_tasks.specs.Text.{KeepsTasks}
@@ -26,16 +26,16 @@ use Rattle.pc_tasks.proofs.WithinLemmas.{drawn-within}
 
 -- the plan of these lists
 pub made-drawn : (deck : Deck) (items : List ItemCard) (events : List TitledCard) (acts : List ActCard) →
-    items ≡ deck.items ++ links_item deck ∷ [] → events ≡ events_of deck → acts ≡ task_acts 0 deck.tasks ++ links_of deck →
+    items ≡ deck.items ++ links_item deck ∷ [] → events ≡ drawn_events deck → acts ≡ task_acts 0 deck.tasks ++ drawn_links deck →
     drawn_with deck items events acts ≡ arrows_deck deck
 made-drawn deck items events acts same_items same_events same_acts =
     ap (λ i. drawn_with deck i events acts) same_items
     ∙ (ap (λ e. drawn_with deck (deck.items ++ links_item deck ∷ []) e acts) same_events
-    ∙ ap (drawn_with deck (deck.items ++ links_item deck ∷ []) (events_of deck)) same_acts)
+    ∙ ap (drawn_with deck (deck.items ++ links_item deck ∷ []) (drawn_events deck)) same_acts)
 
 pub made-within : (deck : Deck) (items : List ItemCard) (events : List TitledCard) (acts : List ActCard) → IsWithin Tasks deck →
-    HasNoMisfit Tasks deck → items ≡ deck.items ++ links_item deck ∷ [] → events ≡ events_of deck →
-    acts ≡ task_acts 0 deck.tasks ++ links_of deck → IsWithinLimits (drawn_with deck items events acts)
+    HasNoMisfit Tasks deck → items ≡ deck.items ++ links_item deck ∷ [] → events ≡ drawn_events deck →
+    acts ≡ task_acts 0 deck.tasks ++ drawn_links deck → IsWithinLimits (drawn_with deck items events acts)
 made-within deck items events acts within none same_items same_events same_acts =
     subst IsWithinLimits (sym (made-drawn deck items events acts same_items same_events same_acts)) (drawn-within deck within (can_be_drawn deck none within))
 

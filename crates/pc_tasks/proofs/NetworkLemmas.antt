@@ -14,7 +14,7 @@ use Rattle.pc_deck.specs.declared.kinds.after.AfterCard.{AfterCard}
 use Rattle.pc_deck.specs.declared.kinds.task.TaskCard.{TaskCard}
 use Rattle.pc_deck.specs.Deck.{Deck, event_codes, number_among, task_codes}
 use Rattle.pc_tasks.specs.Codes.{begin_code, end_code}
-use Rattle.pc_tasks.specs.Drawn.{after_links, arrows_deck, first_link, last_link, links_of, task_acts}
+use Rattle.pc_tasks.specs.Drawn.{after_links, arrows_deck, first_link, last_link, drawn_links, task_acts}
 use Rattle.pc_tasks.specs.Known.{CanBeDrawn, IsKnownAfter}
 use Rattle.pc_project.specs.After.{after_row}
 use Rattle.pc_tasks.specs.Lists.{afters_in}
@@ -94,7 +94,7 @@ module _ (deck : Deck) (can : CanBeDrawn deck) where
   abbrev rows : List AfterRow
   rows = afters_in deck
 
-  link-arcs : map (arc_of (arrows_deck deck)) (links_of deck) ≡ links n rows
+  link-arcs : map (arc_of (arrows_deck deck)) (drawn_links deck) ≡ links n rows
   link-arcs =
       map-append (arc_of (arrows_deck deck)) (after_links 0 rows) (map (first_link deck) (firsts n rows) ++ map (last_link deck) (lasts n rows))
       ∙ (ap (λ front. front ++ map (arc_of (arrows_deck deck)) (map (first_link deck) (firsts n rows) ++ map (last_link deck) (lasts n rows))) (after-arcs 0 rows (rows-known deck can.afters))
@@ -105,8 +105,8 @@ module _ (deck : Deck) (can : CanBeDrawn deck) where
 
   arcs-are : map (arc_of (arrows_deck deck)) (arrows_deck deck).acts ≡ map task_arc (range_with_len 0 n) ++ links n rows
   arcs-are =
-      map-append (arc_of (arrows_deck deck)) (task_acts 0 deck.tasks) (links_of deck)
-      ∙ (ap (λ front. front ++ map (arc_of (arrows_deck deck)) (links_of deck)) (task-arcs 0 deck.tasks (omega arith))
+      map-append (arc_of (arrows_deck deck)) (task_acts 0 deck.tasks) (drawn_links deck)
+      ∙ (ap (λ front. front ++ map (arc_of (arrows_deck deck)) (drawn_links deck)) (task-arcs 0 deck.tasks (omega arith))
       ∙ ap (λ back. map task_arc (range_with_len 0 n) ++ back) link-arcs)
 
   abbrev net : ℕ → ℕ → ℕ → List Arc → Network

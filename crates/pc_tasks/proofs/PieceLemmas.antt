@@ -10,7 +10,7 @@ use Rattle.pc_deck.specs.declared.kinds.act.ActCard.{ActCard}
 use Rattle.pc_deck.specs.declared.kinds.piece.PieceCard.{PieceCard}
 use Rattle.pc_project.specs.Project.{piece_of, pieces_in}
 use Rattle.pc_deck.specs.declared.kinds.task.TaskCard.{TaskCard}
-use Rattle.pc_tasks.specs.Drawn.{arrows_deck, links_of, task_acts}
+use Rattle.pc_tasks.specs.Drawn.{arrows_deck, drawn_links, task_acts}
 use Rattle.pc_tasks.specs.Known.{CanBeDrawn, IsKnownPiece}
 use Rattle.pc_tasks.specs.Lists.{task_piece, task_pieces}
 use Rattle.pc_project.proofs.NumberLaws.{has_number}
@@ -24,15 +24,15 @@ of_tasks i [] = refl
 of_tasks i (task ∷ tasks) = ap (λ rest. task.code ∷ rest) (of_tasks (i + 1) tasks)
 
 -- the codes of the activities: first those of the tasks
-pub acts-are : (deck : Deck) → act_codes (arrows_deck deck) ≡ task_codes deck ++ map code_of (links_of deck)
+pub acts-are : (deck : Deck) → act_codes (arrows_deck deck) ≡ task_codes deck ++ map code_of (drawn_links deck)
 acts-are deck =
-    map-append code_of (task_acts 0 deck.tasks) (links_of deck)
-    ∙ ap (λ front. front ++ map code_of (links_of deck)) (of_tasks 0 deck.tasks)
+    map-append code_of (task_acts 0 deck.tasks) (drawn_links deck)
+    ∙ ap (λ front. front ++ map code_of (drawn_links deck)) (of_tasks 0 deck.tasks)
 
 -- a task is found among the activities at its own place
 pub task-named : (deck : Deck) (code : List ℕ) → IsSome (named_among (task_codes deck) code) → named_among (act_codes (arrows_deck deck)) code ≡ named_among (task_codes deck) code
 task-named deck code known =
-    ap (λ codes. named_among codes code) (acts-are deck) ∙ found-before code (task_codes deck) (map code_of (links_of deck)) known
+    ap (λ codes. named_among codes code) (acts-are deck) ∙ found-before code (task_codes deck) (map code_of (drawn_links deck)) known
 
 -- the value for what is not found does not matter for what is found
 default : (found : Option ℕ) (a b : ℕ) → IsSome found → unwrap_or found a ≡ unwrap_or found b

@@ -28,7 +28,7 @@ use Rattle.pc_project.specs.Project.{row_of, rows_of}
 use Rattle.pc_project.specs.Refusal.{HasSoundPlan}
 use Rattle.pc_project.proofs.MakesLaws.{no_misfit}
 use Rattle.pc_tasks.specs.Codes.{begin_code, end_code, links_code}
-use Rattle.pc_tasks.specs.Drawn.{after_links, code_of_top, arrows_deck, first_link, last_link, link, links_item, links_of, task_act, task_acts, top_code}
+use Rattle.pc_tasks.specs.Drawn.{after_links, code_of_top, arrows_deck, first_link, last_link, link, links_item, drawn_links, task_act, task_acts, top_code}
 use Rattle.pc_tasks.specs.Known.{CanBeDrawn}
 use Rattle.pc_tasks.specs.Lists.{afters_in}
 use Rattle.pc_tasks.proofs.CodeLemmas.{drawn_code-letter, given-not_drawn}
@@ -173,7 +173,7 @@ module _ (deck : Deck) (within : IsWithin Tasks deck) (none : HasNoMisfit Tasks 
   acts-sound : All IsSoundDrawn plan.acts
   acts-sound =
       let rows = afters_in deck in
-      All-append IsSoundDrawn (task_acts 0 deck.tasks) (links_of deck) (tasks-sound 0 deck.tasks (omega arith) faultless-tasks)
+      All-append IsSoundDrawn (task_acts 0 deck.tasks) (drawn_links deck) (tasks-sound 0 deck.tasks (omega arith) faultless-tasks)
       (All-append IsSoundDrawn (after_links 0 rows) (map (first_link deck) (firsts n rows) ++ map (last_link deck) (lasts n rows))
       (afters-sound 0 rows (rows-known deck can.afters))
       (All-append IsSoundDrawn (map (first_link deck) (firsts n rows)) (map (last_link deck) (lasts n rows))

@@ -8,7 +8,7 @@ use Rattle.pc_deck.specs.declared.kinds.act.ActCard.{ActCard}
 use Rattle.pc_project.specs.Project.{term_of, terms_in}
 use Rattle.pc_deck.specs.declared.kinds.task.TaskCard.{TaskCard}
 use Rattle.pc_deck.specs.Deck.{Deck}
-use Rattle.pc_tasks.specs.Drawn.{after_links, arrows_deck, first_link, last_link, links_of, task_acts}
+use Rattle.pc_tasks.specs.Drawn.{after_links, arrows_deck, first_link, last_link, drawn_links, task_acts}
 use Rattle.pc_tasks.specs.Lists.{afters_in, task_term, task_terms}
 
 of_tasks : (i : ℕ) (tasks : List TaskCard) → map term_of (task_acts i tasks) ≡ map task_term tasks
@@ -41,7 +41,7 @@ module _ (deck : Deck) where
         length-map (lasts n rows) (last_arc n),
       )
 
-  of_all_links : map term_of (links_of deck) ≡ replicate (length (links n rows)) no_term
+  of_all_links : map term_of (drawn_links deck) ≡ replicate (length (links n rows)) no_term
   of_all_links =
       map-append term_of (after_links 0 rows) (map (first_link deck) (firsts n rows) ++ map (last_link deck) (lasts n rows))
       ∙ (ap (λ front. front ++ map term_of (map (first_link deck) (firsts n rows) ++ map (last_link deck) (lasts n rows))) (of_afters 0 rows)
@@ -56,7 +56,7 @@ module _ (deck : Deck) where
   -- those of the tasks, and nothing for the links
   pub terms-are : terms_in (arrows_deck deck) ≡ arrow_terms (task_terms deck) rows
   terms-are =
-      map-append term_of (task_acts 0 deck.tasks) (links_of deck)
-      ∙ (ap (λ front. front ++ map term_of (links_of deck)) (of_tasks 0 deck.tasks)
+      map-append term_of (task_acts 0 deck.tasks) (drawn_links deck)
+      ∙ (ap (λ front. front ++ map term_of (drawn_links deck)) (of_tasks 0 deck.tasks)
       ∙ (ap (λ back. task_terms deck ++ back) of_all_links
       ∙ ap (λ many. task_terms deck ++ replicate (length (links many rows)) no_term) (sym (length-map deck.tasks task_term))))

@@ -23,7 +23,7 @@ use Rattle.pc_deck.specs.declared.kinds.project.ProjectCard.{ProjectCard}
 use Rattle.pc_deck.specs.declared.kinds.task.TaskCard.{TaskCard}
 use Rattle.pc_deck.specs.declared.kinds.wbs.ItemCard.{ItemCard}
 use Rattle.pc_tasks.specs.Codes.{after_code, drawn_code, links_code}
-use Rattle.pc_tasks.specs.Drawn.{after_links, arrows_deck, drawn_event, first_link, last_link, links_item, links_of, task_acts, task_events, top_code, code_of_top}
+use Rattle.pc_tasks.specs.Drawn.{after_links, arrows_deck, drawn_event, first_link, last_link, links_item, drawn_links, task_acts, task_events, top_code, code_of_top}
 use Rattle.pc_tasks.specs.Known.{CanBeDrawn, IsGiven}
 use Rattle.pc_project.specs.After.{after_row}
 use Rattle.pc_tasks.specs.Lists.{afters_in}
@@ -181,7 +181,7 @@ module _ (deck : Deck) (within : IsWithin Tasks deck) where
     abbrev code_of : ActCard → List ℕ
     code_of act = act.code
 
-    links-codes : map code_of (links_of deck) ≡ drawn_codes
+    links-codes : map code_of (drawn_links deck) ≡ drawn_codes
     links-codes =
         map-append code_of (after_links 0 rows) (map (first_link deck) heads ++ map (last_link deck) tails)
         ∙ (ap (λ front. front ++ map code_of (map (first_link deck) heads ++ map (last_link deck) tails)) (after-codes 0 rows)
@@ -221,7 +221,7 @@ module _ (deck : Deck) (within : IsWithin Tasks deck) where
         (map (drawn_code 115) heads ++ map (drawn_code 116) tails) (task-drawn 97 (range_with_len 0 (length rows)))
         (apart-append (task_codes deck) (map (drawn_code 115) heads) (map (drawn_code 116) tails) (task-drawn 115 heads) (task-drawn 116 tails))))
 
-    length-links : length (links_of deck) ≡ length rows + (length heads + length tails)
+    length-links : length (drawn_links deck) ≡ length rows + (length heads + length tails)
     length-links =
         omega (
           arith,
@@ -236,7 +236,7 @@ module _ (deck : Deck) (within : IsWithin Tasks deck) where
     acts-within = record {
       few = omega (
         arith,
-        length-append (task_acts 0 deck.tasks) (links_of deck),
+        length-append (task_acts 0 deck.tasks) (drawn_links deck),
         length-task_acts 0 deck.tasks,
         length-links,
         kept-few (λ i. not (comes_after rows i)) n,
@@ -244,7 +244,7 @@ module _ (deck : Deck) (within : IsWithin Tasks deck) where
         few-tasks,
         few-rows,
       );
-      fit = All-append (IsFit Plan Act) (task_acts 0 deck.tasks) (links_of deck) (task_acts-fit 0 deck.tasks (omega (arith, few-tasks)) (within Task).fit)
+      fit = All-append (IsFit Plan Act) (task_acts 0 deck.tasks) (drawn_links deck) (task_acts-fit 0 deck.tasks (omega (arith, few-tasks)) (within Task).fit)
           (links-fit deck few-tasks (given-code deck.project.start start-is) (given-code deck.project.end end-is) few-afters can.afters);
       differ = λ coded. acts-once;
     }

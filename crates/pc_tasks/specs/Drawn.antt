@@ -22,8 +22,8 @@ task_events i [] = []
 task_events i (task ∷ tasks) = drawn_event (begin_code i) ∷ drawn_event (end_code i) ∷ task_events (i + 1) tasks
 
 -- the start, the events of the tasks, and the end
-abbrev pub events_of : Deck → List TitledCard
-events_of deck = drawn_event deck.project.start ∷ (task_events 0 deck.tasks ++ drawn_event deck.project.end ∷ [])
+abbrev pub drawn_events : Deck → List TitledCard
+drawn_events deck = drawn_event deck.project.start ∷ (task_events 0 deck.tasks ++ drawn_event deck.project.end ∷ [])
 
 -- the activity of a task: it has the task's code, item, numbers and title
 abbrev pub task_act : ℕ → TaskCard → ActCard
@@ -80,8 +80,8 @@ abbrev pub last_link : Deck → ℕ → ActCard
 last_link deck i = link (last_code i) (end_code i) deck.project.end
 
 -- the links: of the AFTER cards, from the start to each task that comes after none, and from each task that none comes after to the end
-abbrev pub links_of : Deck → List ActCard
-links_of deck =
+abbrev pub drawn_links : Deck → List ActCard
+drawn_links deck =
     after_links 0 (afters_in deck)
     ++ (map (first_link deck) (firsts (length deck.tasks) (afters_in deck)) ++ map (last_link deck) (lasts (length deck.tasks) (afters_in deck)))
 
@@ -99,4 +99,4 @@ links_item deck = record { row = 0; code = links_code; parent = top_code deck; t
 
 -- the deck of arrows
 abbrev pub arrows_deck : Deck → Deck
-arrows_deck deck = drawn_with deck (deck.items ++ links_item deck ∷ []) (events_of deck) (task_acts 0 deck.tasks ++ links_of deck)
+arrows_deck deck = drawn_with deck (deck.items ++ links_item deck ∷ []) (drawn_events deck) (task_acts 0 deck.tasks ++ drawn_links deck)

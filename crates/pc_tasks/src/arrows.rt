@@ -11,11 +11,10 @@ ghost use Rattle.pc_deck.specs.Within.{IsWithin};
 
 use crate::draw::{acts_of, events_of, items_of};
 use crate::laws::drawn_deck_keeps_least_costs;
-use pc_project::AfterRow;
 use crate::phases::sound_rows;
 use pc_deck::{Cards, TaskCards};
 use pc_faults::DeckError;
-use pc_project::{Project, deck_text_of, project_of};
+use pc_project::{AfterRow, Project, deck_text_of, project_of};
 use std::alloc::{AllocError, Global};
 
 /// Generates the plan of the tasks and makes its project.

@@ -4,12 +4,12 @@ ghost use Rattle.pc_tasks.specs.network.Tasks.{AreAmong};
 ghost use Rattle.pc_tasks.specs.Drawn.{
   after_links,
   drawn_event,
-  events_of,
+  drawn_events,
   first_link,
   last_link,
   link,
   links_item,
-  links_of,
+  drawn_links,
   task_act,
   task_acts,
   top_code,
@@ -18,8 +18,8 @@ ghost use Rattle.pc_tasks.specs.Lists.{afters_in};
 
 use crate::codes::{after_code, begin_code, end_code, first_code, last_code, links_code, no_title};
 use crate::links::{firsts, lasts};
-use pc_project::AfterRow;
 use pc_deck::{ActCard, ItemCard, TaskCard, TaskCards, TitledCard};
+use pc_project::AfterRow;
 use pc_text::Code;
 use std::alloc::{AllocError, Global};
 
@@ -49,7 +49,7 @@ fn top_code(cards: &TaskCards) -> Option<Code>
 
 /// Returns the events: the start, two for each task, and the end.
 pub(crate) fn events_of(alloc: Global, cards: &TaskCards) -> Result<Vec<TitledCard>, AllocError>
-    ensures { IfOk result (λ events. events.items ≡ events_of cards.now) }
+    ensures { IfOk result (λ events. events.items ≡ drawn_events cards.now) }
 {
     let tasks = cards.tasks().len() as u32;
     let mut events = Vec::with_capacity(alloc, 2 * tasks as usize + 2)?;
@@ -80,7 +80,7 @@ pub(crate) fn acts_of(
 ) -> Result<Vec<ActCard>, AllocError>
     requires afters { afters.now ≡ afters_in cards.now }
     requires among { AreAmong (length cards.now.tasks) afters.now }
-    ensures { IfOk result (λ acts. acts.items ≡ task_acts 0 cards.now.tasks ++ links_of cards.now) }
+    ensures { IfOk result (λ acts. acts.items ≡ task_acts 0 cards.now.tasks ++ drawn_links cards.now) }
 {
     let tasks = cards.tasks().len() as u32;
     let heads = firsts(alloc, tasks, afters)?;

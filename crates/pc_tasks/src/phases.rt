@@ -20,11 +20,10 @@ ghost use Rattle.pc_tasks.specs.Refusal.{
 
 use crate::card_faults::look_up;
 use crate::circle::first_circle;
-use pc_project::AfterRow;
 use crate::tree::tree_of;
 use pc_deck::TaskCards;
 use pc_faults::{DeckError, Detail, Fault};
-use pc_project::codes_at;
+use pc_project::{AfterRow, codes_at};
 use std::alloc::{AllocError, Global};
 
 /// Returns which tasks come after which, by their numbers.

@@ -6,23 +6,23 @@ use Rattle.std.specs.Cmp.{first_so, second_so}
 use Rattle.std.specs.Int.{w128, from_le_bytes}
 use Rattle.std.specs.List.{list_all, take_while}
 use Rattle.pc_text.specs.Code.{is_code, is_code_byte}
-use Rattle.pc_text.specs.inside.CodeNumber.{value_of, bytes_of, number_of, code_in}
+use Rattle.pc_text.specs.inside.CodeNumber.{value_of_bytes, bytes_of, number_of_code, code_in}
 use Rattle.pc_text.specs.inside.Words.{padded}
 
 -- the bytes of a number that was made of bytes are these
-bytes_of-value : (bs : List ℕ) (k : ℕ) → length bs ≡ k → ((i : ℕ) → get_or bs i 0 < 256) → bytes_of k (value_of bs) ≡ bs
+bytes_of-value : (bs : List ℕ) (k : ℕ) → length bs ≡ k → ((i : ℕ) → get_or bs i 0 < 256) → bytes_of k (value_of_bytes bs) ≡ bs
 bytes_of-value [] zero long small = refl
 bytes_of-value [] (suc k) long small = absurd (omega arith)
 bytes_of-value (b ∷ bs) zero long small = absurd (omega arith)
 bytes_of-value (b ∷ bs) (suc k) long small =
     let below : b < 256 = small 0 in
-    let first : (b + 256 * value_of bs) % 256 ≡ b = omega arith in
-    let rest : (b + 256 * value_of bs) / 256 ≡ value_of bs = omega arith in
-    ap (λ (c : ℕ). c ∷ bytes_of k ((b + 256 * value_of bs) / 256)) first
+    let first : (b + 256 * value_of_bytes bs) % 256 ≡ b = omega arith in
+    let rest : (b + 256 * value_of_bytes bs) / 256 ≡ value_of_bytes bs = omega arith in
+    ap (λ (c : ℕ). c ∷ bytes_of k ((b + 256 * value_of_bytes bs) / 256)) first
     ∙ ap (λ (cs : List ℕ). b ∷ cs) (ap (bytes_of k) rest ∙ bytes_of-value bs k (omega arith) (λ i. small (suc i)))
 
 -- what `from_le_bytes` makes of 16 bytes
-from_16 : (bs : List ℕ) → length bs ≡ 16 → from_le_bytes w128 bs ≡ value_of bs
+from_16 : (bs : List ℕ) → length bs ≡ 16 → from_le_bytes w128 bs ≡ value_of_bytes bs
 from_16 [] long = absurd (omega arith)
 from_16 (b0 ∷ []) long = absurd (omega arith)
 from_16 (b0 ∷ b1 ∷ []) long = absurd (omega arith)
@@ -70,9 +70,9 @@ small_cells (b ∷ bs) k zero all = byte_of_code b (first_so (is_code_byte b) (l
 small_cells (b ∷ bs) k (suc i) all = small_cells bs k i (second_so (is_code_byte b) (list_all is_code_byte bs) all)
 
 -- the number of the cells of a code
-pub number_of-cells : (code cells : List ℕ) (number : ℕ) → cells ≡ padded 16 code → length cells ≡ 16 → number ≡ from_le_bytes w128 cells → number ≡ number_of code
-unfolding number_of
-number_of-cells code cells number is full made = made ∙ (from_16 cells full ∙ ap value_of is)
+pub number_of_code-cells : (code cells : List ℕ) (number : ℕ) → cells ≡ padded 16 code → length cells ≡ 16 → number ≡ from_le_bytes w128 cells → number ≡ number_of_code code
+unfolding number_of_code
+number_of_code-cells code cells number is full made = made ∙ (from_16 cells full ∙ ap value_of_bytes is)
 
 -- and the code in it
 pub code_in-cells : (code cells : List ℕ) (number : ℕ) → cells ≡ padded 16 code → length cells ≡ 16 → is_code code ≡ true → number ≡ from_le_bytes w128 cells → code_in number ≡ code

@@ -13,8 +13,8 @@ ghost use Rattle.std.specs.Cmp.Lexicographic.{
 ghost use Rattle.std.specs.List.{list_all};
 ghost use Rattle.pc_text.specs.Code.{is_code_byte, is_code, code_of};
 ghost use Rattle.pc_text.specs.inside.Code.{has_code_length};
-ghost use Rattle.pc_text.specs.inside.CodeCells.{cells_of, same_cells};
-ghost use Rattle.pc_text.specs.inside.CodeNumber.{number_of, code_in};
+ghost use Rattle.pc_text.specs.inside.CodeCells.{code_cells_of, same_cells};
+ghost use Rattle.pc_text.specs.inside.CodeNumber.{number_of_code, code_in};
 ghost use Rattle.pc_text.specs.inside.Words.{padded};
 
 use std::alloc::{AllocError, Global};
@@ -91,7 +91,7 @@ impl Code {
     ///
     /// Comparing numbers takes one step where comparing bytes takes up to 16.
     pub fn number(&self) -> u128
-        ensures value { result ≡ number_of self.now }
+        ensures value { result ≡ number_of_code self.now }
         ensures back { code_in result ≡ self.now }
     {
         u128::from_le_bytes(self.cells)
@@ -127,7 +127,7 @@ fn has_code_bytes(field: &[u8]) -> bool
 /// Returns the bytes followed by zeros, or `None` if one of them is not allowed in a code.
 fn cells_of(field: &[u8]) -> Option<[u8; LIMIT]>
     requires { length field.now ≤ 16 }
-    ensures { result ≡ cells_of field.now }
+    ensures { result ≡ code_cells_of field.now }
 {
     let mut cells = [0; LIMIT];
     // No early end: a byte that is not allowed becomes a comma, and all cells are tested for commas at once.

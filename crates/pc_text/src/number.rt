@@ -2,7 +2,7 @@
 ghost use Rattle.std.specs.Prelude.{◌≡◌, ◌≤◌, ℕ, IfSome, Some, decimal, length, ◌+◌, ◌<◌, ◌/◌, ◌%◌, ◌^◌};
 ghost use Rattle.std.specs.Fmt.{signed_decimal};
 ghost use Rattle.pc_text.specs.Number.{numeral_of, number_of};
-ghost use Rattle.pc_text.specs.inside.Number.{is_unpadded, value_of, IsDecimal};
+ghost use Rattle.pc_text.specs.inside.Number.{is_unpadded, value_of_digits, IsDecimal};
 
 use std::marker::Model;
 
@@ -47,7 +47,7 @@ pub fn is_unpadded(word: &[u8], most: usize) -> bool
 /// Returns the value of at most 19 digits, or `None` if one of the bytes is not a digit.
 fn value_of(word: &[u8]) -> Option<u64>
     requires short { length word.now ≤ 19 }
-    ensures { result ≡ value_of word.now }
+    ensures { result ≡ value_of_digits word.now }
 {
     let mut number = 0;
     for byte in word {

@@ -9,7 +9,7 @@ use Rattle.pc_model.specs.Network.{Network}
 use Rattle.pc_times.specs.Times.{AreEarly}
 use Rattle.pc_times.specs.inside.Times.{AreTails}
 use Rattle.pc_times.specs.Late.{AreLate}
-use Rattle.pc_times.specs.inside.Late.{IsUpTo}
+use Rattle.pc_times.specs.inside.Late.{IsInTimeFor}
 use Rattle.pc_times.specs.inside.Passes.{HasBoundedWalks}
 use Rattle.pc_times.specs.declared.TheConstants.{MAX_ACTIVITY_LENGTH, MAX_TIME}
 
@@ -37,8 +37,9 @@ late_from_tails net lengths tails by late = record {
 }
 
 -- and they are within what a project can take of it
-pub late_limit : (tails : List ℕ) (by : ℤ) → All (λ tail. tail ≤ MAX_TIME) tails → All (IsUpTo by) (map (λ n. by -ℤ pos n) tails)
-late_limit tails by small = All-map (IsUpTo by) (λ n. by -ℤ pos n) tails (λ k d below. let fits : slice_index_or tails k d ≤ MAX_TIME = small k d below in (omega (arith, ints), omega (arith, ints)))
+pub late_limit : (tails : List ℕ) (by : ℤ) → All (λ tail. tail ≤ MAX_TIME) tails → All (IsInTimeFor by) (map (λ n. by -ℤ pos n) tails)
+late_limit tails by small = All-map (IsInTimeFor by) (λ n. by -ℤ pos n) tails
+    (λ k d below. let fits : slice_index_or tails k d ≤ MAX_TIME = small k d below in (omega (arith, ints), omega (arith, ints)))
 
 -- one time more, that of the next event
 pub late_more : (by : ℤ) (tails : List ℕ) (i : ℕ) (times more : List ℤ) (t : ℤ) → i < length tails →

@@ -3,7 +3,7 @@ ghost use Rattle.std.specs.Prelude.{◌≡◌, ◌^◌, ◌<◌, ◌≤◌, pos,
 ghost use Rattle.std.specs.List.{All};
 ghost use Rattle.pc_times.specs.Times.{AreLengths, AreEarly, IsTail};
 ghost use Rattle.pc_times.specs.Late.{AreLate};
-ghost use Rattle.pc_times.specs.inside.Late.{IsUpTo};
+ghost use Rattle.pc_times.specs.inside.Late.{IsInTimeFor};
 ghost use Rattle.pc_model.specs.Network.{IsEarly};
 ghost use Rattle.pc_times.specs.inside.Times.{AreTails};
 ghost use Rattle.pc_times.specs.inside.Passes.{HasBoundedWalks, AreEarlyBefore, AreTailsAfter};
@@ -41,7 +41,7 @@ pub fn late(alloc: Global, net: &Net, lengths: &[u64], by: i64) -> Result<Vec<i6
     requires lengths { AreLengths net.now lengths.now }
     requires by { unsigned_abs by < 2 ^ 40 }
     ensures times { IfOk result (λ times. AreLate net.now lengths.now by times.items) }
-    ensures limit { IfOk result (λ times. All (IsUpTo by) times.items) }
+    ensures limit { IfOk result (λ times. All (IsInTimeFor by) times.items) }
 {
     let tails = tails_to_end(alloc, net, lengths)?;
     let mut times = Vec::with_capacity(alloc, net.events() as usize)?;

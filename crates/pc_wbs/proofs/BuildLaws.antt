@@ -7,7 +7,7 @@ use Rattle.pc_wbs.specs.declared.tree.ItemRow.{ItemRow}
 use Rattle.pc_model.specs.declared.limits.TheConstants.{MAX_LEVEL}
 use Rattle.pc_wbs.specs.Climb.{parent_of, AreInRange, climb, HasLevel, IsDepth, IsOnlyTop, IsTree}
 use Rattle.pc_wbs.specs.Refusal.{IsLooped, IsTooDeep}
-use Rattle.pc_wbs.specs.inside.Links.{link_at}
+use Rattle.pc_wbs.specs.inside.Links.{linked_row_at}
 use Rattle.pc_model.specs.Greatest.{IsFirst, StandsBelow}
 use Rattle.pc_wbs.specs.inside.Ends.{AreEnds, AreDoubled, StayInside, IsLeastBelow, IsFirstLooped, AreLevels, AreGreatest, lesser}
 use Rattle.pc_wbs.proofs.ClimbLaws.{climb-add, climb-lower, climb-more, climb-range, HasLevel-same}
@@ -42,14 +42,14 @@ AreEnds-twice rows steps more ends twice r e h d = record {
   end = λ x lt. d.end x (omega (arith, h.one_each)) ∙ by_end x lt (climb rows steps x) refl;
 }
   where
-    by_end : (x : ℕ) → x < length rows → (o : Option ℕ) → climb rows steps x ≡ o → option_and_then (link_at ends) (link_at ends x) ≡ climb rows more x
+    by_end : (x : ℕ) → x < length rows → (o : Option ℕ) → climb rows steps x ≡ o → option_and_then (linked_row_at ends) (linked_row_at ends x) ≡ climb rows more x
     by_end x lt None is =
-        let at : link_at ends x ≡ None = h.end x lt ∙ is in
-        ap (λ o. option_and_then (link_at ends) o) at ∙ sym (ap (λ n. climb rows n x) e ∙ climb-twice rows steps x None is)
+        let at : linked_row_at ends x ≡ None = h.end x lt ∙ is in
+        ap (λ o. option_and_then (linked_row_at ends) o) at ∙ sym (ap (λ n. climb rows n x) e ∙ climb-twice rows steps x None is)
     by_end x lt (Some y) is =
-        let at : link_at ends x ≡ Some y = h.end x lt ∙ is in
+        let at : linked_row_at ends x ≡ Some y = h.end x lt ∙ is in
         let inside = climb-range rows steps x y r lt is in
-        ap (λ o. option_and_then (link_at ends) o) at ∙ h.end y inside ∙ sym (ap (λ n. climb rows n x) e ∙ climb-twice rows steps x (Some y) is)
+        ap (λ o. option_and_then (linked_row_at ends) o) at ∙ h.end y inside ∙ sym (ap (λ n. climb rows n x) e ∙ climb-twice rows steps x (Some y) is)
 
 -- the least end of climbs that are long enough is the first row on a loop
 pub IsFirstLooped-ends : (rows : List ItemRow) (steps : ℕ) (ends : List (Option ℕ)) (o : Option ℕ) → AreInRange rows → length rows ≤ steps →
@@ -78,22 +78,22 @@ IsFirstLooped-ends rows steps ends (Some m) r long h ((x, (lt, e)), bound) = rec
         omega arith
 
 -- one end more
-pub IsLeastBelow-more : (ends : List (Option ℕ)) (n : ℕ) (o v : Option ℕ) → IsLeastBelow ends n o → link_at ends n ≡ v → IsLeastBelow ends (n + 1) (lesser o v)
+pub IsLeastBelow-more : (ends : List (Option ℕ)) (n : ℕ) (o v : Option ℕ) → IsLeastBelow ends n o → linked_row_at ends n ≡ v → IsLeastBelow ends (n + 1) (lesser o v)
 IsLeastBelow-more ends n None None h e = below_more _ _ h e
 IsLeastBelow-more ends n None (Some b) h e = (
   (n, (omega arith, e)),
-  λ x y lt is. ⊎_elim (λ at. let here : link_at ends n ≡ Some y = rw (← at) is in let same : b ≡ y = cc in
+  λ x y lt is. ⊎_elim (λ at. let here : linked_row_at ends n ≡ Some y = rw (← at) is in let same : b ≡ y = cc in
       omega arith) (λ apart. let not = h x (omega arith) in absurd cc) (cases_eq x n),
 )
 IsLeastBelow-more ends n (Some a) None h e =
-    ((h.0.0, (omega (arith, h.0.1.0), h.0.1.1)), λ x y lt is. ⊎_elim (λ at. let here : link_at ends n ≡ Some y = rw (← at) is in absurd cc) (λ apart. h.1 x y (omega arith) is) (cases_eq x n))
+    ((h.0.0, (omega (arith, h.0.1.0), h.0.1.1)), λ x y lt is. ⊎_elim (λ at. let here : linked_row_at ends n ≡ Some y = rw (← at) is in absurd cc) (λ apart. h.1 x y (omega arith) is) (cases_eq x n))
 IsLeastBelow-more ends n (Some a) (Some b) h e = (
   least (cases_lt a b),
-  λ x y lt is. ⊎_elim (λ at. let here : link_at ends n ≡ Some y = rw (← at) is in let same : b ≡ y = cc in
+  λ x y lt is. ⊎_elim (λ at. let here : linked_row_at ends n ≡ Some y = rw (← at) is in let same : b ≡ y = cc in
       omega arith) (λ apart. let low = h.1 x y (omega arith) is in omega arith) (cases_eq x n),
 )
   where
-    least : (a < b) ⊎ (b ≤ a) → (x : ℕ) × ((x < n + 1) × (link_at ends x ≡ Some (min a b)))
+    least : (a < b) ⊎ (b ≤ a) → (x : ℕ) × ((x < n + 1) × (linked_row_at ends x ≡ Some (min a b)))
     least (inl lt) =
         let is : min a b ≡ a = omega arith in
         (h.0.0, (omega (arith, h.0.1.0), h.0.1.1 ∙ ap Some (sym is)))
@@ -145,15 +145,15 @@ AreGreatest-more xs n greatest next h e = record {
     by_order (inr ge) (inr nz) = keep ge (h.attained (omega arith))
 
 -- the row of a climb has the link that the row of an equal climb has
-pub same_row : (rows : List ItemRow) (links : List (Option ℕ)) (j k x y z : ℕ) → j ≡ k → climb rows j x ≡ Some y → climb rows k x ≡ Some z → link_at links z ≡ None → link_at links y ≡ None
+pub same_row : (rows : List ItemRow) (links : List (Option ℕ)) (j k x y z : ℕ) → j ≡ k → climb rows j x ≡ Some y → climb rows k x ≡ Some z → linked_row_at links z ≡ None → linked_row_at links y ≡ None
 same_row rows links j k x y z e h g none =
     let same : y ≡ z = let f = ap (λ n. climb rows n x) e in cc in
     rw same none
 
 -- above a row without a parent there are no links
 pub no_links_above : (rows : List ItemRow) (links : List (Option ℕ)) (k x top : ℕ) → climb rows k x ≡ Some top → parent_of rows top ≡ None →
-    ((j z : ℕ) → j < k → climb rows j x ≡ Some z → link_at links z ≡ None) → link_at links top ≡ None → (j z : ℕ) →
-    climb rows j x ≡ Some z → link_at links z ≡ None
+    ((j z : ℕ) → j < k → climb rows j x ≡ Some z → linked_row_at links z ≡ None) → linked_row_at links top ≡ None → (j z : ℕ) →
+    climb rows j x ≡ Some z → linked_row_at links z ≡ None
 no_links_above rows links k x top h e lower none j z g =
     ⊎_elim (λ lt. lower j z lt g)
     (λ ge. ⊎_elim (λ same. same_row rows links j k x z top same g h none)
@@ -162,7 +162,7 @@ no_links_above rows links k x top h e lower none j z g =
     (cases_lt j k)
 
 -- what a read of a link says
-pub link-read : (links : List (Option ℕ)) (x : ℕ) (o : Option ℕ) → x < length links → o ≡ get_or links x o → link_at links x ≡ o
+pub link-read : (links : List (Option ℕ)) (x : ℕ) (o : Option ℕ) → x < length links → o ≡ get_or links x o → linked_row_at links x ≡ o
 link-read links x o lt e = get_or_default links x None o lt ∙ sym e
 
 -- the greatest level is the depth

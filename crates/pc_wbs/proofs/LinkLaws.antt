@@ -4,13 +4,13 @@ use Rattle.std.proofs.lemmas.Bool.{cases_eq}
 use Rattle.std.proofs.lemmas.List.{get_or-replicate, get_or-set_same, get_or-set_other, length-replicate, length-set}
 use Rattle.pc_wbs.specs.declared.tree.ItemRow.{ItemRow}
 use Rattle.pc_wbs.specs.Climb.{parent_of}
-use Rattle.pc_wbs.specs.inside.Links.{IsFirstChild, link_at, AreFirstChildren, AreNextSiblings}
+use Rattle.pc_wbs.specs.inside.Links.{IsFirstChild, linked_row_at, AreFirstChildren, AreNextSiblings}
 
 -- no row is anybody's first child among none
 pub firsts_none : (rows : List ItemRow) (n : ℕ) (firsts : List (Option ℕ)) → firsts ≡ replicate (length rows) None → n ≡ length rows → AreFirstChildren rows n firsts
 firsts_none rows n firsts made all = record {
   one_each = ap length made ∙ length-replicate {A = Option ℕ} (length rows) None;
-  first = λ p below. subst (IsFirstChild rows p n) (sym (ap (λ links. link_at links p) made ∙ get_or-replicate (length rows) p None None below)) (λ x from inside. absurd (omega arith));
+  first = λ p below. subst (IsFirstChild rows p n) (sym (ap (λ links. linked_row_at links p) made ∙ get_or-replicate (length rows) p None None below)) (λ x from inside. absurd (omega arith));
 }
 
 -- nor has any of them a sibling
@@ -18,8 +18,8 @@ pub nexts_none : (rows : List ItemRow) (n : ℕ) (nexts : List (Option ℕ)) →
 nexts_none rows n nexts made all = record {
   one_each = ap length made ∙ length-replicate {A = Option ℕ} (length rows) None;
   next = λ x p from inside. absurd (omega arith);
-  alone = λ x inside top. ap (λ links. link_at links x) made ∙ get_or-replicate (length rows) x None None inside;
-  later = λ x before inside. ap (λ links. link_at links x) made ∙ get_or-replicate (length rows) x None None inside;
+  alone = λ x inside top. ap (λ links. linked_row_at links x) made ∙ get_or-replicate (length rows) x None None inside;
+  later = λ x before inside. ap (λ links. linked_row_at links x) made ∙ get_or-replicate (length rows) x None None inside;
 }
 
 -- the links from one place on are those from the same place on
@@ -51,25 +51,25 @@ pub firsts_more : (rows : List ItemRow) (x p : ℕ) (firsts : List (Option ℕ))
 firsts_more rows x p firsts child inside are = record {
   one_each = length-set firsts p (Some x) ∙ are.one_each;
   first = λ q below. ⊎_elim
-      (λ same. subst (IsFirstChild rows q x) (sym (ap (link_at (set firsts p (Some x))) same ∙ get_or-set_same firsts p (Some x) None (omega (arith, are.one_each))))
+      (λ same. subst (IsFirstChild rows q x) (sym (ap (linked_row_at (set firsts p (Some x))) same ∙ get_or-set_same firsts p (Some x) None (omega (arith, are.one_each))))
       (omega arith, inside, child ∙ ap Some (sym same), λ y from before. absurd (omega arith)))
       (λ apart. subst (IsFirstChild rows q x) (sym (get_or-set_other firsts p q (Some x) None apart))
-      (first_still rows q x (link_at firsts q) (λ other. apart (cc)) (are.first q below)))
+      (first_still rows q x (linked_row_at firsts q) (λ other. apart (cc)) (are.first q below)))
       (cases_eq q p);
 }
 
 -- the next sibling of any other is the first child so far of its parent
 pub nexts_more : (rows : List ItemRow) (x p : ℕ) (firsts nexts : List (Option ℕ)) → parent_of rows x ≡ Some p → x < length rows →
     p < length rows → AreFirstChildren rows (x + 1) firsts → AreNextSiblings rows (x + 1) nexts →
-    AreNextSiblings rows x (set nexts x (link_at firsts p))
+    AreNextSiblings rows x (set nexts x (linked_row_at firsts p))
 nexts_more rows x p firsts nexts child inside known firsts_are are = record {
-  one_each = length-set nexts x (link_at firsts p) ∙ are.one_each;
+  one_each = length-set nexts x (linked_row_at firsts p) ∙ are.one_each;
   next = λ y q from within is_child. ⊎_elim
       (λ same.
       let here : parent_of rows x ≡ Some q = subst (λ (z : ℕ). parent_of rows z ≡ Some q) same is_child in
       let parent : p ≡ q = cc in
-      subst (λ (z : ℕ). IsFirstChild rows q (z + 1) (link_at (set nexts x (link_at firsts p)) z)) (sym same)
-      (subst (IsFirstChild rows q (x + 1)) (sym (here_is)) (subst (λ (r : ℕ). IsFirstChild rows r (x + 1) (link_at firsts p)) parent (firsts_are.first p known))))
+      subst (λ (z : ℕ). IsFirstChild rows q (z + 1) (linked_row_at (set nexts x (linked_row_at firsts p)) z)) (sym same)
+      (subst (IsFirstChild rows q (x + 1)) (sym (here_is)) (subst (λ (r : ℕ). IsFirstChild rows r (x + 1) (linked_row_at firsts p)) parent (firsts_are.first p known))))
       (λ apart. subst (IsFirstChild rows q (y + 1)) (sym (elsewhere y apart)) (are.next y q (omega arith) within is_child))
       (cases_eq y x);
   alone = λ y within top. ⊎_elim
@@ -79,8 +79,8 @@ nexts_more rows x p firsts nexts child inside known firsts_are are = record {
   later = λ y before within. elsewhere y (omega arith) ∙ are.later y (omega arith) within;
 }
   where
-    here_is : link_at (set nexts x (link_at firsts p)) x ≡ link_at firsts p
-    here_is = get_or-set_same nexts x (link_at firsts p) None (omega (arith, are.one_each))
+    here_is : linked_row_at (set nexts x (linked_row_at firsts p)) x ≡ linked_row_at firsts p
+    here_is = get_or-set_same nexts x (linked_row_at firsts p) None (omega (arith, are.one_each))
 
-    elsewhere : (y : ℕ) → y ≢ x → link_at (set nexts x (link_at firsts p)) y ≡ link_at nexts y
-    elsewhere y apart = get_or-set_other nexts x y (link_at firsts p) None apart
+    elsewhere : (y : ℕ) → y ≢ x → linked_row_at (set nexts x (linked_row_at firsts p)) y ≡ linked_row_at nexts y
+    elsewhere y apart = get_or-set_other nexts x y (linked_row_at firsts p) None apart

@@ -6,7 +6,7 @@ use Rattle.std.proofs.lemmas.List.{length_push, get_or_push, get_or_append_left,
 use Rattle.pc_model.specs.Greatest.{StandsBelow}
 use Rattle.pc_wbs.specs.declared.tree.ItemRow.{ItemRow}
 use Rattle.pc_wbs.specs.Climb.{parent_of, AreInRange, climb, IsBelow, HasLevel, IsOnlyTop, IsTree}
-use Rattle.pc_wbs.specs.inside.Links.{IsFirstChild, link_at, AreNextSiblings, IsNextBeside}
+use Rattle.pc_wbs.specs.inside.Links.{IsFirstChild, linked_row_at, AreNextSiblings, IsNextBeside}
 use Rattle.pc_wbs.specs.Preorder.{IsPreorder}
 use Rattle.pc_wbs.specs.inside.Precedes.{IsUnder, Parts, Precedes, IsSuccessor}
 use Rattle.pc_wbs.proofs.Pigeon.{Repeats, repeats, length-apart}
@@ -59,7 +59,7 @@ IsSuccessor-child rows x c (from, inside, e, first) = (inside, inl (x, (e, IsBel
         inr (inr (Parts-below t (IsBelow-parent rows c x t.earlier e t.below_earlier) t.below_later))
 
 -- a row with a later sibling has a next one
-linked : (rows : List ItemRow) (nexts : List (Option ℕ)) (b a p : ℕ) → AreNextSiblings rows 0 nexts → parent_of rows b ≡ Some p → parent_of rows a ≡ Some p → b < a → link_at nexts b ≡ None → ⊥
+linked : (rows : List ItemRow) (nexts : List (Option ℕ)) (b a p : ℕ) → AreNextSiblings rows 0 nexts → parent_of rows b ≡ Some p → parent_of rows a ≡ Some p → b < a → linked_row_at nexts b ≡ None → ⊥
 linked rows nexts b a p links eb ea lt no_link =
     let none : IsFirstChild rows p (b + 1) None = rw no_link at (links.next b p (omega arith) (parent-inside rows b p eb) eb) in
     none a (omega arith) (parent-inside rows a p ea) ea

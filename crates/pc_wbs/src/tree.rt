@@ -42,9 +42,9 @@ impl Model for Tree {
 
     ghost view = { λ tree. tree.rows.items };
 
-    ghost use Rattle.pc_wbs.specs.inside.Parts.{AreParts};
+    ghost use Rattle.pc_wbs.specs.inside.Parts.{AreTreeParts};
 
-    ghost invariant = { AreParts };
+    ghost invariant = { AreTreeParts };
 }
 
 impl Tree {

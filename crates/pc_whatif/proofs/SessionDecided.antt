@@ -7,7 +7,7 @@ use Rattle.pc_deck.specs.Limits.{longest_deck}
 use Rattle.pc_faults.specs.declared.fault.Fault.{Fault}
 use Rattle.pc_edges.specs.declared.lines.reader.TheConstants.{INPUT_LIMIT}
 use Rattle.pc_project.specs.declared.shell.status.Status.{Status}
-use Rattle.pc_project.specs.inside.shell.Status.{code_of}
+use Rattle.pc_project.specs.inside.shell.Status.{exit_code_of}
 use Rattle.pc_project.specs.shell.OneWord.{IsOneWord}
 use Rattle.pc_project.specs.shell.Sides.{Side, HadNoFault, IsReadToEnd, IsUntouched, OfBytes}
 use Rattle.pc_project.specs.shell.Verdict.{AcceptedBy, RefusedBy, IsFault}
@@ -41,7 +41,7 @@ module _ {D C O E : Type 0} (means : Meaning) (words : List (String Global)) (de
   refusal_denied : (bytes : List ℕ) (fault : Fault) → AcceptedBy bytes → IsFault bytes fault → ⊥
   refusal_denied bytes fault accepted is = not_both bytes accepted.0 fault accepted.1 is
 
-  pub ended : (status : Status) → SessionOutcome means words deck edits out err status → answer ≡ code_of status → answer ≡ 0 → IsHeardOut means deck edits out
+  pub ended : (status : Status) → SessionOutcome means words deck edits out err status → answer ≡ exit_code_of status → answer ≡ 0 → IsHeardOut means deck edits out
   ended _ (heard_out asked is same) code at_0 = is
   ended _ (too_long asked is same) code at_0 = absurd (omega (arith, code, at_0))
   ended _ (deck_refused is same also) code at_0 = absurd (omega (arith, code, at_0))
@@ -50,7 +50,7 @@ module _ {D C O E : Type 0} (means : Meaning) (words : List (String Global)) (de
   ended _ (read_fault asked unread same) code at_0 = absurd (omega (arith, code, at_0))
   ended _ (write_fault is) code at_0 = absurd (omega (arith, code, at_0))
 
-  pub went_on : (status : Status) → SessionOutcome means words deck edits out err status → answer ≡ code_of status → answer ≡ 8 → IsHeardTooLong means deck edits out
+  pub went_on : (status : Status) → SessionOutcome means words deck edits out err status → answer ≡ exit_code_of status → answer ≡ 8 → IsHeardTooLong means deck edits out
   went_on _ (heard_out asked is same) code at_8 = absurd (omega (arith, code, at_8))
   went_on _ (too_long asked is same) code at_8 = is
   went_on _ (deck_refused is same also) code at_8 = absurd (omega (arith, code, at_8))
@@ -59,7 +59,7 @@ module _ {D C O E : Type 0} (means : Meaning) (words : List (String Global)) (de
   went_on _ (read_fault asked unread same) code at_8 = absurd (omega (arith, code, at_8))
   went_on _ (write_fault is) code at_8 = absurd (omega (arith, code, at_8))
 
-  pub not_read : (status : Status) → SessionOutcome means words deck edits out err status → answer ≡ code_of status → answer ≡ 4 → IsSessionUnread means deck edits out
+  pub not_read : (status : Status) → SessionOutcome means words deck edits out err status → answer ≡ exit_code_of status → answer ≡ 4 → IsSessionUnread means deck edits out
   not_read _ (heard_out asked is same) code at_4 = absurd (omega (arith, code, at_4))
   not_read _ (too_long asked is same) code at_4 = absurd (omega (arith, code, at_4))
   not_read _ (deck_refused is same also) code at_4 = absurd (omega (arith, code, at_4))
@@ -68,7 +68,7 @@ module _ {D C O E : Type 0} (means : Meaning) (words : List (String Global)) (de
   not_read _ (read_fault asked unread same) code at_4 = unread
   not_read _ (write_fault is) code at_4 = absurd (omega (arith, code, at_4))
 
-  pub session_cut : (status : Status) → SessionOutcome means words deck edits out err status → answer ≡ code_of status → answer ≡ 5 → IsSessionCut means words deck edits out err
+  pub session_cut : (status : Status) → SessionOutcome means words deck edits out err status → answer ≡ exit_code_of status → answer ≡ 5 → IsSessionCut means words deck edits out err
   session_cut _ (heard_out asked is same) code five = absurd (omega (arith, code, five))
   session_cut _ (too_long asked is same) code five = absurd (omega (arith, code, five))
   session_cut _ (deck_refused is same also) code five = absurd (omega (arith, code, five))
@@ -78,7 +78,7 @@ module _ {D C O E : Type 0} (means : Meaning) (words : List (String Global)) (de
   session_cut _ (write_fault is) code five = is
 
   -- a deck that is refused and not too long was read to its end
-  pub refused_is_read : (status : Status) → SessionOutcome means words deck edits out err status → answer ≡ code_of status → answer ≡ 1 →
+  pub refused_is_read : (status : Status) → SessionOutcome means words deck edits out err status → answer ≡ exit_code_of status → answer ≡ 1 →
       OfBytes deck (λ bytes. length bytes ≤ longest_deck → IsReadToEnd deck)
   refused_is_read _ (heard_out asked is same) code at_1 = absurd (omega (arith, code, at_1))
   refused_is_read _ (too_long asked is same) code at_1 = absurd (omega (arith, code, at_1))
@@ -90,7 +90,7 @@ module _ {D C O E : Type 0} (means : Meaning) (words : List (String Global)) (de
 
   -- a deck that is not refused is accepted
   pub not_refused_accepts : IsOneWord words → HadNoFault deck → (status : Status) → SessionOutcome means words deck edits out err status →
-      answer ≡ code_of status → OfBytes deck (λ bytes. (RefusedBy bytes → ⊥) → AcceptedBy bytes ⊎ (answer ≡ 3))
+      answer ≡ exit_code_of status → OfBytes deck (λ bytes. (RefusedBy bytes → ⊥) → AcceptedBy bytes ⊎ (answer ≡ 3))
   not_refused_accepts asked reads _ (heard_out one is same) code = of_one (deck.bytes deck.old) AcceptedBy _ (λ bytes accepted never. inl accepted) is.heard.accepted
   not_refused_accepts asked reads _ (too_long one is same) code = of_one (deck.bytes deck.old) AcceptedBy _ (λ bytes accepted never. inl accepted) is.heard.accepted
   not_refused_accepts asked reads _ (deck_refused is same also) code =
@@ -106,7 +106,7 @@ module _ {D C O E : Type 0} (means : Meaning) (words : List (String Global)) (de
 
   -- a deck with a fault is refused
   pub refused_deck_ends : IsOneWord words → (status : Status) → SessionOutcome means words deck edits out err status →
-      answer ≡ code_of status → OfBytes deck (λ bytes. RefusedBy bytes → HadNoFault deck → HadNoFault err → (answer ≡ 1) ⊎ (answer ≡ 3))
+      answer ≡ exit_code_of status → OfBytes deck (λ bytes. RefusedBy bytes → HadNoFault deck → HadNoFault err → (answer ≡ 1) ⊎ (answer ≡ 3))
   refused_deck_ends asked _ (heard_out one is same) code =
       of_one (deck.bytes deck.old) AcceptedBy _ (λ bytes accepted faulty reads takes. absurd (refusal_denied bytes (faulty.0) accepted (faulty.1))) is.heard.accepted
   refused_deck_ends asked _ (too_long one is same) code =
@@ -123,7 +123,7 @@ module _ {D C O E : Type 0} (means : Meaning) (words : List (String Global)) (de
   refused_deck_ends asked _ (write_fault (in_usage no_word took same also unused)) code = absurd (no_word asked)
 
   -- on an accepted deck lines are answered, to the end of the edits or to their limit
-  pub accepted_deck_ends : IsOneWord words → (status : Status) → SessionOutcome means words deck edits out err status → answer ≡ code_of status
+  pub accepted_deck_ends : IsOneWord words → (status : Status) → SessionOutcome means words deck edits out err status → answer ≡ exit_code_of status
       → OfBytes deck (λ bytes. AcceptedBy bytes → HadNoFault deck → HadNoFault edits → HadNoFault out → (answer ≡ 0) ⊎ ((answer ≡ 3) ⊎ (answer ≡ 8)))
   accepted_deck_ends asked _ (heard_out one is same) code = of_any (deck.bytes deck.old) _ (λ bytes accepted reads also takes. inl code)
   accepted_deck_ends asked _ (too_long one is same) code = of_any (deck.bytes deck.old) _ (λ bytes accepted reads also takes. inr (inr code))
@@ -149,7 +149,7 @@ module _ {D C O E : Type 0} (means : Meaning) (words : List (String Global)) (de
       (sym (ap edits.bytes same)) (none_taken INPUT_LIMIT (edits.bytes edits.old) Q)
 
   -- if more is taken of the edits than they may have, the status is 8
-  pub long_edits_end : HadNoFault out → (status : Status) → SessionOutcome means words deck edits out err status → answer ≡ code_of status
+  pub long_edits_end : HadNoFault out → (status : Status) → SessionOutcome means words deck edits out err status → answer ≡ exit_code_of status
       → OfBytes edits (λ before. IfSome (edits.bytes edits.new) (λ after. INPUT_LIMIT + length after < length before → answer ≡ 8))
   long_edits_end takes _ (heard_out one is same) code = few_taken INPUT_LIMIT (edits.bytes edits.old) (edits.bytes edits.new) is.heard.answered.bytes (answer ≡ 8) is.heard.answered.taken is.short
   long_edits_end takes _ (too_long one is same) code = any_taken INPUT_LIMIT (edits.bytes edits.old) (edits.bytes edits.new) (answer ≡ 8) code

@@ -14,7 +14,7 @@ use Rattle.pc_crash.specs.Priced.{PricedNetwork}
 use Rattle.pc_project.proofs.lemmas.shell.PricedLaws.{is_named, is_priced, priced_as}
 use Rattle.pert_cli.specs.declared.forms.Form.TheVariants.{Certify}
 use Rattle.pc_project.specs.declared.shell.status.Status.{Status}
-use Rattle.pc_project.specs.inside.shell.Status.{code_of}
+use Rattle.pc_project.specs.inside.shell.Status.{exit_code_of}
 use Rattle.pc_project.specs.shell.Priced.{priced_in, priced_of}
 use Rattle.pert_cli.proofs.AnsweredLaws.{answered}
 use Rattle.pert_cli.proofs.FormDeckLaws.{read_project}
@@ -47,7 +47,7 @@ of_deck (Some bytes) out project text took is accepted =
 
 module _ {S O E : Type 0} (words : List (String Global)) (source : Side S) (out : Side O) (err : Side E) (answer : ℕ) where
   -- if a run for `certify` ended with 0, the output took the complete curve
-  pub takes_whole_curve : (status : Status) → Outcome words source out err status → answer ≡ code_of status → answer ≡ 0 → AskFor Certify words → OfBytes source (TookWholeCurve out)
+  pub takes_whole_curve : (status : Status) → Outcome words source out err status → answer ≡ exit_code_of status → answer ≡ 0 → AskFor Certify words → OfBytes source (TookWholeCurve out)
   takes_whole_curve status outcome code at_0 asked =
       let given = answered words source out err answer Certify asked status outcome code at_0 in
       of_deck (source.bytes source.old) out given.1.project given.0 given.2 given.1.reply.right (read_project source Certify given.1.project refl given.1.deck).is

@@ -6,7 +6,7 @@ use Rattle.pc_deck.specs.Limits.{longest_deck}
 use Rattle.pc_faults.specs.declared.fault.Fault.{Fault}
 use Rattle.pc_project.specs.Project.{Project}
 use Rattle.pc_project.specs.declared.shell.status.Status.{Status}
-use Rattle.pc_project.specs.inside.shell.Status.{code_of}
+use Rattle.pc_project.specs.inside.shell.Status.{exit_code_of}
 use Rattle.pert_cli.specs.declared.forms.Form.{Form}
 use Rattle.pert_cli.specs.FormDeck.{AskToRead, IsOwnDeck, ReadsSource, sort_of}
 use Rattle.pert_cli.specs.inside.FormDeck.{IsLeftBy}
@@ -112,7 +112,7 @@ module _ {S O E : Type 0} (words : List (String Global)) (source : Side S) (out 
 
   module _ (reads : ReadsSource form) where
     -- a deck of the source that is not refused is accepted
-    pub not_refused_accepts : HadNoFault source → (status : Status) → Outcome words source out err status → answer ≡ code_of status
+    pub not_refused_accepts : HadNoFault source → (status : Status) → Outcome words source out err status → answer ≡ exit_code_of status
         → OfBytes source (λ bytes. (RefusedAs (sort_of form) bytes → ⊥) → AcceptedAs (sort_of form) bytes ⊎ (answer ≡ 3))
     not_refused_accepts whole _ (done is same) is_code =
         let mine = its_answer is.form is.text is.asked is.answer in
@@ -128,7 +128,7 @@ module _ {S O E : Type 0} (words : List (String Global)) (source : Side S) (out 
     not_refused_accepts whole _ (write_fault (in_usage no_form took same also)) is_code = absurd (no_form form asked)
 
     -- an accepted deck of the source is answered
-    pub accepted_ends : (status : Status) → Outcome words source out err status → answer ≡ code_of status →
+    pub accepted_ends : (status : Status) → Outcome words source out err status → answer ≡ exit_code_of status →
         OfBytes source (λ bytes. IsAcceptedFor form bytes → HadNoFault source → HadNoFault out → (answer ≡ 0) ⊎ (answer ≡ 3))
     accepted_ends _ (done is same) is_code = of_any (source.bytes source.old) _ (λ bytes accepted whole takes. inl is_code)
     accepted_ends _ (refused is same) is_code = turned_down_not_accepted source form reads is.fault _ (its_refusal is.form is.fault is.asked is.refusal)
@@ -140,7 +140,7 @@ module _ {S O E : Type 0} (words : List (String Global)) (source : Side S) (out 
     accepted_ends _ (write_fault (in_usage no_form took same also)) is_code = absurd (no_form form asked)
 
     -- a refused one is refused
-    pub refused_ends : (status : Status) → Outcome words source out err status → answer ≡ code_of status →
+    pub refused_ends : (status : Status) → Outcome words source out err status → answer ≡ exit_code_of status →
         OfBytes source (λ bytes. IsRefusedFor form bytes → HadNoFault source → HadNoFault err → (answer ≡ 1) ⊎ (answer ≡ 3))
     refused_ends _ (done is same) is_code = answered_not_refused source form reads is.text _ (its_answer is.form is.text is.asked is.answer)
     refused_ends _ (refused is same) is_code = of_any (source.bytes source.old) _ (λ bytes faulty whole takes. inl is_code)
@@ -152,7 +152,7 @@ module _ {S O E : Type 0} (words : List (String Global)) (source : Side S) (out 
     refused_ends _ (write_fault (in_usage no_form took same also)) is_code = absurd (no_form form asked)
 
     -- where it ended with 1, a deck that is not too long was read to its end
-    pub one_is_read : (status : Status) → Outcome words source out err status → answer ≡ code_of status → answer ≡ 1 → OfBytes source (λ bytes. length bytes ≤ longest_deck → IsReadToEnd source)
+    pub one_is_read : (status : Status) → Outcome words source out err status → answer ≡ exit_code_of status → answer ≡ 1 → OfBytes source (λ bytes. length bytes ≤ longest_deck → IsReadToEnd source)
     one_is_read _ (done is same) is_code one = absurd (omega (arith, is_code, one))
     one_is_read _ (refused is same) is_code one = turned_down_is_read source form reads is.fault (its_refusal is.form is.fault is.asked is.refusal)
     one_is_read _ (usage no_form took same also) is_code one = absurd (omega (arith, is_code, one))
@@ -177,7 +177,7 @@ module _ {S O E : Type 0} (words : List (String Global)) (source : Side S) (out 
     own_unread _ (write_fault (in_usage no_form took same also)) = same
 
     -- an accepted deck of its own is answered
-    pub own_accepted_ends : (status : Status) → Outcome words source out err status → answer ≡ code_of status → IsAcceptedFor form deck → HadNoFault out → (answer ≡ 0) ⊎ (answer ≡ 3)
+    pub own_accepted_ends : (status : Status) → Outcome words source out err status → answer ≡ exit_code_of status → IsAcceptedFor form deck → HadNoFault out → (answer ≡ 0) ⊎ (answer ≡ 3)
     own_accepted_ends _ (done is same) is_code accepted takes = inl is_code
     own_accepted_ends _ (refused is same) is_code accepted takes = absurd (own_not_accepted source form deck own is.fault (its_refusal is.form is.fault is.asked is.refusal) accepted)
     own_accepted_ends _ (usage no_form took same also) is_code accepted takes = absurd (no_form form asked)
@@ -188,7 +188,7 @@ module _ {S O E : Type 0} (words : List (String Global)) (source : Side S) (out 
     own_accepted_ends _ (write_fault (in_usage no_form took same also)) is_code accepted takes = absurd (no_form form asked)
 
     -- a refused one is refused
-    pub own_refused_ends : (status : Status) → Outcome words source out err status → answer ≡ code_of status → IsRefusedFor form deck → HadNoFault err → (answer ≡ 1) ⊎ (answer ≡ 3)
+    pub own_refused_ends : (status : Status) → Outcome words source out err status → answer ≡ exit_code_of status → IsRefusedFor form deck → HadNoFault err → (answer ≡ 1) ⊎ (answer ≡ 3)
     own_refused_ends _ (done is same) is_code faulty takes = absurd (own_not_refused source form deck own is.text (its_answer is.form is.text is.asked is.answer) faulty)
     own_refused_ends _ (refused is same) is_code faulty takes = inl is_code
     own_refused_ends _ (usage no_form took same also) is_code faulty takes = absurd (no_form form asked)
@@ -200,7 +200,7 @@ module _ {S O E : Type 0} (words : List (String Global)) (source : Side S) (out 
 
 -- a run that ended with 5 was cut
 pub five_is_cut : {S O E : Type 0} (words : List (String Global)) (source : Side S) (out : Side O) (err : Side E) (answer : ℕ)
-    (status : Status) → Outcome words source out err status → answer ≡ code_of status → answer ≡ 5 → IsCut words source out err
+    (status : Status) → Outcome words source out err status → answer ≡ exit_code_of status → answer ≡ 5 → IsCut words source out err
 five_is_cut words source out err answer _ (done is same) is_code five = absurd (omega (arith, is_code, five))
 five_is_cut words source out err answer _ (refused is same) is_code five = absurd (omega (arith, is_code, five))
 five_is_cut words source out err answer _ (usage no_form took same also) is_code five = absurd (omega (arith, is_code, five))
@@ -210,7 +210,7 @@ five_is_cut words source out err answer _ (write_fault cut) is_code five = cut
 
 -- a run that ended with another number than 2 and 5 was asked for a form
 pub ended_asked : {S O E : Type 0} (words : List (String Global)) (source : Side S) (out : Side O) (err : Side E) (answer : ℕ)
-    (status : Status) → Outcome words source out err status → answer ≡ code_of status → answer ≢ 2 → answer ≢ 5 → AskForOne words
+    (status : Status) → Outcome words source out err status → answer ≡ exit_code_of status → answer ≢ 2 → answer ≢ 5 → AskForOne words
 ended_asked words source out err answer _ (done is same) is_code no_usage no_cut = (is.form, is.asked)
 ended_asked words source out err answer _ (refused is same) is_code no_usage no_cut = (is.form, is.asked)
 ended_asked words source out err answer _ (usage no_form took same also) is_code no_usage no_cut = absurd (no_usage is_code)
@@ -220,7 +220,7 @@ ended_asked words source out err answer _ (write_fault cut) is_code no_usage no_
 
 -- a run that ended with 4 was asked for a form that reads the source
 pub four_is_read : {S O E : Type 0} (words : List (String Global)) (source : Side S) (out : Side O) (err : Side E) (answer : ℕ)
-    (status : Status) → Outcome words source out err status → answer ≡ code_of status → answer ≡ 4 → AskToRead words
+    (status : Status) → Outcome words source out err status → answer ≡ exit_code_of status → answer ≡ 4 → AskToRead words
 four_is_read words source out err answer _ (done is same) is_code four = absurd (omega (arith, is_code, four))
 four_is_read words source out err answer _ (refused is same) is_code four = absurd (omega (arith, is_code, four))
 four_is_read words source out err answer _ (usage no_form took same also) is_code four = absurd (omega (arith, is_code, four))

@@ -6,7 +6,7 @@ use Rattle.pc_deck.specs.Text.{deck_text}
 use Rattle.pc_project.specs.deck_text.Written.{IsDeckText, migrated, written}
 use Rattle.pc_project.specs.Project.{Project}
 use Rattle.pc_project.specs.declared.shell.status.Status.{Status}
-use Rattle.pc_project.specs.inside.shell.Status.{code_of}
+use Rattle.pc_project.specs.inside.shell.Status.{exit_code_of}
 use Rattle.pc_project.specs.shell.Sides.{Side, OfBytes, Took}
 use Rattle.pc_project.specs.shell.Verdict.{IsProjectOf}
 use Rattle.pc_project.proofs.lemmas.shell.VerdictLaws.{one_project}
@@ -43,7 +43,7 @@ of_deck (Some bytes) out project text took is accepted = record { project = proj
 
 module _ {S O E : Type 0} (words : List (String Global)) (source : Side S) (out : Side O) (err : Side E) (answer : ℕ) where
   -- where a run for `migrate` ended with 0, the output took a deck of the same project
-  pub takes_same_project : (status : Status) → Outcome words source out err status → answer ≡ code_of status → answer ≡ 0 → AskFor Migrate words → OfBytes source (TookSameProject out)
+  pub takes_same_project : (status : Status) → Outcome words source out err status → answer ≡ exit_code_of status → answer ≡ 0 → AskFor Migrate words → OfBytes source (TookSameProject out)
   takes_same_project status outcome code at_0 asked =
       let given = answered words source out err answer Migrate asked status outcome code at_0 in
       of_deck (source.bytes source.old) out given.1.project given.0 given.2 given.1.reply.right (read_project source Migrate given.1.project refl given.1.deck).is

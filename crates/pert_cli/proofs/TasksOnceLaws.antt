@@ -36,7 +36,7 @@ use Rattle.pc_project.specs.Project.{rows_of}
 use Rattle.pc_project.specs.Refusal.{HasSoundPlan, IsRefusedWith, IsTreeFault}
 use Rattle.pc_project.proofs.RefusalLaws.{no_tree}
 use Rattle.pc_tasks.specs.Codes.{links_code}
-use Rattle.pc_tasks.specs.Drawn.{after_links, arrows_deck, first_link, last_link, links_of, task_acts}
+use Rattle.pc_tasks.specs.Drawn.{after_links, arrows_deck, first_link, last_link, drawn_links, task_acts}
 use Rattle.pc_tasks.specs.Lists.{afters_in}
 use Rattle.pc_tasks.specs.Refusal.{HasLoneTop, HasNoTask, HasSoundItems, HasSoundTasks, IsCycleFault, IsTasksRefusedWith, task_records}
 use Rattle.pc_tasks.specs.Refusal.{of_cards, of_cycle, of_none, of_plan, of_top, of_tree}
@@ -120,7 +120,7 @@ last_links-are : (deck : Deck) (tasks : List ℕ) → All IsLink (map (last_link
 last_links-are deck [] = All-nil IsLink
 last_links-are deck (i ∷ tasks) = All-cons IsLink (last_link deck i) (map (last_link deck) tasks) (refl, refl) (last_links-are deck tasks)
 
-links-are : (deck : Deck) → All IsLink (links_of deck)
+links-are : (deck : Deck) → All IsLink (drawn_links deck)
 links-are deck =
     let first = map (first_link deck) (firsts (length deck.tasks) (afters_in deck)) in
     let last = map (last_link deck) (lasts (length deck.tasks) (afters_in deck)) in
@@ -154,9 +154,9 @@ module _ (cards : List Numbered) (deck : Deck) (rising : Rises 1 cards) (says : 
 
   acts-drawn : All (IsDrawnAct cards) (arrows_deck deck).acts
   acts-drawn =
-      All-append (IsDrawnAct cards) (task_acts 0 deck.tasks) (links_of deck)
+      All-append (IsDrawnAct cards) (task_acts 0 deck.tasks) (drawn_links deck)
       (All-weaker (IsTaskAct cards) (IsDrawnAct cards) (λ act h. inl h) (task_acts 0 deck.tasks) (task_acts-drawn cards 0 deck.tasks (list_spelled cards deck rising says Task)))
-      (All-weaker IsLink (IsDrawnAct cards) (λ act h. inr h) (links_of deck) (links-are deck))
+      (All-weaker IsLink (IsDrawnAct cards) (λ act h. inr h) (drawn_links deck) (links-are deck))
 
   of_drawn_act : (f : Fault) (act : ActCard) → f ≡ fault.not_a_leaf act.row act.item → IsDrawnAct cards act → DrawnLeaf f ⊎ (f ≡ fault.not_a_leaf 0 links_code)
   of_drawn_act f act is (inl (c, there, named, row, item)) =

@@ -1,7 +1,7 @@
 //! `certify`: the certificate of the time-cost curve.
 ghost use Rattle.std.specs.Prelude.{◌≡◌, IfOk};
 ghost use Rattle.pc_certify.specs.Certificate.{IsCertificate};
-ghost use Rattle.pc_certify.specs.inside.Certificate.{IsReadyFor};
+ghost use Rattle.pc_certify.specs.inside.Certificate.{IsReadyToCertify};
 ghost use Rattle.pc_project.specs.shell.Priced.{priced_in};
 
 use crate::solving::{priced_net, solver_region};
@@ -28,7 +28,7 @@ impl<'p> CertificateReport<'p> {
         project: &'p Project,
     ) -> Result<CertificateReport<'p>, AllocError>
         ensures net { IfOk result (λ report. report.net ≡ priced_in project.now) }
-        ensures ready { IfOk result (λ report. IsReadyFor (priced_in project.now) report.certificate) }
+        ensures ready { IfOk result (λ report. IsReadyToCertify (priced_in project.now) report.certificate) }
     {
         let net = priced_net(alloc, project)?;
         let region = solver_region(alloc, project)?;
@@ -38,7 +38,7 @@ impl<'p> CertificateReport<'p> {
 }
 
 impl<'p> Report for CertificateReport<'p> {
-    ghost IsFor = { λ report project. (report.net ≡ priced_in project) × IsReadyFor (priced_in project)
+    ghost IsFor = { λ report project. (report.net ≡ priced_in project) × IsReadyToCertify (priced_in project)
         report.certificate };
 
     ghost IsText = { λ report project text. IsCertificate (priced_in project) text };

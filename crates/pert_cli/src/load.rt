@@ -3,7 +3,7 @@ ghost use Rattle.std.specs.Prelude.{◌≡◌, ◌≤◌, IfErr, IfOk};
 ghost use Rattle.pc_load.specs.Loading.{IsLoading};
 ghost use Rattle.pc_load.specs.LoadText.{load_text};
 ghost use Rattle.pc_load.specs.declared.loading.TheConstants.{MAX_DAYS};
-ghost use Rattle.pc_load.specs.inside.Loading.{IsReadyFor};
+ghost use Rattle.pc_load.specs.inside.Loading.{IsReadyToLoad};
 ghost use Rattle.pert_cli.specs.Load.{HasTooManyPeriods};
 ghost use Rattle.pert_cli.specs.inside.Handing.{IsNoReport};
 
@@ -32,7 +32,7 @@ impl LoadReport {
         requires least { 1 ≤ days }
         requires most { days ≤ MAX_DAYS }
         ensures loading { IfOk result (λ report. IsLoading project.now days report.loading) }
-        ensures ready { IfOk result (λ report. IsReadyFor project.now report.loading) }
+        ensures ready { IfOk result (λ report. IsReadyToLoad project.now report.loading) }
         ensures none { IfErr result (IsNoReport (HasTooManyPeriods project.now days)) }
     {
         match Loading::build(alloc, project, days) {
@@ -47,7 +47,7 @@ impl LoadReport {
 }
 
 impl Report for LoadReport {
-    ghost IsFor = { λ report project. IsReadyFor project report.loading };
+    ghost IsFor = { λ report project. IsReadyToLoad project report.loading };
 
     ghost IsText = { λ report project text. text ≡ load_text project report.loading };
 

@@ -2,7 +2,7 @@
 ghost use Rattle.std.specs.Prelude.{◌≡◌};
 ghost use Rattle.pc_curve.specs.inside.Points.{HasPlaces};
 ghost use Rattle.pc_reports.specs.Schedule.{plan_text};
-ghost use Rattle.pc_reports.specs.inside.Schedule.{plan_of, text_of, IsWhole};
+ghost use Rattle.pc_reports.specs.inside.Schedule.{plan_text_of, schedule_text_of, IsWholeSchedule};
 ghost use Rattle.pc_project.specs.shell.Priced.{priced_in};
 ghost use Rattle.pert_cli.specs.Normal.{printed_text};
 
@@ -39,9 +39,9 @@ impl PrintedSchedule {
     /// Returns the schedule with the codes of the project's events and activities.
     pub(crate) fn with_codes<'a>(&'a self, project: &'a Project) -> Schedule<'a>
         requires { HasPlaces (priced_in project.now) self.now.times self.now.durations }
-        ensures whole { IsWhole result }
-        ensures text { text_of result ≡ printed_text project.now self.now }
-        ensures plan { plan_of result ≡ plan_text project.now.events self.now.times project.now.activities
+        ensures whole { IsWholeSchedule result }
+        ensures text { schedule_text_of result ≡ printed_text project.now self.now }
+        ensures plan { plan_text_of result ≡ plan_text project.now.events self.now.times project.now.activities
             self.now.durations }
     {
         Schedule {

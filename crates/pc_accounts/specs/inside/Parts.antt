@@ -36,8 +36,8 @@ pub record AreLatest (accounts : ℕ) (togos : List MoneyRow) (as_of : ℤ) (n :
   pub each : (a : ℕ) → a < accounts → LatestBelow togos as_of a n (option_at latest a)
 
 -- each is one of the amounts to go
-abbrev pub AreKnown : List MoneyRow → List (Option ℕ) → Type 0
-AreKnown togos latest = (a k : ℕ) → a < length latest → option_at latest a ≡ Some k → k < length togos
+abbrev pub AreKnownAmounts : List MoneyRow → List (Option ℕ) → Type 0
+AreKnownAmounts togos latest = (a k : ℕ) → a < length latest → option_at latest a ≡ Some k → k < length togos
 
 -- the amount to go that counts, or what is left of the budget if there is none
 abbrev pub to_go_from : List MoneyRow → ℕ → Option ℕ → ℕ

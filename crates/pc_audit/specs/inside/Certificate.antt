@@ -35,7 +35,7 @@ pub data Told {X : Type 0} (verdict : Verdict) (out : Side X) : Status → Type 
 
 -- how the check of a certificate of the project ends: with a verdict, with a fault of the source before any line
 -- failed, or out of memory before anything was pulled
-pub data Answered {C O : Type 0} (project : Project) (cert : Side C) (out : Side O) : Status → Type 0 where
-  found : (verdict : Verdict) (status : Status) → IsFound (priced_in project) cert verdict → Told verdict out status → Answered project cert out status
-  unread : HadFault cert → IsUnsettledIn (priced_in project) cert → IsUntouched out → Answered project cert out ReadFault
-  no_room : IsUntouched cert → IsUntouched out → Answered project cert out OutOfMemory
+pub data CheckEndsWith {C O : Type 0} (project : Project) (cert : Side C) (out : Side O) : Status → Type 0 where
+  found : (verdict : Verdict) (status : Status) → IsFound (priced_in project) cert verdict → Told verdict out status → CheckEndsWith project cert out status
+  unread : HadFault cert → IsUnsettledIn (priced_in project) cert → IsUntouched out → CheckEndsWith project cert out ReadFault
+  no_room : IsUntouched cert → IsUntouched out → CheckEndsWith project cert out OutOfMemory

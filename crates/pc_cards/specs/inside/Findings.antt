@@ -17,8 +17,8 @@ abbrev pub not_alone : CardPlace → ℕ → Option Fault
 not_alone place count = then_some (nat_lt 0 count) (fault.second_card place.row place.kind)
 
 -- F6: too few fields, or too many
-abbrev pub wrong_fields : CardPlace → ℕ → ℕ → List (List ℕ) → Option Fault
-wrong_fields place least most fields =
+abbrev pub wrong_field_count : CardPlace → ℕ → ℕ → List (List ℕ) → Option Fault
+wrong_field_count place least most fields =
     then_some (not (is_whole least most fields)) (fault.wrong_fields place.row place.kind (length fields) (width_wanted least most fields))
 
 -- F7: a field of a wrong shape, where one was found
@@ -51,10 +51,10 @@ fault_of_place place count = option_or (one_too_many place.kind place.row count 
 -- F6 to F8 and F10 and F11
 abbrev pub fault_of_listed : CardPlace → ℕ → ℕ → ℕ → List Slot → List (List ℕ) → Option Fault
 fault_of_listed place count least most slots fields =
-    option_or (wrong_fields place least most fields) (option_or (flaw_of_fields place.row slots fields) (fault_of_place place count))
+    option_or (wrong_field_count place least most fields) (option_or (flaw_of_fields place.row slots fields) (fault_of_place place count))
 
 -- F6 to F11
 abbrev pub fault_of_named : CardPlace → List (List ℕ) → ℕ → ℕ → ℕ → List Slot → List (List ℕ) → Option Fault
 fault_of_named place codes count least most slots fields =
-    option_or (wrong_fields place least most fields)
+    option_or (wrong_field_count place least most fields)
     (option_or (flaw_of_fields place.row slots fields) (option_or (repeated place.row codes (text_at fields 1)) (fault_of_place place count)))

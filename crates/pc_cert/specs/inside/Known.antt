@@ -7,7 +7,7 @@ use Rattle.pc_text.specs.Fields.{run_len, Lacks}
 use Rattle.pc_cert.specs.inside.Reading.{line_of}
 
 -- the line that was read last, if the bytes were one
-pub record Known : Type 0 where
+pub record LastLine : Type 0 where
   pub line : Option CertLine
 
 -- the bytes are the line and its end (10)
@@ -40,8 +40,8 @@ abbrev pub HasText : LineText → Type 0
 HasText text = 0 < text.len
 
 -- the stored bytes, if there are any, are those of this line and its end
-abbrev pub IsTextOf : Option CertLine → LineText → Type 0
-IsTextOf line text = AreCells text.cells text.len line
+abbrev pub IsLineTextOf : Option CertLine → LineText → Type 0
+IsLineTextOf line text = AreCells text.cells text.len line
 
 -- the lines of the event with this code begin so
 pub record IsFrontOf (code : List ℕ) (front : EventFront) : Type 0 where

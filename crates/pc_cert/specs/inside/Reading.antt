@@ -6,29 +6,29 @@ use Rattle.pc_cert.specs.declared.number.TheConstants.{MAX_DIGITS}
 use Rattle.pc_cert.specs.declared.line.CertLine.{CertLine}
 use Rattle.pc_cert.specs.declared.line.CertLine.TheVariants.{Head, Normal, Step, Crash, Segment, Event, Act, Close, End}
 
-unfoldable pub head_of : List ℕ → Option CertLine
-head_of fields = do
+unfoldable pub head_from : List ℕ → Option CertLine
+head_from fields = do
   version ← number_field MAX_DIGITS fields
   project ← code_field version.1
   events ← number_field MAX_DIGITS project.1
   activities ← number_field MAX_DIGITS events.1
   if nat_lt version.0 1 || nat_lt 2 version.0 then None else alone activities.1 (Head version.0 project.0 events.0 activities.0)
 
-unfoldable pub step_of : List ℕ → Option CertLine
-step_of fields = do
+unfoldable pub step_from : List ℕ → Option CertLine
+step_from fields = do
   code ← code_field fields
   alone code.1 (Step code.0)
 
-unfoldable pub segment_of : List ℕ → Option CertLine
-segment_of fields = do
+unfoldable pub segment_from : List ℕ → Option CertLine
+segment_from fields = do
   upper ← number_field MAX_DIGITS fields
   lower ← number_field MAX_DIGITS upper.1
   cost ← number_field MAX_DIGITS lower.1
   slope ← number_field MAX_DIGITS cost.1
   alone slope.1 (Segment upper.0 lower.0 cost.0 slope.0)
 
-unfoldable pub event_of : List ℕ → Option CertLine
-event_of fields = do
+unfoldable pub event_from : List ℕ → Option CertLine
+event_from fields = do
   code ← code_field fields
   time ← number_field MAX_DIGITS code.1
   moves ← bit_field time.1
@@ -47,8 +47,8 @@ numbers_in (suc room) (b ∷ bs) = do
 unfoldable pub flows_of : List ℕ → Option (List ℕ)
 flows_of fields = numbers_in 6 fields
 
-unfoldable pub act_of : List ℕ → Option CertLine
-act_of fields = do
+unfoldable pub act_from : List ℕ → Option CertLine
+act_from fields = do
   code ← code_field fields
   duration ← number_field MAX_DIGITS code.1
   flows ← flows_of duration.1
@@ -57,12 +57,12 @@ act_of fields = do
 -- the line with this first word and these fields
 abbrev pub line_with : List ℕ → List ℕ → Option CertLine
 line_with word fields =
-    if bytes_eq word (codes "ACT") then act_of fields
-    else if bytes_eq word (codes "EVENT") then event_of fields
-    else if bytes_eq word (codes "SEGMENT") then segment_of fields
+    if bytes_eq word (codes "ACT") then act_from fields
+    else if bytes_eq word (codes "EVENT") then event_from fields
+    else if bytes_eq word (codes "SEGMENT") then segment_from fields
     else if bytes_eq word (codes "CLOSE") then alone fields Close
-    else if bytes_eq word (codes "STEP") then step_of fields
-    else if bytes_eq word (codes "CERT") then head_of fields
+    else if bytes_eq word (codes "STEP") then step_from fields
+    else if bytes_eq word (codes "CERT") then head_from fields
     else if bytes_eq word (codes "NORMAL") then alone fields Normal
     else if bytes_eq word (codes "CRASH") then alone fields Crash
     else if bytes_eq word (codes "END") then alone fields End

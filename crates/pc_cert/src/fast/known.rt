@@ -3,7 +3,7 @@ ghost use Rattle.std.specs.Prelude.{◌≡◌, ◌<◌, IsSome, None, Option, So
 ghost use Rattle.std.specs.Option.{option_map};
 ghost use Rattle.pc_cert.specs.declared.line.CertLine.{CertLine};
 ghost use Rattle.pc_cert.specs.inside.Reading.{line_of};
-ghost use Rattle.pc_cert.specs.inside.Known.{HasText, IsAgain, IsTextOf};
+ghost use Rattle.pc_cert.specs.inside.Known.{HasText, IsAgain, IsLineTextOf};
 
 use crate::fast::front::begins;
 use crate::line::CertLine;
@@ -26,7 +26,7 @@ impl LineText {
     /// Returns one that keeps no bytes.
     pub fn new() -> LineText
         ensures none { HasText result → ⊥ }
-        ensures text { (line : Option CertLine) → IsTextOf line result }
+        ensures text { (line : Option CertLine) → IsLineTextOf line result }
     {
         LineText {
             cells: [0; ROOM],
@@ -37,9 +37,10 @@ impl LineText {
     /// Returns how many bytes at the beginning of the piece are the line and its end, or 0 if it does not occur there.
     #[inline(always)]
     pub fn again(&self, piece: &[u8]) -> usize
-        requires { (line : Option CertLine) × IsTextOf line self.now }
+        requires { (line : Option CertLine) × IsLineTextOf line self.now }
         ensures kept { 0 < result → HasText self.now }
-        ensures again { (line : Option CertLine) → IsTextOf line self.now → 0 < result → IsAgain line piece.now result }
+        ensures again { (line : Option CertLine) → IsLineTextOf line self.now → 0 < result →
+            IsAgain line piece.now result }
     {
         if 0 < self.len && begins(piece, &self.cells, self.len) {
             self.len
@@ -57,13 +58,13 @@ pub struct KnownLine {
 }
 
 impl Model for KnownLine {
-    ghost use Rattle.pc_cert.specs.inside.Known.{Known, IsTextOf};
+    ghost use Rattle.pc_cert.specs.inside.Known.{LastLine, IsLineTextOf};
 
-    ghost Value = { Known };
+    ghost Value = { LastLine };
 
     ghost view = { λ s. record { line = s.line } };
 
-    ghost invariant = { λ s. IsTextOf s.line s.text };
+    ghost invariant = { λ s. IsLineTextOf s.line s.text };
 }
 
 impl KnownLine {
@@ -96,7 +97,7 @@ impl KnownLine {
 
     /// Returns the bytes of the line and its end, if they are stored.
     pub fn text(&self) -> LineText
-        ensures { IsTextOf self.now.line result }
+        ensures { IsLineTextOf self.now.line result }
     {
         self.text
     }

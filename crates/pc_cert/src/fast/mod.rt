@@ -7,6 +7,5 @@ mod front;
 mod known;
 
 pub use front::WIDTH;
-pub use known::{KnownLine, LineText};
-
 pub(crate) use front::{begin_same, begins};
+pub use known::{KnownLine, LineText};

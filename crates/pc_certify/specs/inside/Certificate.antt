@@ -11,7 +11,7 @@ use Rattle.pc_certify.specs.inside.Walks.{ArePicked}
 
 -- the certificate is one of the network: its walks are the picked ones, its lines are those of the network's events and activities, and a
 -- solver of the network has enough cells
-pub record IsReadyFor (net : PricedNetwork) (certificate : Certificate) : Type 0 where
+pub record IsReadyToCertify (net : PricedNetwork) (certificate : Certificate) : Type 0 where
   pub walks : ArePicked net certificate.walks.normal certificate.walks.crash
   pub events : AreEventsSpelled net certificate.lines.events.items
   pub acts : AreActsSpelled net certificate.lines.acts.items

@@ -7,7 +7,7 @@ use Rattle.pc_cert.specs.declared.place.Shape.{Shape}
 use Rattle.pc_cert.specs.declared.place.Place.{Place}
 use Rattle.pc_cert.specs.declared.place.Place.TheVariants.{Start, AfterHead, NormalWalk, CrashWalk, InSegment, Between, Ended}
 use Rattle.pc_check.specs.declared.kept.Kept.{Kept}
-use Rattle.pc_check.specs.inside.Walks.{sum_of}
+use Rattle.pc_check.specs.inside.Walks.{sum_of_reached}
 use Rattle.pc_check.specs.Bounds.{longest_walk, lines_from, lines_of_all}
 
 -- the most lines that may still come
@@ -23,15 +23,15 @@ pub record IsShaped (n m : ℕ) (shape : Shape) : Type 0 where
 pub record IsInNormal (n steps : ℕ) (kept : Kept) : Type 0 where
   pub normal : kept.crash_walk_started ≡ false
   pub none : kept.segments ≡ 0
-  pub short : sum_of kept.normal + steps * MAX_DURATION ≤ longest_walk n
-  pub nothing : sum_of kept.crash ≡ 0
+  pub short : sum_of_reached kept.normal + steps * MAX_DURATION ≤ longest_walk n
+  pub nothing : sum_of_reached kept.crash ≡ 0
 
 -- no segment yet, the normal walk is complete, and this many steps may still be added to the crash walk
 pub record IsInCrash (n steps : ℕ) (kept : Kept) : Type 0 where
   pub normal : kept.crash_walk_started ≡ true
   pub none : kept.segments ≡ 0
-  pub whole : sum_of kept.normal ≤ longest_walk n
-  pub short : sum_of kept.crash + steps * MAX_DURATION ≤ longest_walk n
+  pub whole : sum_of_reached kept.normal ≤ longest_walk n
+  pub short : sum_of_reached kept.crash + steps * MAX_DURATION ≤ longest_walk n
 
 -- a segment has begun, and this many of its events and activities are still to come
 pub record IsInPart (n m events activities : ℕ) (kept : Kept) : Type 0 where

@@ -9,9 +9,9 @@ use Rattle.pc_check.specs.Failures.{failure_of}
 use Rattle.pc_check.specs.Certified.{AreCertified, segments_of}
 
 -- what a checker found: that the lines are certified, and how many segments they have, or their first failure
-abbrev pub Finds : PricedNetwork → List CertLine → Verdict → Type 0
-Finds net lines (Yes segments) = AreCertified net lines × (segments ≡ length (segments_of net lines))
-Finds net lines (No line reason) = failure_of net lines ≡ Some (record { line = line; reason = reason })
+abbrev pub FindsInLines : PricedNetwork → List CertLine → Verdict → Type 0
+FindsInLines net lines (Yes segments) = AreCertified net lines × (segments ≡ length (segments_of net lines))
+FindsInLines net lines (No line reason) = failure_of net lines ≡ Some (record { line = line; reason = reason })
 
 -- a fact at a yes
 abbrev pub OnYes : Verdict → Type 0 → Type 0

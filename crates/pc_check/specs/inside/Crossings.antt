@@ -17,5 +17,5 @@ pub record IsCrossing (arcs : List Arc) (seg : Segment) (a : ℕ) (crossing : Cr
   pub small_lower : crossing.lower.tail < 2 ^ 65
 
 -- activity a does not cross the cut: its two events move alike
-abbrev pub IsStill : List Arc → (ℕ → Bool) → ℕ → Type 0
-IsStill arcs moves a = moves (from_of arcs a) ≡ moves (to_of arcs a)
+abbrev pub EndsMoveAlike : List Arc → (ℕ → Bool) → ℕ → Type 0
+EndsMoveAlike arcs moves a = moves (from_of arcs a) ≡ moves (to_of arcs a)

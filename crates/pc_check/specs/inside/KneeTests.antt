@@ -27,8 +27,8 @@ abbrev pub flow_sum : List ℕ → ℕ
 flow_sum flows = sum_to (length flows) (slice_index flows)
 
 -- the rises of the knees above the gap
-abbrev pub rises_over : ℕ → ℕ → List Knee → ℕ
-rises_over head tail knees = sum_to (length knees) (λ k. if nat_lt head (tail + (knee_at knees k).at) then (knee_at knees k).rise else 0)
+abbrev pub knee_rises_over : ℕ → ℕ → List Knee → ℕ
+knee_rises_over head tail knees = sum_to (length knees) (λ k. if nat_lt head (tail + (knee_at knees k).at) then (knee_at knees k).rise else 0)
 
 -- the gap is at the knee at the lower end, and above it or below it at the upper end
 abbrev pub stops_at_knee_over : Crossing → ℕ → Bool

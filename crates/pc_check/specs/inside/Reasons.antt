@@ -5,23 +5,23 @@ use Rattle.pc_check.specs.declared.condition.Condition.{Condition}
 use Rattle.pc_check.specs.declared.condition.Condition.TheVariants as condition
 
 -- the number that reports a condition
-abbrev pub number_of : Condition → ℕ
-number_of condition.Head = 1
-number_of condition.NormalWalk = 2
-number_of condition.CrashWalk = 3
-number_of condition.Codes = 4
-number_of condition.Ends = 5
-number_of condition.Gaps = 6
-number_of condition.Duration = 7
-number_of condition.Capacity = 8
-number_of condition.Conservation = 9
-number_of condition.Outflow = 10
-number_of condition.Slackness = 11
-number_of condition.Cost = 12
-number_of condition.CutGain = 13
-number_of condition.Stop = 14
-number_of condition.Cover = 15
+abbrev pub number_of_condition : Condition → ℕ
+number_of_condition condition.Head = 1
+number_of_condition condition.NormalWalk = 2
+number_of_condition condition.CrashWalk = 3
+number_of_condition condition.Codes = 4
+number_of_condition condition.Ends = 5
+number_of_condition condition.Gaps = 6
+number_of_condition condition.Duration = 7
+number_of_condition condition.Capacity = 8
+number_of_condition condition.Conservation = 9
+number_of_condition condition.Outflow = 10
+number_of_condition condition.Slackness = 11
+number_of_condition condition.Cost = 12
+number_of_condition condition.CutGain = 13
+number_of_condition condition.Stop = 14
+number_of_condition condition.Cover = 15
 
 -- the number of the condition that was found, if one was
 abbrev pub reason_of : Option Condition → Option ℕ
-reason_of found = option_map number_of found
+reason_of found = option_map number_of_condition found

@@ -10,13 +10,13 @@ use Rattle.pc_check.specs.declared.kept.Tally.{Tally}
 use Rattle.pc_check.specs.declared.fast.passed.Passed.{Passed}
 use Rattle.pc_check.specs.inside.Kept.{stretch_of}
 use Rattle.pc_check.specs.inside.KneeTests.{flow_sum}
-use Rattle.pc_check.specs.inside.fast.Passed.{ArePassed, passed_at, flow_of, cost_of}
+use Rattle.pc_check.specs.inside.fast.Passed.{ArePassed, passed_at, passed_flow, passed_cost}
 use Rattle.pc_check.specs.Segments.{stops_in}
 
 -- sums by event of what flows along all activities, each as its line said that passed last: into the events where `event_of` is an
 -- activity's ending event, and out of them if it is the beginning one
 abbrev pub AreSums : PricedNetwork → List Passed → (ℕ → ℕ) → List ℕ → Type 0
-AreSums net rows event_of sums = (e : ℕ) → e < net.network.events → slice_index sums e ≡ at_event (length net.network.arcs) event_of (flow_of rows) e
+AreSums net rows event_of sums = (e : ℕ) → e < net.network.events → slice_index sums e ≡ at_event (length net.network.arcs) event_of (passed_flow rows) e
 
 -- there is capacity for all events, the count of activities is at most the network's, the row stored for each has
 -- passed, the sums of flows and of the cost are those over all rows, and those of the cut are no larger than this many
@@ -30,7 +30,7 @@ pub record IsSafe (net : PricedNetwork) (tally : Tally) : Type 0 where
   pub rows : ArePassed net tally.rows.items
   pub inflow : AreSums net tally.rows.items (to_of net.network.arcs) tally.inflow.items
   pub outflow : AreSums net tally.rows.items (from_of net.network.arcs) tally.outflow.items
-  pub spent : tally.spent ≡ sum_to (length net.network.arcs) (cost_of tally.rows.items)
+  pub spent : tally.spent ≡ sum_to (length net.network.arcs) (passed_cost tally.rows.items)
   pub forward : tally.cut.forward ≤ tally.acts * 2 ^ 67
   pub backward : tally.cut.backward ≤ tally.acts * 2 ^ 67
 
@@ -57,8 +57,8 @@ pub record IsExchanged (old new : List ℕ) (event before now : ℕ) : Type 0 wh
 
 -- this flow and this cost are stored for activity a, and those of each other activity are as before
 pub record IsRenewed (old new : List Passed) (a flows costs : ℕ) : Type 0 where
-  pub flow : flow_of new a ≡ flows
-  pub cost : cost_of new a ≡ costs
+  pub flow : passed_flow new a ≡ flows
+  pub cost : passed_cost new a ≡ costs
   pub others : (b : ℕ) → (b ≡ a → ⊥) → passed_at new b ≡ passed_at old b
 
 -- one more activity was added, with its duration and its flows
@@ -80,5 +80,5 @@ pub record IsCutOf (net : PricedNetwork) (seg : Segment) (a : ℕ) (cut : Cut) :
   pub small_backward : cut.backward < 2 ^ 67
 
 -- the sums and the stop of the cut with what an activity adds
-abbrev pub joined : Cut → Cut → Cut
-joined cut more = record { forward = cut.forward + more.forward; backward = cut.backward + more.backward; stops = cut.stops || more.stops }
+abbrev pub joined_cuts : Cut → Cut → Cut
+joined_cuts cut more = record { forward = cut.forward + more.forward; backward = cut.backward + more.backward; stops = cut.stops || more.stops }

@@ -1,6 +1,6 @@
 //! Taking the rows of events, several after one another: each is read by its beginning.
 ghost use Rattle.std.specs.Prelude.{◌≡◌, ◌≢◌, ◌<◌, length};
-ghost use Rattle.pc_check.specs.inside.fast.Rows.{AddsLine, AreEnds};
+ghost use Rattle.pc_check.specs.inside.fast.Rows.{AddsLine, AreNetworkEnds};
 ghost use Rattle.pc_check.specs.inside.fast.Along.{HasAdvanced, MayAdvance};
 ghost use Rattle.pc_check.specs.inside.fast.Fronts.{AreFronts};
 ghost use Rattle.pc_check.specs.inside.Safe.{IsSafe};
@@ -19,7 +19,7 @@ pub(crate) struct EndEvents {
 
 /// What is asked of the network at each event.
 pub(crate) fn ends_of(net: &CrashNet<'_>) -> EndEvents
-    ensures { AreEnds net.now result }
+    ensures { AreNetworkEnds net.now result }
 {
     EndEvents {
         start: net.net().start() as usize,
@@ -79,7 +79,7 @@ fn add_row(
     piece: &[u8],
     ends: EndEvents,
 ) -> usize
-    requires ends { AreEnds net.now ends }
+    requires ends { AreNetworkEnds net.now ends }
     requires safe { IsSafe net.now kept.old.tally }
     requires fronts { AreFronts net.now fronts.now }
     requires moves { length kept.old.tally.moves.items ≡ length kept.old.tally.times.items }

@@ -11,7 +11,7 @@ ghost use Rattle.pc_check.specs.inside.fast.Passed.{
   ArePassed,
   IsNothing,
   FitsWithin,
-  IsWithin,
+  IsGapWithin,
   ComesAgain,
 };
 
@@ -190,14 +190,14 @@ pub(crate) fn passes_again(net: &CrashNet<'_>, kept: &Kept, a: u32, passed: &Pas
 /// Whether the gap is from the least to the greatest.
 pub(crate) fn has_gap(gap: Gap, low: u64, high: u64) -> bool
     requires { gap.tail < 2 ^ 65 }
-    ensures { IsTrue result → IsWithin low high gap.head gap.tail }
+    ensures { IsTrue result → IsGapWithin low high gap.head gap.tail }
 {
     gap.tail + u128::from(low) <= gap.head && gap.head <= gap.tail + u128::from(high)
 }
 
 /// Whether the gap between two times is from the least to the greatest.
 fn is_within(head: u64, tail: u64, passed: &Passed) -> bool
-    ensures { IsTrue result → IsWithin passed.now.low passed.now.high head tail }
+    ensures { IsTrue result → IsGapWithin passed.now.low passed.now.high head tail }
 {
     tail <= head && passed.low <= head - tail && head - tail <= passed.high
 }

@@ -23,7 +23,7 @@ priced_network net = record {
 
 -- what holds of every priced network: it is sound, its terms and pieces fit it and keep their limits, and all its events
 -- and activities have names of their own
-pub record IsWhole (net : PricedNetwork) : Type 0 where
+pub record IsWholeNetwork (net : PricedNetwork) : Type 0 where
   pub in_range : IsInRange net.network
   pub sound : IsSound net.network
   pub terms : AreTerms net.network net.terms
@@ -35,6 +35,6 @@ pub record IsWhole (net : PricedNetwork) : Type 0 where
 
 -- the fields are those of a complete priced network, laid out, with the activities at each event linked
 pub record IsWholeInside (net : Inside) : Type 0 where
-  pub whole : IsWhole (priced_network net)
+  pub whole : IsWholeNetwork (priced_network net)
   pub laid : AreLaid net.net.now.arcs (priced_network net).terms net.pieces.items (length net.layout.rows.items) net.layout.rows.items net.layout.knees.items
   pub linked : AreLinked net.net.now.arcs net.net.now.events net.links.rows.items net.links.links.items

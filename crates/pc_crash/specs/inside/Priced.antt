@@ -19,7 +19,7 @@ pub record AreDurations (terms : List Term) (durations : List ℕ) : Type 0 wher
   pub within : (a : ℕ) → a < length terms → slice_index durations a ≤ normal_of terms a
 
 -- activity a may last so long, and it has that time between its events
-pub record Fits (net : PricedNetwork) (a duration : ℕ) (times : ℕ → ℕ) : Type 0 where
+pub record FitsActivity (net : PricedNetwork) (a duration : ℕ) (times : ℕ → ℕ) : Type 0 where
   pub enough : crash_of net.terms a ≤ duration
   pub within : duration ≤ normal_of net.terms a
   pub between : times (from_of net.network.arcs a) + duration ≤ times (to_of net.network.arcs a)

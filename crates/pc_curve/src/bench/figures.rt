@@ -6,7 +6,13 @@ ghost use Rattle.pc_flow.specs.Courses.{IsFurther, IsSameCurve, most_looks};
 ghost use Rattle.pc_flow.specs.inside.Courses.{IsNext, present};
 ghost use Rattle.pc_flow.specs.declared.early.TheConstants.{MAX_LENGTH};
 ghost use Rattle.pc_curve.specs.bench.Figures.{IsFiguresOf};
-ghost use Rattle.pc_curve.specs.inside.bench.Tallies.{HasRoomFor, IsSmall, costs_below, first_tally, next_tally};
+ghost use Rattle.pc_curve.specs.inside.bench.Tallies.{
+  CanTakeSegment,
+  IsSmallSegment,
+  costs_below,
+  first_tally,
+  next_tally,
+};
 
 use pc_crash::{SegmentView, Steps};
 use pc_flow::{MAX_LENGTH, Solver};
@@ -94,7 +100,7 @@ fn lower_ends(shortest: u64, longest: u64) -> u64
 /// The figures of the first segment.
 fn first_tally(solver: &Solver<'_>) -> CurveTally
     requires given { solver.now.given ≡ true }
-    requires small { IsSmall (present solver.now) }
+    requires small { IsSmallSegment (present solver.now) }
     ensures { result ≡ first_tally (present solver.now) }
 {
     CurveTally {
@@ -107,8 +113,8 @@ fn first_tally(solver: &Solver<'_>) -> CurveTally
 /// The figures with one segment more.
 fn next_tally(tally: CurveTally, solver: &Solver<'_>) -> CurveTally
     requires given { solver.now.given ≡ true }
-    requires small { IsSmall (present solver.now) }
-    requires room { HasRoomFor tally (present solver.now) }
+    requires small { IsSmallSegment (present solver.now) }
+    requires room { CanTakeSegment tally (present solver.now) }
     ensures { result ≡ next_tally tally (present solver.now) }
 {
     let slope = solver.slope();
@@ -129,7 +135,7 @@ fn turns(before: u64, after: u64) -> u64
 /// The sum of the costs of all lengths of the present segment below its upper end.
 fn costs_below(solver: &Solver<'_>) -> u128
     requires given { solver.now.given ≡ true }
-    requires small { IsSmall (present solver.now) }
+    requires small { IsSmallSegment (present solver.now) }
     ensures { result ≡ costs_below (present solver.now) }
 {
     rising_sum(
@@ -153,7 +159,7 @@ fn rising_sum(cost: u64, slope: u64, count: u64) -> u128
 /// The cost at the lower end of the present segment.
 fn cost_at_lower(solver: &Solver<'_>) -> u128
     requires given { solver.now.given ≡ true }
-    requires small { IsSmall (present solver.now) }
+    requires small { IsSmallSegment (present solver.now) }
     ensures { result ≡ cost_for (present solver.now) (present solver.now).lower }
 {
     let fall = solver.upper() - solver.lower();

@@ -14,8 +14,8 @@ use Rattle.pc_deck.specs.inside.Kinds.{is_project}
 use Rattle.pc_deck.specs.Judged.{Seen}
 
 -- the place of a card of a kind that comes after those that were seen
-abbrev pub place_of : Seen → Kind → ℕ → CardPlace
-place_of seen kind row = record { sort = seen.sort; kind = kind; row = row; limit = limit_of seen.sort seen.version kind; has_ended = seen.has_ended }
+abbrev pub card_place_of : Seen → Kind → ℕ → CardPlace
+card_place_of seen kind row = record { sort = seen.sort; kind = kind; row = row; limit = limit_of seen.sort seen.version kind; has_ended = seen.has_ended }
 
 -- F3: the first card, and not PROJECT
 abbrev pub not_project : Seen → Kind → ℕ → Option Fault
@@ -33,7 +33,7 @@ fault_at place count codes fields =
 -- the fault of a card of a known kind
 abbrev pub fault_of_kind : Seen → Kind → ℕ → List (List ℕ) → Option Fault
 fault_of_kind seen kind row fields =
-    option_or (not_project seen kind row) (fault_at (place_of seen kind row) (seen.count kind) (seen.codes kind) fields)
+    option_or (not_project seen kind row) (fault_at (card_place_of seen kind row) (seen.count kind) (seen.codes kind) fields)
 
 -- the kind, where no fault was found
 abbrev pub unless : Kind → Option Fault → Result Kind Fault

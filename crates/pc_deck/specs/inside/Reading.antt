@@ -36,8 +36,8 @@ list_so_far draft End = if draft.has_ended then tt ∷ [] else []
 list_so_far draft other = cards_in draft.lists other
 
 -- the codes that cards of a kind have of their own
-abbrev pub codes_among : (kind : Kind) → List (CardOf kind) → List (List ℕ)
-codes_among kind cards = if has_code_of_its_own kind then map (entry_of kind).code cards else []
+abbrev pub own_codes_among : (kind : Kind) → List (CardOf kind) → List (List ℕ)
+own_codes_among kind cards = if has_code_of_its_own kind then map (entry_of kind).code cards else []
 
 -- how many cards of a kind there are; by cases, so that what is known of the kind can be put in its place
 abbrev pub count_in : Draft → Kind → ℕ
@@ -46,28 +46,28 @@ count_in draft other = length (list_so_far draft other)
 
 -- the codes that the cards of a kind have of their own, by cases too
 abbrev pub codes_in : Draft → Kind → List (List ℕ)
-codes_in draft Project = codes_among Project (list_so_far draft Project)
-codes_in draft other = codes_among other (list_so_far draft other)
+codes_in draft Project = own_codes_among Project (list_so_far draft Project)
+codes_in draft other = own_codes_among other (list_so_far draft other)
 
 -- the version of a deck, as its PROJECT card says; 1 where there is none
-abbrev pub version_of : Option ProjectCard → ℕ
-version_of None = 1
-version_of (Some project) = project.version
+abbrev pub project_version : Option ProjectCard → ℕ
+project_version None = 1
+project_version (Some project) = project.version
 
 -- what counts of the cards so far
 abbrev pub seen_in : Draft → Seen
 seen_in draft = record {
   sort = draft.sort;
   is_first = is_none draft.project;
-  version = version_of draft.project;
+  version = project_version draft.project;
   count = count_in draft;
   codes = codes_in draft;
   has_ended = draft.has_ended;
 }
 
 -- the record is a card of some kind without a fault, and was added to the cards so far
-abbrev pub IsKept : Draft → ℕ → List (List ℕ) → Draft → Type 0
-IsKept old row fields new = (kind : Kind) × ((judge (seen_in old) row fields ≡ Ok kind) × (new ≡ with_card old kind row fields))
+abbrev pub KeepsCard : Draft → ℕ → List (List ℕ) → Draft → Type 0
+KeepsCard old row fields new = (kind : Kind) × ((judge (seen_in old) row fields ≡ Ok kind) × (new ≡ with_card old kind row fields))
 
 -- the cards so far with their PROJECT card, as a deck
 abbrev pub deck_with : Draft → ProjectCard → Deck

@@ -13,7 +13,7 @@ intake_of a = record {
   faults = a.calls.faults;
 }
 
-pub record HasRoom (a : Inside) : Type 0 where
+pub record HasCapacity (a : Inside) : Type 0 where
   pub within : vec_len a.taken ≤ a.room
   pub reserved : a.room ≤ vec_capacity a.taken
   pub piece : 1 ≤ a.piece

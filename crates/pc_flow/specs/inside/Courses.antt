@@ -11,8 +11,8 @@ use Rattle.pc_laws.specs.Steps.{filled_state}
 use Rattle.pc_crash.specs.Priced.{PricedNetwork, knees_in, ArePiecesWithinLimits}
 use Rattle.pc_crash.specs.Terms.{AreWithinLimits}
 use Rattle.pc_flow.specs.board.Sheets.{Sheet, time_of, rank_of, flow_of}
-use Rattle.pc_flow.specs.inside.search.Growing.{AreListed}
-use Rattle.pc_flow.specs.inside.search.Labelling.{slope_at, IsBetween, MayFall}
+use Rattle.pc_flow.specs.inside.search.Growing.{AreDueLater}
+use Rattle.pc_flow.specs.inside.search.Labelling.{slope_at, IsBetweenLabellings, MayFall}
 use Rattle.pc_flow.specs.declared.early.TheConstants.{MAX_LENGTH}
 use Rattle.pc_flow.specs.Courses.{Course, upper_of, lower_of, IsLevel}
 
@@ -46,8 +46,8 @@ pub record IsOnCourse (c : Course) : Type 0 where
   pub pieces : ArePieces c.net.terms c.net.pieces
   pub piece_limits : ArePiecesWithinLimits c.net.pieces
   pub ordered : (order : List ℕ) × IsOrder c.net.network order
-  pub between : IsBetween c.net c.board
-  pub listed : AreListed c.net c.board
+  pub between : IsBetweenLabellings c.net c.board
+  pub listed : AreDueLater c.net c.board
   pub longest : IsAllNormalLength c.net.network c.net.terms c.longest
   pub shortest : IsAllCrashLength c.net.network c.net.terms c.shortest
   pub small : c.longest ≤ MAX_LENGTH
@@ -67,7 +67,7 @@ pub record HasEnded (c : Course) : Type 0 where
   pub lowest : lower_of c ≡ c.shortest
 
 -- all numbers of a segment are below 10 ^ 18
-pub record HasSmallNumbers (net : PricedNetwork) (seg : Segment) : Type 0 where
+pub record HasBoundedNumbers (net : PricedNetwork) (seg : Segment) : Type 0 where
   pub upper : seg.upper < 10 ^ 18
   pub lower : seg.lower < 10 ^ 18
   pub cost : seg.cost < 10 ^ 18
@@ -87,4 +87,4 @@ pub record IsNext (c d : Course) : Type 0 where
   pub steeper : c.slope ≤ d.slope
   pub long : c.shortest < upper_of d → lower_of d < upper_of d
   pub within : c.shortest ≤ lower_of d
-  pub small : HasSmallNumbers d.net (present d)
+  pub small : HasBoundedNumbers d.net (present d)

@@ -6,7 +6,7 @@ use Rattle.pc_model.specs.Schedule.{normals}
 use Rattle.pc_crash.specs.Priced.{PricedNetwork}
 use Rattle.pc_flow.specs.board.Sheets.{Sheet, kept_time, rank_of}
 use Rattle.pc_flow.specs.inside.board.Sheets.{queue_of, clear_sheet}
-use Rattle.pc_flow.specs.inside.search.Searches.{AreLengths}
+use Rattle.pc_flow.specs.inside.search.Searches.{HaveLengths}
 use Rattle.pc_flow.specs.declared.early.TheConstants.{MAX_LENGTH}
 
 -- only the start has a label, and each event has its time for normal durations; nothing flows and none waits, and
@@ -24,5 +24,5 @@ pub record IsOpened (net : PricedNetwork) (home : Cells) (s : Sheet) : Type 0 wh
   pub first : rank_of s net.network.start ≡ 1
   pub others : (e : ℕ) → e ≢ net.network.start → rank_of s e ≡ 0
   pub early : (e : ℕ) → e < net.network.events → IsEarly net.network (normals net.terms) e (kept_time s e)
-  pub lengths : AreLengths net s
+  pub lengths : HaveLengths net s
   pub small : (e : ℕ) → e < net.network.events → kept_time s e ≤ MAX_LENGTH

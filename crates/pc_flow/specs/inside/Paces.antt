@@ -23,6 +23,6 @@ pub record HasSmallTimes (net : Network) (lengths : List ℕ) : Type 0 where
   pub fits : (e n : ℕ) → e < net.events → IsEarly net lengths e n → n ≤ MAX_LENGTH
 
 -- the times of the events where the activities that enter event e begin are the greatest sums to them
-pub record AreEarlyBefore (net : Network) (lengths : List ℕ) (times : ℕ → ℕ) (e : ℕ) : Type 0 where
+pub record HasEarlyPredecessors (net : Network) (lengths : List ℕ) (times : ℕ → ℕ) (e : ℕ) : Type 0 where
   pub known : e < net.events
   pub each : (a : ℕ) → a < length net.arcs → to_of net.arcs a ≡ e → IsEarly net lengths (from_of net.arcs a) (times (from_of net.arcs a))

@@ -1,7 +1,14 @@
 //! Augments the flow along the steps that led to the end, and removes the labels whose steps have no residual capacity
 //! left.
 ghost use Rattle.std.specs.Prelude.{◌≡◌, ◌<◌, ℕ, ◌+◌, ◌≤◌, ◌↔◌, IsTrue};
-ghost use Rattle.pc_flow.specs.inside.board.Labelling.{HasStep, IsRanked, IsRankedBack, HaveSteps, HaveRoom, AreTimes};
+ghost use Rattle.pc_flow.specs.inside.board.Labelling.{
+  HasStep,
+  IsRanked,
+  IsRankedBack,
+  HaveSteps,
+  HaveRoom,
+  AreStoredTimes,
+};
 ghost use Rattle.pc_flow.specs.inside.board.Raising.{IsLeast, IsRaised, StandFirst};
 ghost use Rattle.pc_flow.specs.board.Sheets.{rank_of};
 ghost use Rattle.pc_flow.specs.inside.board.Sheets.{room_of, near_of};
@@ -73,7 +80,7 @@ impl Board {
     pub fn prune(&mut self, standing: u32) -> u32
         requires ranked { IsRanked self.old }
         requires back { IsRankedBack self.old }
-        requires times { AreTimes self.old }
+        requires times { AreStoredTimes self.old }
         requires stand { StandFirst self.old standing }
         ensures { IsPruned self.old self.new result }
     {

@@ -9,7 +9,7 @@ ghost use Rattle.pc_flow.specs.inside.search.Searches.{IsSearch};
 ghost use Rattle.pc_flow.specs.inside.search.Growing.{
   IsAt,
   degree,
-  AreListed,
+  AreDueLater,
   AreSettled,
   GoesOn,
   HasSettled,
@@ -70,7 +70,7 @@ impl Board {
     pub fn settle<L: Ledger>(&mut self, net: &CrashNet<'_>, steps: &mut Steps<L>)
         requires search { IsSearch net.now self.old }
         requires room { HaveRoom self.old }
-        requires listed { AreListed net.now self.old }
+        requires listed { AreDueLater net.now self.old }
         ensures counted { steps.new ≤ steps.old + self.old.len }
         ensures settled { HasSettled net.now self.old self.new }
     {

@@ -1,10 +1,10 @@
 //! A complete labelling: the flow augmented until the labels cannot grow, and how far the events without one may fall.
 ghost use Rattle.std.specs.Prelude.{◌≡◌, ◌+◌, ◌*◌, ◌<◌, ◌≤◌, length};
 ghost use Rattle.pc_flow.specs.board.Sheets.{rank_of};
-ghost use Rattle.pc_flow.specs.inside.search.Growing.{AreListed, AreSettled};
+ghost use Rattle.pc_flow.specs.inside.search.Growing.{AreDueLater, AreSettled};
 ghost use Rattle.pc_flow.specs.search.Labelling.{slopes_in};
 ghost use Rattle.pc_flow.specs.inside.search.Labelling.{
-  IsBetween,
+  IsBetweenLabellings,
   IsAboveAllCrash,
   IsUnderWay,
   Rises,
@@ -35,9 +35,9 @@ impl Board {
     ///
     /// Fulkerson 1961.
     pub fn label<L: Ledger>(&mut self, net: &CrashNet<'_>, steps: &mut Steps<L>) -> Labelling
-        requires between { IsBetween net.now self.old }
+        requires between { IsBetweenLabellings net.now self.old }
         requires above { IsAboveAllCrash net.now self.old }
-        requires listed { AreListed net.now self.old }
+        requires listed { AreDueLater net.now self.old }
         ensures counted { steps.new ≤ steps.old + 4 * length net.now.network.arcs * (1 + result.rise) }
         ensures labelled { HasLabelled net.now self.old self.new result.rise result.fall }
     {

@@ -7,7 +7,7 @@ ghost use Rattle.pc_flow.specs.inside.search.Searches.{IsOnStairs, IsSearch};
 ghost use Rattle.pc_flow.specs.inside.search.Lengths.{AreLevelBack, IsRenewedBack};
 ghost use Rattle.pc_flow.specs.inside.search.Rooms.{IsRoom, IsMeasured};
 ghost use Rattle.pc_flow.specs.inside.search.Growing.{AreSettled};
-ghost use Rattle.pc_flow.specs.inside.search.Labelling.{IsBetween, IsAboveAllCrash, HasRaised};
+ghost use Rattle.pc_flow.specs.inside.search.Labelling.{IsBetweenLabellings, IsAboveAllCrash, HasRaised};
 
 use crate::board::{Augmentation, Board};
 use crate::lengths::renew_step;
@@ -18,7 +18,7 @@ impl Board {
     /// Augments the flow along the steps that led to the end, as far as they have residual capacity. It measures their
     /// residual capacities first, and then renews the stored lengths of their activities. No look.
     pub fn augment(&mut self, net: &CrashNet<'_>) -> Augmentation
-        requires between { IsBetween net.now self.old }
+        requires between { IsBetweenLabellings net.now self.old }
         requires above { IsAboveAllCrash net.now self.old }
         requires settled { AreSettled net.now self.old }
         requires reached { 0 < rank_of self.old net.now.network.end }

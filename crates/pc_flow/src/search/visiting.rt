@@ -5,7 +5,7 @@ ghost use Rattle.pc_model.specs.Network.{IsInRange};
 ghost use Rattle.pc_flow.specs.board.Sheets.{rank_of};
 ghost use Rattle.pc_flow.specs.inside.board.Labelling.{HaveRoom, IsFor};
 ghost use Rattle.pc_flow.specs.inside.search.Ways.{near_in, far_in, CanFlow};
-ghost use Rattle.pc_flow.specs.inside.search.Searches.{IsSearch, IsPricedBoard, IsWay, StopsAfter, IsVisited};
+ghost use Rattle.pc_flow.specs.inside.search.Searches.{IsSearch, IsPricedBoard, IsWay, StopsAfterFall, IsVisited};
 
 use crate::board::Board;
 use crate::search::way::Way;
@@ -42,7 +42,7 @@ impl Board {
         requires far { far_in net.now way a ≡ far }
         requires board { IsPricedBoard net.now self.now }
         requires way { IsWay net.now self.now a (Some way) }
-        ensures { StopsAfter net.now self.now a way result }
+        ensures { StopsAfterFall net.now self.now a way result }
     {
         match way {
             Way::Along => self.falling_time(far) - self.resting_time(near) - self.up(a),

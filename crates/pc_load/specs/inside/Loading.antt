@@ -19,7 +19,7 @@ HasNoLoad project days OutOfMemory = ⊤
 -- ---- the two tables
 
 -- the tables have the project's items and resources, and equal periods; and nothing is more than it may be
-pub record IsReadyFor (project : Project) (loading : Loading) : Type 0 where
+pub record IsReadyToLoad (project : Project) (loading : Loading) : Type 0 where
   pub days : loading.days ≤ MAX_DAYS
   pub order : (i : ℕ) → i < length loading.order → slice_index loading.order i < length project.tree
   pub items : loading.items.rows ≡ length project.tree

@@ -13,21 +13,21 @@ use Rattle.pc_load.specs.Table.{Table, amount_in, total_of}
 -- ---- entries
 
 -- the e-th entry; past the end of the list one without an amount
-abbrev pub entry_at : List LoadRow → ℕ → LoadRow
-entry_at entries e = slice_index_or entries e (record { row = 0; spread = record { begin = 0; length = 0; amount = 0 } })
+abbrev pub load_entry_at : List LoadRow → ℕ → LoadRow
+load_entry_at entries e = slice_index_or entries e (record { row = 0; spread = record { begin = 0; length = 0; amount = 0 } })
 
 -- the row that the e-th entry counts on
-abbrev pub row_of : List LoadRow → ℕ → ℕ
-row_of entries e = (entry_at entries e).row
+abbrev pub row_of_entry : List LoadRow → ℕ → ℕ
+row_of_entry entries e = (load_entry_at entries e).row
 
 -- its spread
 abbrev pub spread_of : List LoadRow → ℕ → Spread
-spread_of entries e = (entry_at entries e).spread
+spread_of entries e = (load_entry_at entries e).spread
 
 -- no more entries than a project may have loads, each on one of `rows` rows, with a spread of a project
 pub record AreEntries (rows : ℕ) (entries : List LoadRow) : Type 0 where
   pub few : length entries ≤ MAX_LOADS
-  pub known : (e : ℕ) → e < length entries → row_of entries e < rows
+  pub known : (e : ℕ) → e < length entries → row_of_entry entries e < rows
   pub spreads : (e : ℕ) → e < length entries → IsSpread (spread_of entries e)
 
 -- ---- tables
@@ -54,7 +54,7 @@ part_in entries width k e = part (spread_of entries e) (width * k) (width * (k +
 pub record IsTableOf (rows : ℕ) (entries : List LoadRow) (width periods : ℕ) (table : Table) : Type 0 where
   pub row_count : table.rows ≡ rows
   pub period_count : table.periods ≡ periods
-  pub each : (row k : ℕ) → row < rows → k < periods → IsSumOver (λ e. row_of entries e ≡ row) (length entries) (λ e. pos (part_in entries width k e)) (amount_in table row k)
+  pub each : (row k : ℕ) → row < rows → k < periods → IsSumOver (λ e. row_of_entry entries e ≡ row) (length entries) (λ e. pos (part_in entries width k e)) (amount_in table row k)
 
 -- the spread is over by the time: it has begun before, and ends no later
 abbrev pub IsOver : Spread → ℕ → Type 0
@@ -65,4 +65,4 @@ IsOver s time = (s.begin < time) × (s.begin + s.length ≤ time)
 abbrev pub RowsAddUp : ℕ → List LoadRow → ℕ → ℕ → Table → Type 0
 RowsAddUp rows entries width periods table =
     ((e : ℕ) → e < length entries → IsOver (spread_of entries e) (width * periods))
-    → (row : ℕ) → row < rows → IsSumOver (λ e. row_of entries e ≡ row) (length entries) (λ e. pos (spread_of entries e).amount) (total_of table row)
+    → (row : ℕ) → row < rows → IsSumOver (λ e. row_of_entry entries e ≡ row) (length entries) (λ e. pos (spread_of entries e).amount) (total_of table row)

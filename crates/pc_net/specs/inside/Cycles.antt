@@ -15,7 +15,7 @@ pub record IsRound (arcs : List Arc) (a : ℕ) (walk : List ℕ) : Type 0 where
 -- a search back from where activity a begins: `steps` leave the events found, each but the first towards one found
 -- before it, `ranks` has each event's place among them, counted from 1, or 0 if it was not found; all that lead to the
 -- first events found are found themselves
-pub record IsSearch (net : Network) (a : ℕ) (steps ranks : List ℕ) (at : ℕ) : Type 0 where
+pub record IsSearchBack (net : Network) (a : ℕ) (steps ranks : List ℕ) (at : ℕ) : Type 0 where
   pub ranks_len : length ranks ≡ net.events
   pub some : 0 < length steps
   pub begins : slice_index steps 0 ≡ a

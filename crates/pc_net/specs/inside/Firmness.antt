@@ -5,8 +5,8 @@ use Rattle.pc_model.specs.Greatest.{IsFirst}
 use Rattle.pc_model.specs.Network.{Network, IsLeft}
 
 -- the first number with P, or none if no number has it
-abbrev pub IsFirstIn : (ℕ → Type 0) → Option ℕ → Type 0
-IsFirstIn P found = MatchOption found ((a : ℕ) → P a → ⊥) (IsFirst P)
+abbrev pub IsFirstOrNone : (ℕ → Type 0) → Option ℕ → Type 0
+IsFirstOrNone P found = MatchOption found ((a : ℕ) → P a → ⊥) (IsFirst P)
 
 -- event e is not the end, and no activity leaves it
 abbrev pub IsUnleft : Network → ℕ → Type 0

@@ -9,13 +9,13 @@ use Rattle.pc_net.specs.inside.Listings.{IsListing}
 use Rattle.pc_net.specs.inside.Networks.{network}
 
 -- the network of the fields
-abbrev pub network_of : Inside → Network
-network_of g = network g.events g.start g.end g.arcs.items
+abbrev pub network_of_graph : Inside → Network
+network_of_graph g = network g.events g.start g.end g.arcs.items
 
 -- it is in range and within the limits, and each event has its activities in card order
 pub record IsIndexed (g : Inside) : Type 0 where
   pub few_events : g.events ≤ MAX_EVENTS
   pub few_activities : length g.arcs.items ≤ MAX_ACTIVITIES
-  pub in_range : IsInRange (network_of g)
+  pub in_range : IsInRange (network_of_graph g)
   pub outgoing : IsListing (events_of Begins g.arcs.items) g.events g.outgoing
   pub incoming : IsListing (events_of Ends g.arcs.items) g.events g.incoming

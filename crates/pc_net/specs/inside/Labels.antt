@@ -16,7 +16,7 @@ IsQueued reached at v = (k : ℕ) × (at ≤ k) × (k < length reached) × (slic
 
 -- the events reached so far have labels, those from place `at` on the label `label`, and the only smaller label is 0,
 -- which means none; the labels decrease along no activity, unless it begins at an event from place `at` on
-pub record IsSpread (net : Network) (label : ℕ) (reached labels : List ℕ) (at : ℕ) : Type 0 where
+pub record AreSpreadLabels (net : Network) (label : ℕ) (reached labels : List ℕ) (at : ℕ) : Type 0 where
   pub labels_len : length labels ≡ net.events
   pub some : 0 < label
   pub within : at ≤ length reached

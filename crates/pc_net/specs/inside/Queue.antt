@@ -29,10 +29,10 @@ IsQueue net order missing at =
     (at ≤ length order) × ((waits : List ℕ) × IsWaiting net order missing waits (λ a. StandsBelow order at (from_of net.arcs a)))
 
 -- event v is not in the order
-abbrev pub IsMissing : List ℕ → ℕ → Type 0
-IsMissing order v = (k : ℕ) → k < length order → slice_index order k ≢ v
+abbrev pub IsNotInOrder : List ℕ → ℕ → Type 0
+IsNotInOrder order v = (k : ℕ) → k < length order → slice_index order k ≢ v
 
 -- each event that is not in the order is entered from another that is not
 abbrev pub IsBlocked : Network → List ℕ → Type 0
 IsBlocked net order =
-    (v : ℕ) → v < net.events → IsMissing order v → (a : ℕ) × (a < length net.arcs) × (to_of net.arcs a ≡ v) × IsMissing order (from_of net.arcs a)
+    (v : ℕ) → v < net.events → IsNotInOrder order v → (a : ℕ) × (a < length net.arcs) × (to_of net.arcs a ≡ v) × IsNotInOrder order (from_of net.arcs a)

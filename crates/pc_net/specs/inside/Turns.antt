@@ -8,10 +8,10 @@ abbrev pub AreEvents : ℕ → List ℕ → Type 0
 AreEvents events listed = All (λ event. event < events) listed
 
 -- the event that is entered or finished
-abbrev pub event_at : Turn → ℕ
-event_at (Enter event) = event
-event_at (Finish event) = event
+abbrev pub event_of_turn : Turn → ℕ
+event_of_turn (Enter event) = event
+event_of_turn (Finish event) = event
 
 -- each turn is one of an event
 abbrev pub AreTurns : ℕ → List Turn → Type 0
-AreTurns events stack = All (λ turn. event_at turn < events) stack
+AreTurns events stack = All (λ turn. event_of_turn turn < events) stack

@@ -23,7 +23,7 @@ HasFlawBehind terms runs piece row code fault =
     HasFlaw (term_at terms piece.activity) run.count run.slope run.units piece row code fault
 
 -- a piece is one of an activity, and what the pieces add up to with it is small
-pub record IsNext (terms : List Term) (runs : List Run) (piece : PieceRow) : Type 0 where
+pub record IsNextPiece (terms : List Term) (runs : List Run) (piece : PieceRow) : Type 0 where
   pub one_each : length runs ≡ length terms
   pub known : piece.activity < length terms
   pub count : (run_at runs piece.activity).count + 1 < 2 ^ 64

@@ -24,11 +24,11 @@ pub enum Status {
 }
 
 impl Status {
-    ghost use Rattle.pc_project.specs.inside.shell.Status.{code_of};
+    ghost use Rattle.pc_project.specs.inside.shell.Status.{exit_code_of};
 
     /// Returns the exit status of the program.
     pub fn code(self) -> u8
-        ensures { result ≡ code_of self }
+        ensures { result ≡ exit_code_of self }
     {
         self as u8
     }

@@ -13,8 +13,8 @@ abbrev pub ByteReader : Type 0
 ByteReader = Reader (Bor (List ℕ))
 
 -- the bytes that it has not read, if it has not failed
-abbrev pub bytes_left : ByteReader → Option (List ℕ)
-bytes_left reader = source_of (λ bytes. Some bytes.now) reader
+abbrev pub unread_bytes : ByteReader → Option (List ℕ)
+unread_bytes reader = source_of (λ bytes. Some bytes.now) reader
 
 -- the records of the bytes that are left, from the reader's state on
 abbrev pub records_after : State → Option (List ℕ) → List (List (List ℕ))
@@ -23,18 +23,18 @@ records_after state (Some bytes) = records_from default_config (length bytes + 1
 
 -- the records that are left: none once the last was given
 abbrev pub rows_left : Inside → List (List (List ℕ))
-rows_left rows = if rows.is_done then [] else records_after (reader_state rows.reader) (bytes_left rows.reader)
+rows_left rows = if rows.is_done then [] else records_after (reader_state rows.reader) (unread_bytes rows.reader)
 
 -- the reader gives one record after the other: it takes no header row, changes no field, refuses no number of fields,
 -- has not failed, and is between two records
-pub record IsGoing (reader : ByteReader) : Type 0 where
+pub record GivesRecords (reader : ByteReader) : Type 0 where
   pub untrimmed : reader_trim reader ≡ trim.None
   pub ready : Ready reader
   pub config : reader_config reader ≡ default_config
   pub flexible : is_flexible reader ≡ true
-  pub known : IsSome (bytes_left reader)
+  pub known : IsSome (unread_bytes reader)
   pub between : ends_at_end (reader_state reader) ≡ false
 
 -- the reader goes until its last record was given
-abbrev pub GoesOn : Inside → Type 0
-GoesOn rows = rows.is_done ≡ false → IsGoing rows.reader
+abbrev pub GoesUntilDone : Inside → Type 0
+GoesUntilDone rows = rows.is_done ≡ false → GivesRecords rows.reader

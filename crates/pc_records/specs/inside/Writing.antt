@@ -14,11 +14,11 @@ abbrev pub text_put : Inside → List ℕ
 text_put rows = if rows.has_failed then [] else (writer_under rows.writer).items ++ writer_pending rows.writer
 
 -- the writer is between two records of any length
-pub record IsBetween {W : Type 0} (writer : Writer W) : Type 0 where
+pub record IsBetweenRecords {W : Type 0} (writer : Writer W) : Type 0 where
   pub setup : writer_setup writer ≡ any_length
   pub fields : fields_written writer ≡ 0
   pub clean : has_written writer ≡ false
 
 -- the writer puts one record after the other until an error
 abbrev pub PutsOn : Inside → Type 0
-PutsOn rows = rows.has_failed ≡ false → IsBetween rows.writer
+PutsOn rows = rows.has_failed ≡ false → IsBetweenRecords rows.writer

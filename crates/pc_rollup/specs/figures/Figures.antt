@@ -16,8 +16,8 @@ amounts_of entry = record {
 }
 
 -- the same of the a-th account
-abbrev pub account_at : List Entry → ℕ → SummaryAmounts
-account_at entries a = amounts_of (entry_at entries a)
+abbrev pub account_summary_at : List Entry → ℕ → SummaryAmounts
+account_summary_at entries a = amounts_of (entry_at entries a)
 
 -- what the a-th account may spend
 abbrev pub budget_at : List Entry → ℕ → ℤ

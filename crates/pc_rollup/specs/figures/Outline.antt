@@ -6,11 +6,11 @@ use Rattle.pc_wbs.specs.Preorder.{IsPreorder}
 use Rattle.pc_rollup.specs.declared.figures.outline.OutlineRow.{OutlineRow}
 
 -- the k-th row; past the end of the list one of item 0
-abbrev pub row_at : List OutlineRow → ℕ → OutlineRow
-row_at outline k = slice_index_or outline k (record { item = 0; level = 0 })
+abbrev pub outline_row_at : List OutlineRow → ℕ → OutlineRow
+outline_row_at outline k = slice_index_or outline k (record { item = 0; level = 0 })
 
 -- the k-th row is the k-th item of this order, with its level
-pub record IsRowOf (tree : List ItemRow) (order : List ℕ) (k : ℕ) (line : OutlineRow) : Type 0 where
+pub record IsOutlineRow (tree : List ItemRow) (order : List ℕ) (k : ℕ) (line : OutlineRow) : Type 0 where
   pub item : line.item ≡ slice_index order k
   pub known : line.item < length tree
   pub level : HasLevel tree line.item line.level
@@ -18,7 +18,7 @@ pub record IsRowOf (tree : List ItemRow) (order : List ℕ) (k : ℕ) (line : Ou
 -- a row for each item in this order
 pub record AreOutlineRows (tree : List ItemRow) (order : List ℕ) (outline : List OutlineRow) : Type 0 where
   pub one_each : length outline ≡ length order
-  pub each : (k : ℕ) → k < length order → IsRowOf tree order k (row_at outline k)
+  pub each : (k : ℕ) → k < length order → IsOutlineRow tree order k (outline_row_at outline k)
 
 -- a row for each item in preorder: an item, then the items below it
 abbrev pub IsOutline : List ItemRow → List OutlineRow → Type 0

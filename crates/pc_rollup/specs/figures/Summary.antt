@@ -10,7 +10,7 @@ use Rattle.pc_rollup.specs.declared.figures.outline.OutlineRow.{OutlineRow}
 use Rattle.pc_rollup.specs.Totals.{amount_at}
 use Rattle.pc_rollup.specs.declared.figures.summary.SummaryAmounts.{SummaryAmounts}
 use Rattle.pc_rollup.specs.figures.Columns.{AmountColumn, AreOnTree, IsColumn, AddUpTo, HaveOneLine}
-use Rattle.pc_rollup.specs.figures.Figures.{account_at, amounts_of}
+use Rattle.pc_rollup.specs.figures.Figures.{account_summary_at, amounts_of}
 use Rattle.pc_rollup.specs.figures.Outline.{IsOutline}
 
 -- the items in preorder, and each amount by item and by level
@@ -25,11 +25,11 @@ pub record Summary : Type 0 where
 -- the summary is that of these accounts, which are on the items of this tree
 pub record IsSummaryOf (tree : List ItemRow) (accounts : List AcctRow) (entries : List Entry) (summary : Summary) : Type 0 where
   pub outline : IsOutline tree summary.outline
-  pub budget : IsColumn tree accounts (λ a. (account_at entries a).budget) summary.budget
-  pub actual : IsColumn tree accounts (λ a. (account_at entries a).actual) summary.actual
-  pub to_go : IsColumn tree accounts (λ a. (account_at entries a).to_go) summary.to_go
-  pub latest : IsColumn tree accounts (λ a. (account_at entries a).latest) summary.latest
-  pub overrun : IsColumn tree accounts (λ a. (account_at entries a).overrun) summary.overrun
+  pub budget : IsColumn tree accounts (λ a. (account_summary_at entries a).budget) summary.budget
+  pub actual : IsColumn tree accounts (λ a. (account_summary_at entries a).actual) summary.actual
+  pub to_go : IsColumn tree accounts (λ a. (account_summary_at entries a).to_go) summary.to_go
+  pub latest : IsColumn tree accounts (λ a. (account_summary_at entries a).latest) summary.latest
+  pub overrun : IsColumn tree accounts (λ a. (account_summary_at entries a).overrun) summary.overrun
 
 -- at each level each account is below exactly one line, and the lines add up to the amounts of the project
 pub record CountsOnce (tree : List ItemRow) (accounts : List AcctRow) (whole : Entry) (summary : Summary) : Type 0 where

@@ -16,26 +16,26 @@ IsSum some more sum =
     (c : ℕ) → amount_at sum c ≡ amount_at some c +ℤ amount_at more c
 
 -- column c of the amounts of items
-abbrev pub column : {A : Type 0} → (A → List ℤ) → ℕ → List A → List ℤ
-column columns c items = map (λ a. amount_at (columns a) c) items
+abbrev pub column_amounts : {A : Type 0} → (A → List ℤ) → ℕ → List A → List ℤ
+column_amounts columns c items = map (λ a. amount_at (columns a) c) items
 
 -- item x is known, and the amounts can be added to its own
 pub record CanTake {A : Type 0} (columns : A → List ℤ) (items : List A) (x : ℕ) (more : A) : Type 0 where
   pub known : x < length items
-  pub fits : (c : ℕ) → unsigned_abs (amount_at (column columns c items) x +ℤ amount_at (columns more) c) < 2 ^ 63
+  pub fits : (c : ℕ) → unsigned_abs (amount_at (column_amounts columns c items) x +ℤ amount_at (columns more) c) < 2 ^ 63
 
 -- in each column item x has as much more
 abbrev pub HaveTaken : {A : Type 0} → (A → List ℤ) → List A → ℕ → A → List A → Type 0
 HaveTaken columns old x more new =
-    (c : ℕ) → column columns c new ≡ set (column columns c old) x (amount_at (column columns c old) x +ℤ amount_at (columns more) c)
+    (c : ℕ) → column_amounts columns c new ≡ set (column_amounts columns c old) x (amount_at (column_amounts columns c old) x +ℤ amount_at (columns more) c)
 
 -- in each column the amounts are on leaves, and fit when they are added up
 pub record CanBeRolled {A : Type 0} (columns : A → List ℤ) (rows : List ItemRow) (items : List A) : Type 0 where
   pub one_each : length items ≡ length rows
-  pub at_leaves : (c : ℕ) → AreAtLeaves rows (column columns c items)
-  pub small : (c : ℕ) → sum_by unsigned_abs (column columns c items) < 2 ^ 63
+  pub at_leaves : (c : ℕ) → AreAtLeaves rows (column_amounts columns c items)
+  pub small : (c : ℕ) → sum_by unsigned_abs (column_amounts columns c items) < 2 ^ 63
 
 -- in each column the totals are rolled up
 abbrev pub AreRolled : {A : Type 0} → (A → List ℤ) → List ItemRow → List A → List A → Type 0
 AreRolled columns rows amounts totals =
-    (c : ℕ) → AreRolledUp rows (column columns c amounts) (column columns c totals)
+    (c : ℕ) → AreRolledUp rows (column_amounts columns c amounts) (column_amounts columns c totals)

@@ -25,24 +25,24 @@ abbrev pub placed_at : List Placed → ℕ → Placed
 placed_at placed k = slice_index_or placed k (record { item = 0; amount = pos 0 })
 
 -- the item that the k-th amount is placed on
-abbrev pub place_of : List Placed → ℕ → ℕ
-place_of placed k = (placed_at placed k).item
+abbrev pub placed_item : List Placed → ℕ → ℕ
+placed_item placed k = (placed_at placed k).item
 
 -- the k-th amount
-abbrev pub amount_of : List Placed → ℕ → ℤ
-amount_of placed k = (placed_at placed k).amount
+abbrev pub placed_amount : List Placed → ℕ → ℤ
+placed_amount placed k = (placed_at placed k).amount
 
 -- one total for each item, the sum of the amounts that are placed on it or below it
 pub record AreTotalsOf (rows : List ItemRow) (placed : List Placed) (totals : List ℤ) : Type 0 where
   pub one_each : length totals ≡ length rows
-  pub each : (y : ℕ) → y < length rows → IsSumOver (λ k. IsBelow rows (place_of placed k) y) (length placed) (amount_of placed) (amount_at totals y)
+  pub each : (y : ℕ) → y < length rows → IsSumOver (λ k. IsBelow rows (placed_item placed k) y) (length placed) (placed_amount placed) (amount_at totals y)
 
 -- one amount for each of `items` items, the sum of those that are placed on it
-pub record AreAmountsOf (items : ℕ) (placed : List Placed) (n : ℕ) (amounts : List ℤ) : Type 0 where
+pub record ArePlacedSums (items : ℕ) (placed : List Placed) (n : ℕ) (amounts : List ℤ) : Type 0 where
   pub one_each : length amounts ≡ items
-  pub each : (x : ℕ) → x < items → IsSumOver (λ k. place_of placed k ≡ x) n (amount_of placed) (amount_at amounts x)
+  pub each : (x : ℕ) → x < items → IsSumOver (λ k. placed_item placed k ≡ x) n (placed_amount placed) (amount_at amounts x)
 
 -- each amount is placed on a leaf
 pub record AreOnLeaves (rows : List ItemRow) (placed : List Placed) : Type 0 where
-  pub known : (k : ℕ) → k < length placed → place_of placed k < length rows
-  pub leaves : (k : ℕ) → k < length placed → IsLeaf rows (place_of placed k)
+  pub known : (k : ℕ) → k < length placed → placed_item placed k < length rows
+  pub leaves : (k : ℕ) → k < length placed → IsLeaf rows (placed_item placed k)

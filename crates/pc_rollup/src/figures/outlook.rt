@@ -3,7 +3,7 @@ ghost use Rattle.std.specs.Prelude.{◌≡◌, ℕ, ◌<◌, ◌≤◌, ◌^◌,
 ghost use Rattle.pc_accounts.specs.Entries.{AreEntriesWithinLimits, IsEntryWithinLimits};
 ghost use Rattle.pc_model.specs.Sums.{sum_to};
 ghost use Rattle.pc_rollup.specs.figures.Columns.{AreOnTree};
-ghost use Rattle.pc_rollup.specs.figures.Outline.{row_at};
+ghost use Rattle.pc_rollup.specs.figures.Outline.{outline_row_at};
 ghost use Rattle.pc_rollup.specs.figures.Outlook.{IsOutlookOf, amounts_at};
 ghost use Rattle.pc_rollup.specs.inside.figures.Outlook.{HasWholeAtTop, StandOnLeaves};
 ghost use Rattle.pc_rollup.specs.inside.figures.OutlookParts.{
@@ -143,7 +143,7 @@ impl Outlook {
     /// Returns item `k` in preorder, with its level.
     pub fn row(&self, k: usize) -> OutlineRow
         requires { k < length self.now.outline }
-        ensures { result ≡ row_at self.now.outline k }
+        ensures { result ≡ outline_row_at self.now.outline k }
     {
         self.outline[k]
     }

@@ -5,8 +5,8 @@ ghost use Rattle.pc_model.specs.Network.{IsInRange};
 ghost use Rattle.pc_times.specs.declared.TheConstants.{MAX_TIME};
 ghost use Rattle.pc_rollup.specs.figures.Slacks.{AreLeastSlacks, slack_at};
 ghost use Rattle.pc_rollup.specs.inside.figures.Slacks.{ArePlacedSlacks};
-ghost use Rattle.pc_rollup.specs.inside.Totals.{place_of};
-ghost use Rattle.pc_rollup.specs.inside.Least.{AreLeastOf, AreLeastOn, lesser};
+ghost use Rattle.pc_rollup.specs.inside.Totals.{placed_item};
+ghost use Rattle.pc_rollup.specs.inside.Least.{AreLeastOf, AreLeastOn, lesser_amount};
 
 use crate::Placed;
 use pc_net::Net;
@@ -87,7 +87,7 @@ fn activity_slack(net: &Net, late: &[i64], expected: &Forecast, a: u32) -> i64
 ///
 /// Returns `AllocError` if memory runs out.
 fn least_of(alloc: Global, tree: &Tree, placed: &[Placed]) -> Result<Vec<Option<i64>>, AllocError>
-    requires known { (k : ℕ) → k < length placed.now → place_of placed.now k < length tree.now }
+    requires known { (k : ℕ) → k < length placed.now → placed_item placed.now k < length tree.now }
     ensures { IfOk result (λ least. AreLeastOf tree.now placed.now least.items) }
 {
     let mut least = least_by_item(alloc, tree.len(), placed)?;
@@ -105,7 +105,7 @@ fn least_by_item(
     items: u32,
     placed: &[Placed],
 ) -> Result<Vec<Option<i64>>, AllocError>
-    requires known { (k : ℕ) → k < length placed.now → place_of placed.now k < items }
+    requires known { (k : ℕ) → k < length placed.now → placed_item placed.now k < items }
     ensures { IfOk result (λ least. AreLeastOn items placed.now (length placed.now) least.items) }
 {
     let mut least = vec![in alloc; None; items as usize]?;
@@ -117,7 +117,7 @@ fn least_by_item(
 
 /// The lesser of two amounts, one of which may be missing.
 fn lesser(a: Option<i64>, b: Option<i64>) -> Option<i64>
-    ensures { result ≡ lesser a b }
+    ensures { result ≡ lesser_amount a b }
 {
     match (a, b) {
         (Some(a), Some(b)) => { if b < a { Some(b) } else { Some(a) } }

@@ -10,8 +10,8 @@ ghost use Rattle.pc_accounts.specs.inside.Entries.{entry_of_all};
 ghost use Rattle.pc_rollup.specs.declared.levels.LevelLine.{LevelLine};
 ghost use Rattle.pc_rollup.specs.Lines.{AreLevelLines, sum_of};
 ghost use Rattle.pc_rollup.specs.figures.Columns.{AreOnTree, AreItemSums};
-ghost use Rattle.pc_rollup.specs.figures.Figures.{account_at, actual_at, amounts_of};
-ghost use Rattle.pc_rollup.specs.figures.Outline.{row_at};
+ghost use Rattle.pc_rollup.specs.figures.Figures.{account_summary_at, actual_at, amounts_of};
+ghost use Rattle.pc_rollup.specs.figures.Outline.{outline_row_at};
 ghost use Rattle.pc_rollup.specs.figures.Summary.{IsSummaryOf, AreBooked, CountsOnce, item_amounts, level_amounts};
 ghost use Rattle.pc_rollup.specs.inside.figures.Columns.{AreSumsByItem, summary_columns};
 
@@ -96,7 +96,7 @@ impl Drop for Summary {
 
 impl Model for Summary {
     ghost use Rattle.pc_rollup.specs.figures.Summary.{Summary};
-    ghost use Rattle.pc_rollup.specs.inside.figures.Columns.{column_of};
+    ghost use Rattle.pc_rollup.specs.inside.figures.Columns.{summary_column};
     ghost use Rattle.std.specs.Prelude.{◌≤◌};
     ghost use Rattle.pc_model.specs.declared.limits.TheConstants.{MAX_LEVEL};
 
@@ -104,11 +104,11 @@ impl Model for Summary {
 
     ghost view = { λ s. record {
       outline = s.outline.items;
-      budget = column_of (λ a. a.budget) s.amounts.items s.whole s.depth;
-      actual = column_of (λ a. a.actual) s.amounts.items s.whole s.depth;
-      to_go = column_of (λ a. a.to_go) s.amounts.items s.whole s.depth;
-      latest = column_of (λ a. a.latest) s.amounts.items s.whole s.depth;
-      overrun = column_of (λ a. a.overrun) s.amounts.items s.whole s.depth;
+      budget = summary_column (λ a. a.budget) s.amounts.items s.whole s.depth;
+      actual = summary_column (λ a. a.actual) s.amounts.items s.whole s.depth;
+      to_go = summary_column (λ a. a.to_go) s.amounts.items s.whole s.depth;
+      latest = summary_column (λ a. a.latest) s.amounts.items s.whole s.depth;
+      overrun = summary_column (λ a. a.overrun) s.amounts.items s.whole s.depth;
     } };
 
     ghost invariant = { λ s. s.depth ≤ MAX_LEVEL };
@@ -155,7 +155,7 @@ impl Summary {
     /// Returns item `k` in preorder, with its level.
     pub fn row(&self, k: usize) -> OutlineRow
         requires { k < length self.now.outline }
-        ensures { result ≡ row_at self.now.outline k }
+        ensures { result ≡ outline_row_at self.now.outline k }
     {
         self.outline[k]
     }
@@ -196,7 +196,7 @@ fn sums_by_item(
     requires one_each { length entries.now ≡ length accounts.now }
     requires small { AreEntriesWithinLimits entries.now }
     ensures { IfOk result (λ sums. AreSumsByItem summary_columns tree.now accounts.now
-        (account_at entries.now) sums.items) }
+        (account_summary_at entries.now) sums.items) }
 {
     let mut sums = vec![in alloc; SummaryAmounts::NONE; tree.len() as usize]?;
     for a in 0..accounts.len() {

@@ -7,8 +7,8 @@ use Rattle.pc_text.specs.inside.Words.{IsPadded, padded}
 use Rattle.pc_text.specs.Code.{is_code, is_code_byte}
 
 -- the cells of a text of at most 16 bytes, if each of them may occur in a code
-abbrev pub cells_of : List ℕ → Option (List ℕ)
-cells_of field = if list_all is_code_byte field then Some (padded 16 field) else None
+abbrev pub code_cells_of : List ℕ → Option (List ℕ)
+code_cells_of field = if list_all is_code_byte field then Some (padded 16 field) else None
 
 -- the first `len` of 16 cells are a code, and zeros follow it
 pub record IsCodeCells (len : ℕ) (cells : List ℕ) : Type 0 where

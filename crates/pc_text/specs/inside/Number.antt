@@ -15,8 +15,8 @@ abbrev pub is_unpadded : ℕ → List ℕ → Bool
 is_unpadded most word = nat_le 1 (length word) && (nat_le (length word) most && (not (slice_index word 0 == 48) || length word == 1))
 
 -- the value of a word, where each byte is a digit
-abbrev pub value_of : List ℕ → Option ℕ
-value_of word = if list_all is_ascii_digit word then Some (value_after 0 word) else None
+abbrev pub value_of_digits : List ℕ → Option ℕ
+value_of_digits word = if list_all is_ascii_digit word then Some (value_after 0 word) else None
 
 -- the word is the decimal form of n, which is below 10 to the power of `most`
 abbrev pub Spells : ℕ → List ℕ → ℕ → Type 0

@@ -4,5 +4,5 @@ use Rattle.std.specs.Prelude.{ℤ, pos, ◌+ℤ◌, ◌≤ℤ◌}
 use Rattle.pc_times.specs.declared.TheConstants.{MAX_TIME}
 
 -- t is at most the time to be met, and before it by no more than a project can take
-abbrev pub IsUpTo : ℤ → ℤ → Type 0
-IsUpTo by t = (t ≤ℤ by) × (by ≤ℤ (t +ℤ pos MAX_TIME))
+abbrev pub IsInTimeFor : ℤ → ℤ → Type 0
+IsInTimeFor by t = (t ≤ℤ by) × (by ≤ℤ (t +ℤ pos MAX_TIME))

@@ -4,28 +4,28 @@ use Rattle.pc_model.specs.declared.limits.TheConstants.{MAX_LEVEL}
 use Rattle.pc_wbs.specs.declared.tree.ItemRow.{ItemRow}
 use Rattle.pc_wbs.specs.Climb.{parent_of, climb, HasLevel, IsTop}
 use Rattle.pc_model.specs.Greatest.{IsFirst, StandsBelow}
-use Rattle.pc_wbs.specs.inside.Links.{link_at}
+use Rattle.pc_wbs.specs.inside.Links.{linked_row_at}
 use Rattle.pc_wbs.specs.Refusal.{IsLooped}
 
 -- the ends of climbs of this many steps, one from each of the first n rows
 pub record AreEnds (rows : List ItemRow) (n steps : ℕ) (ends : List (Option ℕ)) : Type 0 where
   pub one_each : length ends ≡ n
-  pub end : (x : ℕ) → x < n → link_at ends x ≡ climb rows steps x
+  pub end : (x : ℕ) → x < n → linked_row_at ends x ≡ climb rows steps x
 
 -- of the first n ends, where climbs of twice as many steps end
 pub record AreDoubled (ends : List (Option ℕ)) (n : ℕ) (twice : List (Option ℕ)) : Type 0 where
   pub one_each : length twice ≡ n
-  pub end : (x : ℕ) → x < n → link_at twice x ≡ option_and_then (link_at ends) (link_at ends x)
+  pub end : (x : ℕ) → x < n → linked_row_at twice x ≡ option_and_then (linked_row_at ends) (linked_row_at ends x)
 
 -- each end is again one of the rows
 abbrev pub StayInside : List (Option ℕ) → Type 0
-StayInside ends = (x y : ℕ) → x < length ends → link_at ends x ≡ Some y → y < length ends
+StayInside ends = (x y : ℕ) → x < length ends → linked_row_at ends x ≡ Some y → y < length ends
 
 -- the least of the first n ends, if there is one
 abbrev pub IsLeastBelow : List (Option ℕ) → ℕ → Option ℕ → Type 0
-IsLeastBelow ends n None = (x : ℕ) → x < n → link_at ends x ≡ None
+IsLeastBelow ends n None = (x : ℕ) → x < n → linked_row_at ends x ≡ None
 IsLeastBelow ends n (Some least) =
-    ((x : ℕ) × ((x < n) × (link_at ends x ≡ Some least))) × ((x y : ℕ) → x < n → link_at ends x ≡ Some y → least ≤ y)
+    ((x : ℕ) × ((x < n) × (linked_row_at ends x ≡ Some least))) × ((x y : ℕ) → x < n → linked_row_at ends x ≡ Some y → least ≤ y)
 
 -- the first row on a loop, if there is one
 abbrev pub IsFirstLooped : List ItemRow → Option ℕ → Type 0

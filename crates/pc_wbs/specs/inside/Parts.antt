@@ -8,7 +8,7 @@ use Rattle.pc_wbs.specs.inside.Links.{AreFirstChildren}
 use Rattle.pc_wbs.specs.Preorder.{IsPreorder}
 
 -- a tree's parts are what its rows say
-pub record AreParts (a : Inside) : Type 0 where
+pub record AreTreeParts (a : Inside) : Type 0 where
   pub count : length a.rows.items ≤ MAX_ITEMS
   pub in_range : AreInRange a.rows.items
   pub sound : IsTree a.rows.items

@@ -16,6 +16,6 @@ pub record AreFirsts (activities : ℕ) (statuses : List StatusRow) (ended : Boo
   pub each : (a : ℕ) → a < activities → FirstBelow statuses ended a n (option_at firsts a)
 
 -- the first so far, or this one if there is none and it counts
-abbrev pub first_or : Option ℕ → Bool → ℕ → Option ℕ
-first_or None counts k = if counts then Some k else None
-first_or (Some first) counts k = Some first
+abbrev pub first_or_this : Option ℕ → Bool → ℕ → Option ℕ
+first_or_this None counts k = if counts then Some k else None
+first_or_this (Some first) counts k = Some first

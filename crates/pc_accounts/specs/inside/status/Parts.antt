@@ -9,7 +9,7 @@ use Rattle.pc_accounts.specs.inside.status.Firsts.{AreFirsts}
 abbrev pub log_from : Inside → StatusLog
 log_from a = record { activities = a.activities; statuses = a.statuses.items }
 
-pub record AreParts (a : Inside) : Type 0 where
+pub record AreLogParts (a : Inside) : Type 0 where
   pub few_activities : a.activities ≤ MAX_ACTIVITIES
   pub few : length a.statuses.items ≤ MAX_STATUSES
   pub known : AreKnown a.activities a.statuses.items

@@ -28,18 +28,18 @@ pub record SpellsAct (net : PricedNetwork) (a : ℕ) (row : ActRow) : Type 0 whe
   pub text : row.spelling ≡ text_of (Act (text_at net.activities a) row.duration (filled_along net a row.whole) ∷ [])
 
 -- the row of event e, and that of activity a
-abbrev pub event_row : List EventRow → ℕ → EventRow
-event_row rows e = slice_index_or rows e (record { time = 0; moves = false; spelling = [] })
+abbrev pub event_row_at : List EventRow → ℕ → EventRow
+event_row_at rows e = slice_index_or rows e (record { time = 0; moves = false; spelling = [] })
 
-abbrev pub act_row : List ActRow → ℕ → ActRow
-act_row rows a = slice_index_or rows a (record { duration = 0; whole = 0; spelling = [] })
+abbrev pub act_row_at : List ActRow → ℕ → ActRow
+act_row_at rows a = slice_index_or rows a (record { duration = 0; whole = 0; spelling = [] })
 
 -- each event has a row with the text of its line
 pub record AreEventsSpelled (net : PricedNetwork) (rows : List EventRow) : Type 0 where
   pub one_each : length rows ≡ net.network.events
-  pub each : (e : ℕ) → e < net.network.events → SpellsEvent (text_at net.events e) (event_row rows e)
+  pub each : (e : ℕ) → e < net.network.events → SpellsEvent (text_at net.events e) (event_row_at rows e)
 
 -- so has each activity
 pub record AreActsSpelled (net : PricedNetwork) (rows : List ActRow) : Type 0 where
   pub one_each : length rows ≡ length net.network.arcs
-  pub each : (a : ℕ) → a < length net.network.arcs → SpellsAct net a (act_row rows a)
+  pub each : (a : ℕ) → a < length net.network.arcs → SpellsAct net a (act_row_at rows a)

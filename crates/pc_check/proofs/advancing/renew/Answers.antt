@@ -2,7 +2,7 @@ use Rattle.std.proofs.Common.{◌≡◌, ◌<◌, length, set, refl, ap, subst, 
 use Rattle.std.specs.Prelude.{slice_index}
 use Rattle.pc_model.specs.Walk.{from_of, to_of}
 use Rattle.pc_check.specs.declared.fast.passed.Passed.{Passed}
-use Rattle.pc_check.specs.inside.fast.Passed.{flow_of, cost_of}
+use Rattle.pc_check.specs.inside.fast.Passed.{passed_flow, passed_cost}
 use Rattle.pc_check.specs.inside.Safe.{IsExchanged}
 use Rattle.pc_check.proofs.lemmas.fast.PassedLaws.{passed_with, row_read, row_renewed}
 use Rattle.pc_check.proofs.SumLaws.{sums_exchanged, is_in_sum, sum_small, cost_exchanged, cost_in_sum, cost_small}
@@ -103,14 +103,14 @@ returns-clause-safe c =
     let to : c.to-to.result ≡ to_of arcs a = c.to-to.ensures.event ∙ ap (λ n. to_of n.arcs a) c.net.ensures.network in
     let from : c.from-from.result ≡ from_of arcs a = c.from-from.ensures.event ∙ ap (λ n. from_of n.arcs a) c.net-2.ensures.network in
     let row = row_read a c.index.result.now safe.rows known c.index.ensures in
-    let cost : c.index-2.result.now.cost ≡ cost_of rows a = ap (λ (r : Passed). r.cost) (row_read a c.index-2.result.now safe.rows known c.index-2.ensures) in
-    let flow : c.index.result.now.flow ≡ flow_of rows a = ap (λ (r : Passed). r.flow) row in
+    let cost : c.index-2.result.now.cost ≡ passed_cost rows a = ap (λ (r : Passed). r.cost) (row_read a c.index-2.result.now safe.rows known c.index-2.ensures) in
+    let flow : c.index.result.now.flow ≡ passed_flow rows a = ap (λ (r : Passed). r.flow) row in
     let renewed = row_renewed a c.args.passed safe.rows known in
-    let into : IsExchanged tally.inflow.items c.exchange.new.sums.items (to_of arcs a) (flow_of rows a) now =
-    subst (λ e. IsExchanged tally.inflow.items c.exchange.new.sums.items e (flow_of rows a) now) to
+    let into : IsExchanged tally.inflow.items c.exchange.new.sums.items (to_of arcs a) (passed_flow rows a) now =
+    subst (λ e. IsExchanged tally.inflow.items c.exchange.new.sums.items e (passed_flow rows a) now) to
     (subst (λ f. IsExchanged tally.inflow.items c.exchange.new.sums.items c.to-to.result f now) flow c.exchange.ensures) in
-    let out_of : IsExchanged tally.outflow.items c.exchange-2.new.sums.items (from_of arcs a) (flow_of rows a) now =
-    subst (λ e. IsExchanged tally.outflow.items c.exchange-2.new.sums.items e (flow_of rows a) now) from
+    let out_of : IsExchanged tally.outflow.items c.exchange-2.new.sums.items (from_of arcs a) (passed_flow rows a) now =
+    subst (λ e. IsExchanged tally.outflow.items c.exchange-2.new.sums.items e (passed_flow rows a) now) from
     (subst (λ f. IsExchanged tally.outflow.items c.exchange-2.new.sums.items c.from-from.result f now) flow c.exchange-2.ensures) in
     record {
       times = safe.times;

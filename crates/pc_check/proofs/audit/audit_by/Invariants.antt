@@ -1,4 +1,4 @@
-use Rattle.pc_check.specs.inside.Auditing.{bytes_left}
+use Rattle.pc_check.specs.inside.Auditing.{audit_bytes_left}
 use Rattle.pc_check.proofs.SourceLaws.{IsPulling}
 use Rattle.pc_check.proofs.audit.audit_by.Given as goal
 
@@ -8,4 +8,4 @@ invariant-loop-n g l =
     IsPulling s.left s.faults s.pulls l.fn.source l.source l.fn.audit l.audit
 
 abbrev pub decreases-loop-n : goal.decreases-loop-n
-decreases-loop-n g l = bytes_left l.audit
+decreases-loop-n g l = audit_bytes_left l.audit

@@ -4,7 +4,7 @@ use Rattle.pc_edges.specs.declared.loading.TheConstants.{STREAM_ROOM}
 use Rattle.pc_check.specs.Texts.{Finds}
 use Rattle.pc_check.specs.Stops.{IsSettled}
 use Rattle.pc_check.specs.Auditing.{most_bytes}
-use Rattle.pc_check.specs.inside.Auditing.{bytes_left}
+use Rattle.pc_check.specs.inside.Auditing.{audit_bytes_left}
 use Rattle.pc_edges.proofs.PullLaws.{TakesPulls-none, TakesPulls-one_more}
 use Rattle.pc_check.specs.OwnLines.{KeepsToOwnLines}
 use Rattle.pc_check.proofs.OwnTurnLaws.{keeps_to_lines, unpulled_keeps}
@@ -16,7 +16,7 @@ returns-clause-finds g c =
 
 pub returns-clause-turns : goal.returns-clause-turns
 returns-clause-turns g c =
-    TakesPulls-one_more (bytes_left c.in-Ok.audit) (most_bytes c.args.net.now) _ _ c.in-Ok.ensures.left c.audit_by.ensures.turns
+    TakesPulls-one_more (audit_bytes_left c.in-Ok.audit) (most_bytes c.args.net.now) _ _ c.in-Ok.ensures.left c.audit_by.ensures.turns
 
 pub returns-clause-stops : goal.returns-clause-stops
 returns-clause-stops g c =

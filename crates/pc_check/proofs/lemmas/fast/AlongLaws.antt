@@ -7,11 +7,11 @@ use Rattle.pc_cert.specs.declared.line.CertLine.TheVariants.{Head, Normal, Step,
 use Rattle.pc_cert.specs.declared.place.Place.{Place}
 use Rattle.pc_cert.specs.inside.Grammar.{IsRow}
 use Rattle.pc_cert.proofs.Passing.{PassesLine}
-use Rattle.pc_cert.specs.inside.Reader.{Reading}
+use Rattle.pc_cert.specs.inside.Reader.{CertReading}
 use Rattle.pc_cert.proofs.ReaderLaws.{passes_line}
 use Rattle.pc_crash.specs.Priced.{PricedNetwork}
 use Rattle.pc_check.specs.declared.kept.Kept.{Kept}
-use Rattle.pc_check.specs.inside.Advances.{Adds, Advances, moved_on}
+use Rattle.pc_check.specs.inside.Advances.{AddsToKept, Advances, moved_on}
 use Rattle.pc_check.specs.inside.fast.Rows.{AddsLine, going}
 use Rattle.pc_check.specs.inside.fast.Along.{TakesAlong, MayAdvance, HasAdvanced}
 use Rattle.pc_check.specs.inside.Bounds.{IsBounded, lines_left}
@@ -26,25 +26,25 @@ abbrev pub moved_by : Kept → Place → ℕ → Kept
 moved_by kept place count = record kept { place = place; lines = kept.lines + count }
 
 -- a reader after this many lines more
-abbrev pub read_by : Reading → Place → ℕ → Reading
+abbrev pub read_by : CertReading → Place → ℕ → CertReading
 read_by reader place count = record reader { place = place; lines = reader.lines + count }
 
 -- rows at the front of the piece were taken, and these bytes are left
-pub record IsAlong (net : PricedNetwork) (piece rest : List ℕ) (reader : Reading) (old kept : Kept) (place : Place) (count : ℕ) : Type 0 where
+pub record IsAlong (net : PricedNetwork) (piece rest : List ℕ) (reader : CertReading) (old kept : Kept) (place : Place) (count : ℕ) : Type 0 where
   pub left : IsRest piece rest reader (read_by reader place count) (going net old) (going net (moved_by kept place count))
   pub held : reader.held ≡ []
   pub safe : IsSafe net kept.tally
   pub bounded : IsBounded net (moved_by kept place count)
   pub long : kept.tally.upper ≢ kept.tally.lower
 
-read_none : (reader : Reading) → reader ≡ read_by reader reader.place 0
+read_none : (reader : CertReading) → reader ≡ read_by reader reader.place 0
 read_none reader = ap (λ n. record reader { lines = n }) (omega arith)
 
 moved_none : (kept : Kept) (place : Place) → place ≡ kept.place → kept ≡ moved_by kept place 0
 moved_none kept place there = ap (λ n. record kept { lines = n }) (omega arith) ∙ ap (λ p. record kept { place = p; lines = kept.lines + 0 }) (sym there)
 
 -- none is taken yet
-pub along_begins : {net : PricedNetwork} {fronts : List EventFront} {reader : Reading} {kept : Kept} (piece : List ℕ) → MayAdvance net fronts reader kept
+pub along_begins : {net : PricedNetwork} {fronts : List EventFront} {reader : CertReading} {kept : Kept} (piece : List ℕ) → MayAdvance net fronts reader kept
     → reader.held ≡ [] → kept.tally.upper ≢ kept.tally.lower → IsAlong net piece piece reader kept kept reader.place 0
 along_begins {net} {fronts} {reader} {kept} piece may held long =
     let begins = all_left piece reader (going net kept) (begun piece reader (going net kept) refl may.place may.going may.alike may.few) in
@@ -59,8 +59,8 @@ along_begins {net} {fronts} {reader} {kept} piece may held long =
     }
 
 -- what a row adds does not hang on the place and the number of lines
-adds_moved : (net : PricedNetwork) (old new : Kept) (line : CertLine) (place : Place) (count : ℕ) → IsRow line → Adds net line old new →
-    Adds net line (moved_by old place count) (moved_by new place count)
+adds_moved : (net : PricedNetwork) (old new : Kept) (line : CertLine) (place : Place) (count : ℕ) → IsRow line → AddsToKept net line old new →
+    AddsToKept net line (moved_by old place count) (moved_by new place count)
 adds_moved net old new (Head version project events activities) place count row added = absurd row
 adds_moved net old new Normal place count row added = absurd row
 adds_moved net old new (Step code) place count row added = absurd row
@@ -72,7 +72,7 @@ adds_moved net old new Close place count row added = absurd row
 adds_moved net old new End place count row added = absurd row
 
 -- nor does it change the ends of the segment
-ends_kept : (net : PricedNetwork) (old new : Kept) (line : CertLine) → IsRow line → Adds net line old new → (new.tally.upper ≡ old.tally.upper) × (new.tally.lower ≡ old.tally.lower)
+ends_kept : (net : PricedNetwork) (old new : Kept) (line : CertLine) → IsRow line → AddsToKept net line old new → (new.tally.upper ≡ old.tally.upper) × (new.tally.lower ≡ old.tally.lower)
 ends_kept net old new (Head version project events activities) row added = absurd row
 ends_kept net old new Normal row added = absurd row
 ends_kept net old new (Step code) row added = absurd row
@@ -87,19 +87,19 @@ one_more : (n count : ℕ) → n + count + 1 ≡ n + (count + 1)
 one_more n count = omega arith
 
 -- one more row is taken
-pub along_more : {net : PricedNetwork} {piece rest : List ℕ} {reader : Reading} {old kept new : Kept} {place behind : Place} {count : ℕ}
+pub along_more : {net : PricedNetwork} {piece rest : List ℕ} {reader : CertReading} {old kept new : Kept} {place behind : Place} {count : ℕ}
     (used : ℕ) → net.network.events ≤ MAX_EVENTS → length net.network.arcs ≤ MAX_ACTIVITIES
     → IsAlong net piece rest reader old kept place count → AddsLine net rest used place behind kept new → IsSafe net new.tally → IsAlong net piece (drop used rest) reader old new behind (count + 1)
 along_more {net} {piece} {rest} {reader} {old} {kept} {new} {place} {behind} {count} used events activities h it safe =
     let run = h.left.run in
-    let before : Reading = read_by reader place count in
-    let after : Reading = read_by reader behind (count + 1) in
+    let before : CertReading = read_by reader place count in
+    let after : CertReading = read_by reader behind (count + 1) in
     let from : Kept = moved_by kept place count in
     let between : Kept = moved_by new place count in
     let to : Kept = moved_by new behind (count + 1) in
     let read : PassesLine it.line rest used before after =
     passes_line it.line rest used before after run.going h.held it.again it.goes (ap (λ n. record reader { place = behind; lines = n }) (sym (one_more reader.lines count))) in
-    let added : Adds net it.line from between = adds_moved net kept new it.line place count it.row it.adds in
+    let added : AddsToKept net it.line from between = adds_moved net kept new it.line place count it.row it.adds in
     let moved : moved_on between behind ≡ to = ap (λ n. record new { place = behind; lines = n }) (one_more new.lines count) in
     let advances : Advances net it.line from to = record { goes = it.goes; between = between; added = added; moved = sym moved } in
     let passes : Passes net it.line from behind = record { goes = it.goes; passes = it.none } in
@@ -122,7 +122,7 @@ along_more {net} {piece} {rest} {reader} {old} {kept} {new} {place} {behind} {co
     record { left = less_left used h.left read.some takes; held = h.held; safe = safe; bounded = bounded; long = λ e. h.long (sym (ends.0) ∙ e ∙ ends.1) }
 
 -- no row is taken
-pub none_taken : {net : PricedNetwork} {fronts : List EventFront} {reader : Reading} {kept : Kept} (piece : List ℕ) → MayAdvance net fronts reader kept
+pub none_taken : {net : PricedNetwork} {fronts : List EventFront} {reader : CertReading} {kept : Kept} (piece : List ℕ) → MayAdvance net fronts reader kept
     → HasAdvanced net piece 0 reader reader kept kept
 none_taken piece may = record {
   same_kept = λ nothing. refl;
@@ -133,8 +133,8 @@ none_taken piece may = record {
 }
 
 -- what was taken after the loop
-pub along_ends : {net : PricedNetwork} {piece rest : List ℕ} {reader : Reading} {old kept : Kept} {place : Place} {count : ℕ}
-    (after : Reading) (there : Place) (final : Kept) → IsAlong net piece rest reader old kept place count
+pub along_ends : {net : PricedNetwork} {piece rest : List ℕ} {reader : CertReading} {old kept : Kept} {place : Place} {count : ℕ}
+    (after : CertReading) (there : Place) (final : Kept) → IsAlong net piece rest reader old kept place count
     → there ≡ place → final ≡ kept → after ≡ read_by reader there count → HasAdvanced net piece (length piece - length rest) reader after old (moved_by final there count)
 along_ends {net} {piece} {rest} {reader} {old} {kept} {place} {count} after there final h here same is =
     let ended : HasAdvanced net piece h.left.used reader (read_by reader place count) old (moved_by kept place count) = record {

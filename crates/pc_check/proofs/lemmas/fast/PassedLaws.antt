@@ -12,16 +12,16 @@ use Rattle.pc_laws.specs.Segment.{Segment, head_at, span, tail_at}
 use Rattle.pc_crash.specs.inside.KneeLists.{AreKneesOf}
 use Rattle.pc_crash.specs.Priced.{PricedNetwork, knees_in}
 use Rattle.pc_cert.specs.declared.line.CertLine.TheVariants.{Act}
-use Rattle.pc_cert.specs.inside.Known.{HasText, IsTextOf}
+use Rattle.pc_cert.specs.inside.Known.{HasText, IsLineTextOf}
 use Rattle.pc_check.specs.Conditions.{conditions, has_act_code, has_duration, has_room, is_slack, is_slack_in, is_within_capacity}
-use Rattle.pc_check.specs.inside.Crossings.{IsStill}
+use Rattle.pc_check.specs.inside.Crossings.{EndsMoveAlike}
 use Rattle.pc_check.specs.Failures.{first_failing}
 use Rattle.pc_check.specs.Known.{Known, each_below, frame}
 use Rattle.pc_check.specs.KneeTests.{is_slack_at_knee}
 use Rattle.pc_check.specs.inside.KneeTests.{is_slack_over}
-use Rattle.pc_check.specs.inside.fast.Passed.{IsWithin, FitsWithin, HasPassed, IsPassed, passed_at, flow_of, cost_of, ArePassed, IsNothing, ComesAgain, PassesAcross}
+use Rattle.pc_check.specs.inside.fast.Passed.{IsGapWithin, FitsWithin, HasPassed, IsPassed, passed_at, passed_flow, passed_cost, ArePassed, IsNothing, ComesAgain, PassesAcross}
 use Rattle.pc_check.specs.inside.Kept.{stretch_of}
-use Rattle.pc_check.specs.inside.Safe.{IsRenewed, IsSafe, AddsAct, IsCutOf, joined, no_cut}
+use Rattle.pc_check.specs.inside.Safe.{IsRenewed, IsSafe, AddsAct, IsCutOf, joined_cuts, no_cut}
 use Rattle.pc_check.specs.declared.cut.Cut.{Cut}
 use Rattle.pc_check.specs.declared.kept.Tally.{Tally}
 use Rattle.pc_check.specs.declared.fast.passed.Passed.{Passed}
@@ -44,7 +44,7 @@ below_fits low head tail at rise flow above high =
     (λ other. rw (le-ltb head (tail + at) (omega (arith, above, high other))) refl) (cases_eq flow rise)
 
 slack_within : {crash low high : ℕ} (knees : List Knee) (flows : List ℕ) (head tail : ℕ) →
-    FitsWithin crash knees flows (length knees) low high → IsWithin low high head tail → is_slack_over head tail crash knees flows ≡ true
+    FitsWithin crash knees flows (length knees) low high → IsGapWithin low high head tail → is_slack_over head tail crash knees flows ≡ true
 slack_within {crash} {low} {high} knees flows head tail fits is =
     let each : each_below (length knees) (λ k. is_slack_at_knee head tail (knee_at knees k).at (knee_at knees k).rise (slice_index flows k)) ≡ true =
     each_below-all (length knees) _ (λ k lt. rw (
@@ -55,14 +55,14 @@ slack_within {crash} {low} {high} knees flows head tail fits is =
 
 -- the same of the knees of an activity
 pub slack_in_within : {low high : ℕ} (net : PricedNetwork) (a : ℕ) (list : List Knee) (flows : List ℕ) (head tail : ℕ) →
-    AreKneesOf (knees_in net) a list → FitsWithin (crash_of net.terms a) list flows (length list) low high → IsWithin low high head tail →
+    AreKneesOf (knees_in net) a list → FitsWithin (crash_of net.terms a) list flows (length list) low high → IsGapWithin low high head tail →
     is_slack_in net head tail a flows ≡ true
 slack_in_within net a list flows head tail are fits is =
     sym (is_slack-list (knees_in net) a list are head tail (crash_of net.terms a) flows) ∙ slack_within list flows head tail fits is
 
 -- ---- nothing has passed
 
-pub nothing_passed : (net : PricedNetwork) (nothing : Passed) → (HasText nothing.text → ⊥) → IsTextOf None nothing.text → nothing.flow ≡ 0 →
+pub nothing_passed : (net : PricedNetwork) (nothing : Passed) → (HasText nothing.text → ⊥) → IsLineTextOf None nothing.text → nothing.flow ≡ 0 →
     nothing.cost ≡ 0 → ArePassed net (replicate (length net.network.arcs) nothing)
 nothing_passed net nothing none text no_flow no_cost = record {
   one_each = length-replicate (length net.network.arcs) nothing;
@@ -112,7 +112,7 @@ row_renewed {net} {rows} a row are known =
 
 pub adds_across : {net : PricedNetwork} {old new : Tally} {more : Cut} → IsCutOf net (stretch_of old) old.acts more
     → HasPassed net old.acts (passed_at old.rows.items old.acts)
-    → new ≡ record old { acts = old.acts + 1; cut = joined old.cut more }
+    → new ≡ record old { acts = old.acts + 1; cut = joined_cuts old.cut more }
     → AddsAct net old (passed_at old.rows.items old.acts).duration (passed_at old.rows.items old.acts).flows new
 adds_across {net} {old} {new} {more} adds has rest =
     let rows : new.rows.items ≡ old.rows.items = ap (λ t. t.rows.items) rest in record {
@@ -124,8 +124,8 @@ adds_across {net} {old} {new} {more} adds has rest =
         ap (λ t. t.cut) rest,
       ) refl;
       row = record {
-        flow = ap (λ r. flow_of r old.acts) rows ∙ has.flow;
-        cost = ap (λ r. cost_of r old.acts) rows ∙ has.cost;
+        flow = ap (λ r. passed_flow r old.acts) rows ∙ has.flow;
+        cost = ap (λ r. passed_cost r old.acts) rows ∙ has.cost;
         others = λ b other. ap (λ r. passed_at r b) rows;
       };
       forward = ap (λ t. t.cut.forward) rest ∙ ap (λ n. old.cut.forward + n) adds.forward;
@@ -134,7 +134,7 @@ adds_across {net} {old} {new} {more} adds has rest =
     }
 
 -- where it does not cross the cut, it adds nothing to the sums
-adds_nothing : {net : PricedNetwork} (seg : Segment) (a : ℕ) → IsStill net.network.arcs seg.moves a → IsCutOf net seg a no_cut
+adds_nothing : {net : PricedNetwork} (seg : Segment) (a : ℕ) → EndsMoveAlike net.network.arcs seg.moves a → IsCutOf net seg a no_cut
 adds_nothing {net} seg a still =
     let parts = rests net.network.arcs seg a still in
     record {
@@ -145,13 +145,13 @@ adds_nothing {net} seg a still =
       small_backward = omega arith;
     }
 
-same_cut : (cut : Cut) → cut ≡ joined cut no_cut
+same_cut : (cut : Cut) → cut ≡ joined_cuts cut no_cut
 same_cut cut =
     ap (λ n. record cut { forward = n }) (omega arith)
     ∙ ap (λ n. record cut { forward = cut.forward + 0; backward = n }) (omega arith)
     ∙ ap (λ b. record cut { forward = cut.forward + 0; backward = cut.backward + 0; stops = b }) (sym (or-false cut.stops))
 
-pub adds_again : {net : PricedNetwork} {old new : Tally} → IsStill net.network.arcs (stretch_of old).moves old.acts → HasPassed net old.acts (passed_at old.rows.items old.acts)
+pub adds_again : {net : PricedNetwork} {old new : Tally} → EndsMoveAlike net.network.arcs (stretch_of old).moves old.acts → HasPassed net old.acts (passed_at old.rows.items old.acts)
     → new ≡ record old { acts = old.acts + 1 }
     → AddsAct net old (passed_at old.rows.items old.acts).duration (passed_at old.rows.items old.acts).flows new
 adds_again {net} {old} {new} still has rest = adds_across (adds_nothing (stretch_of old) old.acts still) has (rest ∙ ap (λ cut. record old { acts = old.acts + 1; cut = cut }) (same_cut old.cut))
@@ -175,9 +175,9 @@ safe_with {net} {old} cut safe known forward backward = record {
 
 -- the sums of the cut have grown
 pub safe_across : {net : PricedNetwork} {old : Tally} {more : Cut} → IsSafe net old → old.acts < length net.network.arcs
-    → IsCutOf net (stretch_of old) old.acts more → IsSafe net (record old { acts = old.acts + 1; cut = joined old.cut more })
+    → IsCutOf net (stretch_of old) old.acts more → IsSafe net (record old { acts = old.acts + 1; cut = joined_cuts old.cut more })
 safe_across {net} {old} {more} safe known adds =
-    safe_with (joined old.cut more) safe known (omega (arith, safe.forward, adds.small_forward)) (omega (arith, safe.backward, adds.small_backward))
+    safe_with (joined_cuts old.cut more) safe known (omega (arith, safe.forward, adds.small_forward)) (omega (arith, safe.backward, adds.small_backward))
 
 -- the sums stay
 pub safe_again : {net : PricedNetwork} {old : Tally} → IsSafe net old → old.acts < length net.network.arcs → IsSafe net (record old { acts = old.acts + 1 })
@@ -216,7 +216,7 @@ again_passes {net} {known} {passed} code has_code again has =
     let tail = tail_at arcs seg 0 a in
     let head_is : head ≡ known.time (to_of arcs a) = head_before arcs seg a in
     let tail_is : tail ≡ known.time (from_of arcs a) = tail_before arcs seg a in
-    let within : IsWithin passed.low passed.high head tail = record {
+    let within : IsGapWithin passed.low passed.high head tail = record {
       above = omega (arith, again.within.above);
       below = omega (arith, again.within.below);
     } in
@@ -240,7 +240,7 @@ across_passes {net} {known} {passed} code has_code across has =
     let slack_lower : is_slack net seg (span seg) a passed.flows ≡ true = has.fits (head_at arcs seg (span seg) a) (tail_at arcs seg (span seg) a) across.lower in
     let head_is : head_at arcs seg 0 a ≡ known.time (to_of arcs a) = head_before arcs seg a in
     let tail_is : tail_at arcs seg 0 a ≡ known.time (from_of arcs a) = tail_before arcs seg a in
-    let within : IsWithin passed.low passed.high (known.time (to_of arcs a)) (known.time (from_of arcs a)) = record {
+    let within : IsGapWithin passed.low passed.high (known.time (to_of arcs a)) (known.time (from_of arcs a)) = record {
       above = omega (arith, across.upper.above, head_is, tail_is);
       below = omega (arith, across.upper.below, head_is, tail_is);
     } in

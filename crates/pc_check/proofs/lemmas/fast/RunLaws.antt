@@ -2,12 +2,12 @@
 use Rattle.std.proofs.Common.{◌≡◌, ℕ, ◌+◌, ◌-◌, ◌^◌, ◌<◌, ◌≤◌, zero, suc, List, ◌++◌, length, take, drop, None, refl, sym, ap, subst, ◌∙◌, arith, append_assoc}
 use Rattle.std.proofs.Math.Seq.{take-add}
 use Rattle.std.proofs.lemmas.List.{length-drop, drop-drop}
-use Rattle.pc_cert.specs.inside.Reader.{Reading, StandsFor as ReadsAs}
+use Rattle.pc_cert.specs.inside.Reader.{CertReading, ReadsAs}
 use Rattle.pc_check.specs.inside.fast.Along.{TakesAlong}
-use Rattle.pc_check.specs.inside.Checking.{Checking, StandsFor}
+use Rattle.pc_check.specs.inside.Checking.{Checking, ChecksAs}
 
 -- lines that are this many bytes of the piece were taken, or nothing has changed, and more may be taken
-pub record IsRun (piece : List ℕ) (used : ℕ) (before after : Reading) (old new : Checking) : Type 0 where
+pub record IsRun (piece : List ℕ) (used : ℕ) (before after : CertReading) (old new : Checking) : Type 0 where
   pub within : used ≤ length piece
   pub same : used ≡ 0 → new ≡ old
   pub same_reader : used ≡ 0 → after ≡ before
@@ -20,7 +20,7 @@ pub record IsRun (piece : List ℕ) (used : ℕ) (before after : Reading) (old n
   pub few : new.kept.lines < 2 ^ 63
 
 -- nothing is taken yet
-pub begun : (piece : List ℕ) (reader : Reading) (checker : Checking) → checker.fail ≡ None → reader.place ≡ checker.kept.place →
+pub begun : (piece : List ℕ) (reader : CertReading) (checker : Checking) → checker.fail ≡ None → reader.place ≡ checker.kept.place →
     reader.malformed ≡ None → reader.lines ≡ checker.kept.lines → checker.kept.lines < 2 ^ 63 → IsRun piece 0 reader reader checker checker
 begun piece reader checker none place going alike few = record {
   within = omega arith;
@@ -36,7 +36,7 @@ begun piece reader checker none place going alike few = record {
 }
 
 -- lines, and lines after them
-joined : {piece : List ℕ} {before between after : Reading} {old mid new : Checking} (n m : ℕ) → TakesAlong piece n before between old mid →
+joined : {piece : List ℕ} {before between after : CertReading} {old mid new : Checking} (n m : ℕ) → TakesAlong piece n before between old mid →
     TakesAlong (drop n piece) m between after mid new → TakesAlong piece (n + m) before after old new
 joined {piece} {before} {between} {after} {old} {mid} {new} n m one two = record {
   taken = one.taken ++ two.taken;
@@ -48,7 +48,7 @@ joined {piece} {before} {between} {after} {old} {mid} {new} n m one two = record
       append_assoc text (take n piece) (take m (drop n piece)) ∙ ap (λ t. text ++ t) (sym (take-add n m piece)) in
       subst (λ ls. ReadsAs after ls (text ++ take (n + m) piece)) (append_assoc lines one.taken two.taken)
       (subst (λ t. ReadsAs after ((lines ++ one.taken) ++ two.taken) t) text_is (two.reads (lines ++ one.taken) (text ++ take n piece) (one.reads lines text h)));
-  stands = λ lines h. subst (λ ls. StandsFor new ls) (append_assoc lines one.taken two.taken) (two.stands (lines ++ one.taken) (one.stands lines h));
+  stands = λ lines h. subst (λ ls. ChecksAs new ls) (append_assoc lines one.taken two.taken) (two.stands (lines ++ one.taken) (one.stands lines h));
   none = two.none;
   net = two.net ∙ one.net;
   place = two.place;
@@ -57,7 +57,7 @@ joined {piece} {before} {between} {after} {old} {mid} {new} n m one two = record
   left = omega (arith, one.left, two.left);
 }
 
-takes_more : {piece : List ℕ} {before between after : Reading} {old mid new : Checking} (n m : ℕ) →
+takes_more : {piece : List ℕ} {before between after : CertReading} {old mid new : Checking} (n m : ℕ) →
     (0 < n → TakesAlong piece n before between old mid) → (n ≡ 0 → mid ≡ old) → (n ≡ 0 → between ≡ before) →
     TakesAlong (drop n piece) m between after mid new → TakesAlong piece (n + m) before after old new
 takes_more {piece} {before} {between} {after} {old} {mid} {new} zero m takes same same_reader it =
@@ -66,7 +66,7 @@ takes_more {piece} {before} {between} {after} {old} {mid} {new} zero m takes sam
 takes_more (suc n) m takes same same_reader it = joined (suc n) m (takes (omega arith)) it
 
 -- more lines are taken
-pub further : {piece : List ℕ} {used : ℕ} {before between after : Reading} {old mid new : Checking} (more : ℕ) →
+pub further : {piece : List ℕ} {used : ℕ} {before between after : CertReading} {old mid new : Checking} (more : ℕ) →
     IsRun piece used before between old mid → 0 < more → TakesAlong (drop used piece) more between after mid new →
     IsRun piece (used + more) before after old new
 further {piece} {used} {before} {between} {after} {old} {mid} {new} more h some it = record {
@@ -83,16 +83,16 @@ further {piece} {used} {before} {between} {after} {old} {mid} {new} more h some 
 }
 
 -- what is left of the piece after such lines
-pub record IsRest (piece rest : List ℕ) (before after : Reading) (old new : Checking) : Type 0 where
+pub record IsRest (piece rest : List ℕ) (before after : CertReading) (old new : Checking) : Type 0 where
   pub used : ℕ
   pub left : rest ≡ drop used piece
   pub long : used + length rest ≡ length piece
   pub run : IsRun piece used before after old new
 
-pub all_left : (piece : List ℕ) (reader : Reading) (checker : Checking) → IsRun piece 0 reader reader checker checker → IsRest piece piece reader reader checker checker
+pub all_left : (piece : List ℕ) (reader : CertReading) (checker : Checking) → IsRun piece 0 reader reader checker checker → IsRest piece piece reader reader checker checker
 all_left piece reader checker h = record { used = 0; left = refl; long = omega arith; run = h }
 
-pub less_left : {piece rest : List ℕ} {before between after : Reading} {old mid new : Checking} (more : ℕ) →
+pub less_left : {piece rest : List ℕ} {before between after : CertReading} {old mid new : Checking} (more : ℕ) →
     IsRest piece rest before between old mid → 0 < more → TakesAlong rest more between after mid new →
     IsRest piece (drop more rest) before after old new
 less_left {piece} {rest} {before} {between} {after} {old} {mid} {new} more h some it = record {
@@ -103,5 +103,5 @@ less_left {piece} {rest} {before} {between} {after} {old} {mid} {new} more h som
 }
 
 -- this many bytes were used
-pub used_is : {piece rest : List ℕ} {before after : Reading} {old new : Checking} → (h : IsRest piece rest before after old new) → h.used ≡ length piece - length rest
+pub used_is : {piece rest : List ℕ} {before after : CertReading} {old new : Checking} → (h : IsRest piece rest before after old new) → h.used ≡ length piece - length rest
 used_is {piece} {rest} h = omega (arith, h.long)

@@ -9,7 +9,7 @@ use Rattle.pc_crash.specs.Priced.{PricedNetwork}
 use Rattle.pc_check.specs.declared.cut.Cut.{Cut}
 use Rattle.pc_check.specs.declared.fast.event_rows.EndEvents.{EndEvents}
 use Rattle.pc_check.specs.declared.kept.Kept.{Kept}
-use Rattle.pc_check.specs.inside.Advances.{Adds}
+use Rattle.pc_check.specs.inside.Advances.{AddsToKept}
 use Rattle.pc_check.specs.inside.Checking.{Checking}
 use Rattle.pc_check.specs.Conditions.{conditions}
 use Rattle.pc_check.specs.Failures.{first_failing}
@@ -23,7 +23,7 @@ pub record AddsLine (net : PricedNetwork) (piece : List ℕ) (count : ℕ) (befo
   pub again : IsAgain (Some line) piece count
   pub goes : next before line ≡ Some after
   pub none : first_failing (conditions net (known_by old) line) ≡ None
-  pub adds : Adds net line old new
+  pub adds : AddsToKept net line old new
 
 -- the state after `a` activities, with this cut
 abbrev pub across_at : Kept → ℕ → Cut → Kept
@@ -34,6 +34,6 @@ abbrev pub going : PricedNetwork → Kept → Checking
 going net kept = record { net = net; kept = kept; fail = None }
 
 -- the start and the end are those of the network
-pub record AreEnds (net : PricedNetwork) (ends : EndEvents) : Type 0 where
+pub record AreNetworkEnds (net : PricedNetwork) (ends : EndEvents) : Type 0 where
   pub start : ends.start ≡ net.network.start
   pub last : ends.end ≡ net.network.end

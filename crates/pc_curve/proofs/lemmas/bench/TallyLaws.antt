@@ -20,7 +20,7 @@ use Rattle.pc_flow.specs.declared.early.TheConstants.{MAX_LENGTH}
 use Rattle.pc_curve.specs.Points.{curve_in}
 use Rattle.pc_curve.specs.declared.bench.figures.CurveTally.{CurveTally}
 use Rattle.pc_curve.specs.bench.Figures.{HasBreaks, IsSumOfCosts}
-use Rattle.pc_curve.specs.inside.bench.Tallies.{IsSmall, costs_below, first_tally, most_cost, next_tally}
+use Rattle.pc_curve.specs.inside.bench.Tallies.{IsSmallSegment, costs_below, first_tally, most_cost, next_tally}
 use Rattle.pc_model.proofs.Sums.{sum_to-most}
 use Rattle.pc_curve.proofs.lemmas.bench.SumLaws.{costs-on, least-on, total-on}
 use Rattle.pc_curve.proofs.lemmas.bench.CountLaws.{last-slope, corners-push, slope-push, all-points, one-point}
@@ -42,7 +42,7 @@ pub record IsTallied (net : PricedNetwork) (longest shortest : ℕ) (c : Course)
   pub apart : shortest < lower_of c → lower_of c < longest
   pub alone : longest ≤ lower_of c → rest ≡ []
   pub on : LiesOn (curve_in net) (present c)
-  pub numbers : IsSmall (present c)
+  pub numbers : IsSmallSegment (present c)
   pub slope : t.slope ≡ last-slope first rest
   pub breaks : t.breaks ≡ length (corners_of (first ∷ rest))
   pub few : t.breaks + lower_of c ≤ longest + 1
@@ -54,7 +54,7 @@ at_most_one true = omega arith
 at_most_one false = omega arith
 
 -- a bound on the costs of a segment's lengths below its upper end
-pub below-small : (seg : Segment) → IsSmall seg → costs_below seg ≤ span seg * most_cost
+pub below-small : (seg : Segment) → IsSmallSegment seg → costs_below seg ≤ span seg * most_cost
 below-small seg numbers =
     sum_to-most (span seg) most_cost (λ k. cost_for seg (seg.upper - (k + 1)))
     (λ k inside.
@@ -80,7 +80,7 @@ module _ (net : PricedNetwork) (priced : IsPriced net.network net.terms (knees_i
     ordered_next : (present d).lower ≤ (present d).upper
     ordered_next = whole_next.right.proper.ordered
 
-    numbers_next : (present d).upper ≤ longest → IsSmall (present d)
+    numbers_next : (present d).upper ≤ longest → IsSmallSegment (present d)
     numbers_next below = record {
       cost = next.small.cost;
       slope = next.small.slope;
@@ -175,7 +175,7 @@ module _ (net : PricedNetwork) (priced : IsPriced net.network net.terms (knees_i
       pub tally-lower : lower_of d < lower_of c
       tally-lower = omega (arith, long, joined)
 
-      pub tally-numbers : IsSmall (present d)
+      pub tally-numbers : IsSmallSegment (present d)
       tally-numbers = numbers_next below_top
 
       next-sum : IsSumOfCosts (curve_in net) (lower_of d) longest (t.sum + costs_below (present d))

@@ -22,7 +22,7 @@ next_tally tally seg = record {
 }
 
 -- the numbers of a segment are so small that sums of costs fit
-pub record IsSmall (seg : Segment) : Type 0 where
+pub record IsSmallSegment (seg : Segment) : Type 0 where
   pub cost : seg.cost < 10 ^ 18
   pub slope : seg.slope < 10 ^ 18
   pub upper : seg.upper ≤ MAX_LENGTH
@@ -33,6 +33,6 @@ abbrev pub most_cost : ℕ
 most_cost = 2 * 10 ^ 27
 
 -- a tally has capacity for another segment
-pub record HasRoomFor (tally : CurveTally) (seg : Segment) : Type 0 where
+pub record CanTakeSegment (tally : CurveTally) (seg : Segment) : Type 0 where
   pub breaks : tally.breaks ≤ MAX_LENGTH + 1
   pub sum : tally.sum ≤ MAX_LENGTH * most_cost + most_cost

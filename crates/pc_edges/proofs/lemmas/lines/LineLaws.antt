@@ -4,7 +4,7 @@ use Rattle.std.proofs.lemmas.Bool.{eqb-true, eqb-false, ne_eqb}
 use Rattle.std.specs.Prelude.{◌==◌}
 use Rattle.pc_text.specs.Fields.{run_len}
 use Rattle.pc_edges.specs.lines.Lines.{lines_behind, whole_lines, open_behind, last_line, lines_of}
-use Rattle.pc_edges.specs.inside.lines.Lines.{text_of, IsOpen, AreOpen}
+use Rattle.pc_edges.specs.inside.lines.Lines.{text_of_lines, IsOpen, AreOpen}
 
 -- ---- where lines end
 
@@ -38,10 +38,10 @@ IsOpen-append (b ∷ front) back p q = (p.0, IsOpen-append front back (p.1) q)
 
 -- ---- texts of lines
 
-pub text_of-more : (lines : List (List ℕ)) (line : List ℕ) → text_of (lines ++ line ∷ []) ≡ text_of lines ++ (line ++ 10 ∷ [])
-text_of-more [] line = refl
-text_of-more (first ∷ lines) line =
-    ap (λ rest. first ++ 10 ∷ rest) (text_of-more lines line) ∙ sym (append_assoc first (10 ∷ text_of lines) (line ++ 10 ∷ []))
+pub text_of_lines-more : (lines : List (List ℕ)) (line : List ℕ) → text_of_lines (lines ++ line ∷ []) ≡ text_of_lines lines ++ (line ++ 10 ∷ [])
+text_of_lines-more [] line = refl
+text_of_lines-more (first ∷ lines) line =
+    ap (λ rest. first ++ 10 ∷ rest) (text_of_lines-more lines line) ∙ sym (append_assoc first (10 ∷ text_of_lines lines) (line ++ 10 ∷ []))
 
 pub AreOpen-more : (lines : List (List ℕ)) (line : List ℕ) → AreOpen lines → IsOpen line → AreOpen (lines ++ line ∷ [])
 AreOpen-more [] line p q = (q, tt)
@@ -66,40 +66,40 @@ open_behind-open front (b ∷ back) p =
     rw (ne_eqb b 10 (p.0)) (open_behind-open (front ++ b ∷ []) back (p.1) ∙ append_assoc front (b ∷ []) back)
 
 -- the complete lines of a text of lines and of a rest in which no line ends are these lines
-pub whole_lines-are : (lines : List (List ℕ)) (rest : List ℕ) → AreOpen lines → IsOpen rest → whole_lines (text_of lines ++ rest) ≡ lines
+pub whole_lines-are : (lines : List (List ℕ)) (rest : List ℕ) → AreOpen lines → IsOpen rest → whole_lines (text_of_lines lines ++ rest) ≡ lines
 whole_lines-are [] rest p q = lines_behind-open [] rest q
 whole_lines-are (line ∷ lines) rest p q =
-    ap (lines_behind []) (append_assoc line (10 ∷ text_of lines) rest)
-    ∙ lines_behind-end [] line (text_of lines ++ rest) (p.0)
+    ap (lines_behind []) (append_assoc line (10 ∷ text_of_lines lines) rest)
+    ∙ lines_behind-end [] line (text_of_lines lines ++ rest) (p.0)
     ∙ ap (λ others. line ∷ others) (whole_lines-are lines rest (p.1) q)
 
-open_line-is : (lines : List (List ℕ)) (rest : List ℕ) → AreOpen lines → IsOpen rest → open_behind [] (text_of lines ++ rest) ≡ rest
+open_line-is : (lines : List (List ℕ)) (rest : List ℕ) → AreOpen lines → IsOpen rest → open_behind [] (text_of_lines lines ++ rest) ≡ rest
 open_line-is [] rest p q = open_behind-open [] rest q
 open_line-is (line ∷ lines) rest p q =
-    ap (open_behind []) (append_assoc line (10 ∷ text_of lines) rest)
-    ∙ open_behind-end [] line (text_of lines ++ rest) (p.0)
+    ap (open_behind []) (append_assoc line (10 ∷ text_of_lines lines) rest)
+    ∙ open_behind-end [] line (text_of_lines lines ++ rest) (p.0)
     ∙ open_line-is lines rest (p.1) q
 
 -- and all its lines are these and the rest, where it is not empty
-pub lines_of-are : (lines : List (List ℕ)) (rest : List ℕ) → AreOpen lines → IsOpen rest → lines_of (text_of lines ++ rest) ≡ lines ++ last_line rest
+pub lines_of-are : (lines : List (List ℕ)) (rest : List ℕ) → AreOpen lines → IsOpen rest → lines_of (text_of_lines lines ++ rest) ≡ lines ++ last_line rest
 lines_of-are lines rest p q = rw (whole_lines-are lines rest p q, open_line-is lines rest p q) refl
 
 -- lines at the front of a text are its first lines, however the text continues
-pub whole_lines-front : (lines : List (List ℕ)) (rest : List ℕ) → AreOpen lines → whole_lines (text_of lines ++ rest) ≡ lines ++ whole_lines rest
+pub whole_lines-front : (lines : List (List ℕ)) (rest : List ℕ) → AreOpen lines → whole_lines (text_of_lines lines ++ rest) ≡ lines ++ whole_lines rest
 whole_lines-front [] rest p = refl
 whole_lines-front (line ∷ lines) rest p =
-    ap (lines_behind []) (append_assoc line (10 ∷ text_of lines) rest)
-    ∙ lines_behind-end [] line (text_of lines ++ rest) (p.0)
+    ap (lines_behind []) (append_assoc line (10 ∷ text_of_lines lines) rest)
+    ∙ lines_behind-end [] line (text_of_lines lines ++ rest) (p.0)
     ∙ ap (λ others. line ∷ others) (whole_lines-front lines rest (p.1))
 
-open_line-front : (lines : List (List ℕ)) (rest : List ℕ) → AreOpen lines → open_behind [] (text_of lines ++ rest) ≡ open_behind [] rest
+open_line-front : (lines : List (List ℕ)) (rest : List ℕ) → AreOpen lines → open_behind [] (text_of_lines lines ++ rest) ≡ open_behind [] rest
 open_line-front [] rest p = refl
 open_line-front (line ∷ lines) rest p =
-    ap (open_behind []) (append_assoc line (10 ∷ text_of lines) rest)
-    ∙ open_behind-end [] line (text_of lines ++ rest) (p.0)
+    ap (open_behind []) (append_assoc line (10 ∷ text_of_lines lines) rest)
+    ∙ open_behind-end [] line (text_of_lines lines ++ rest) (p.0)
     ∙ open_line-front lines rest (p.1)
 
-pub lines_of-front : (lines : List (List ℕ)) (rest : List ℕ) → AreOpen lines → lines_of (text_of lines ++ rest) ≡ lines ++ lines_of rest
+pub lines_of-front : (lines : List (List ℕ)) (rest : List ℕ) → AreOpen lines → lines_of (text_of_lines lines ++ rest) ≡ lines ++ lines_of rest
 lines_of-front lines rest p =
     rw (whole_lines-front lines rest p, open_line-front lines rest p) (append_assoc lines (whole_lines rest) (last_line (open_behind [] rest)))
 

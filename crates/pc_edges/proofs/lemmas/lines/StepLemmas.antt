@@ -11,10 +11,10 @@ use Rattle.pc_edges.specs.declared.loading.TheConstants.{STREAM_ROOM}
 use Rattle.pc_edges.proofs.PullLaws.{CameIn-more}
 use Rattle.pc_edges.specs.declared.lines.reader.TheConstants.{INPUT_LIMIT, LINE_ROOM}
 use Rattle.pc_edges.specs.lines.Lines.{last_line, lines_of, whole_lines}
-use Rattle.pc_edges.specs.inside.lines.Lines.{text_of, IsOpen, AreOpen}
+use Rattle.pc_edges.specs.inside.lines.Lines.{text_of_lines, IsOpen, AreOpen}
 use Rattle.pc_edges.specs.inside.lines.Reading.{Reading, kept, StandsFor, bytes_left, TookAll, TookLine, IsFilled, HasPulled, no_pull, some_pulls, Gave, GaveLast, GaveAll, FailedBehind, PassedLimit}
 use Rattle.pc_edges.proofs.lemmas.lines.HoldLemmas.{take-of_cut}
-use Rattle.pc_edges.proofs.lemmas.lines.LineLaws.{line-splits, line-open, IsOpen-append, text_of-more, AreOpen-more, whole_lines-are, lines_of-are, last_line-some}
+use Rattle.pc_edges.proofs.lemmas.lines.LineLaws.{line-splits, line-open, IsOpen-append, text_of_lines-more, AreOpen-more, whole_lines-are, lines_of-are, last_line-some}
 
 -- ---- what is taken of the bytes ahead
 
@@ -54,7 +54,7 @@ pub record IsWithin (lines : List (List ℕ)) (bytes : List ℕ) (left left_now 
   pub part : List ℕ
   pub more : List ℕ
   pub taken : Consumes left left_now more
-  pub whole : take INPUT_LIMIT (bytes ++ more) ≡ text_of lines ++ (part ++ reading.ahead)
+  pub whole : take INPUT_LIMIT (bytes ++ more) ≡ text_of_lines lines ++ (part ++ reading.ahead)
   pub ends : AreOpen lines
   pub no_end : IsOpen part
   pub is : reading.line ≡ kept part
@@ -66,7 +66,7 @@ begins {lines} {bytes} left start now h is = record {
   part = [];
   more = [];
   taken = Consumes-nil left;
-  whole = ap (take INPUT_LIMIT) (append-nil bytes) ∙ h.whole ∙ ap (λ l. text_of lines ++ l) (sym (ap (λ (r : Reading). r.ahead) is));
+  whole = ap (take INPUT_LIMIT) (append-nil bytes) ∙ h.whole ∙ ap (λ l. text_of_lines lines ++ l) (sym (ap (λ (r : Reading). r.ahead) is));
   ends = h.ends;
   no_end = tt;
   is = ap (λ (r : Reading). r.line) is;
@@ -106,10 +106,10 @@ gives {lines = lines} {bytes = bytes} {old = old} new front u took =
       stands = record {
         whole =
             h.whole
-            ∙ ap (λ l. text_of lines ++ (h.part ++ l)) took.split
-            ∙ ap (λ l. text_of lines ++ l) (sym (append_assoc h.part front (10 ∷ new.ahead)) ∙ sym (append_assoc line (10 ∷ []) new.ahead))
-            ∙ sym (append_assoc (text_of lines) (line ++ 10 ∷ []) new.ahead)
-            ∙ ap (λ l. l ++ new.ahead) (sym (text_of-more lines line));
+            ∙ ap (λ l. text_of_lines lines ++ (h.part ++ l)) took.split
+            ∙ ap (λ l. text_of_lines lines ++ l) (sym (append_assoc h.part front (10 ∷ new.ahead)) ∙ sym (append_assoc line (10 ∷ []) new.ahead))
+            ∙ sym (append_assoc (text_of_lines lines) (line ++ 10 ∷ []) new.ahead)
+            ∙ ap (λ l. l ++ new.ahead) (sym (text_of_lines-more lines line));
         ends = AreOpen-more lines line h.ends (IsOpen-append h.part front h.no_end took.no_end);
         count = took.same ∙ h.count;
       };
@@ -122,7 +122,7 @@ goes_on {lines} {old = old} new h took = record {
   part = h.part ++ old.ahead;
   more = h.more;
   taken = h.taken;
-  whole = h.whole ∙ ap (λ l. text_of lines ++ l) (sym (append-nil (h.part ++ old.ahead)) ∙ ap (λ l. (h.part ++ old.ahead) ++ l) (sym took.nothing));
+  whole = h.whole ∙ ap (λ l. text_of_lines lines ++ l) (sym (append-nil (h.part ++ old.ahead)) ∙ ap (λ l. (h.part ++ old.ahead) ++ l) (sym took.nothing));
   ends = h.ends;
   no_end = IsOpen-append h.part old.ahead h.no_end took.no_end;
   is = took.kept_is ∙ ap (λ l. kept (l ++ old.ahead)) h.is ∙ take-of_cut LINE_ROOM h.part old.ahead;
@@ -142,9 +142,10 @@ within_limit limit bytes more fits =
 
 -- all bytes that were pulled are within the limit, and nothing is ahead
 short_whole : {lines : List (List ℕ)} {bytes : List ℕ} {left left_now : Option (List ℕ)} {reading : Reading} (h : IsWithin lines bytes left left_now reading)
-    → reading.ahead ≡ [] → reading.taken ≤ INPUT_LIMIT → bytes ++ h.more ≡ text_of lines ++ h.part
+    → reading.ahead ≡ [] → reading.taken ≤ INPUT_LIMIT → bytes ++ h.more ≡ text_of_lines lines ++ h.part
 short_whole {lines} {bytes} h nothing fits =
-    sym (take_all INPUT_LIMIT (bytes ++ h.more) (omega (arith, h.count, fits))) ∙ h.whole ∙ ap (λ l. text_of lines ++ (h.part ++ l)) nothing ∙ ap (λ l. text_of lines ++ l) (append-nil h.part)
+    sym (take_all INPUT_LIMIT (bytes ++ h.more) (omega (arith, h.count, fits))) ∙ h.whole ∙ ap (λ l. text_of_lines lines ++ (h.part ++ l)) nothing ∙ ap (λ l. text_of_lines lines ++ l)
+    (append-nil h.part)
 
 -- the next bytes are pulled
 pub fills : {lines : List (List ℕ)} {bytes : List ℕ} {left left_now : Option (List ℕ)} (left_after : Option (List ℕ)) {old : Reading} (new : Reading) (count : ℕ)
@@ -162,7 +163,7 @@ fills {lines} {bytes} left_after {old} new count h nothing fits f =
           ∙ ap (λ n. all ++ take (INPUT_LIMIT - n) f.more) (sym h.count)
           ∙ ap (λ l. all ++ l) (sym f.ahead)
           ∙ ap (λ l. l ++ new.ahead) (short_whole h nothing fits)
-          ∙ append_assoc (text_of lines) h.part new.ahead;
+          ∙ append_assoc (text_of_lines lines) h.part new.ahead;
       ends = h.ends;
       no_end = h.no_end;
       is = f.same ∙ h.is;
@@ -255,7 +256,7 @@ passes {lines = lines} {bytes = bytes} u nothing long =
       pulled = u.pulled;
       long = omega (arith, h.count, long);
       all =
-          ap whole_lines (h.whole ∙ ap (λ l. text_of lines ++ (h.part ++ l)) nothing ∙ ap (λ l. text_of lines ++ l) (append-nil h.part))
+          ap whole_lines (h.whole ∙ ap (λ l. text_of_lines lines ++ (h.part ++ l)) nothing ∙ ap (λ l. text_of_lines lines ++ l) (append-nil h.part))
           ∙ whole_lines-are lines h.part h.ends h.no_end;
     }
 

@@ -3,9 +3,9 @@
 use Rattle.std.specs.Prelude.{ℕ, ◌≢◌, List, [], ◌∷◌, ◌++◌}
 
 -- the text of lines that have an end
-abbrev pub text_of : List (List ℕ) → List ℕ
-text_of [] = []
-text_of (line ∷ lines) = line ++ 10 ∷ text_of lines
+abbrev pub text_of_lines : List (List ℕ) → List ℕ
+text_of_lines [] = []
+text_of_lines (line ∷ lines) = line ++ 10 ∷ text_of_lines lines
 
 -- no line ends in the bytes
 abbrev pub IsOpen : List ℕ → Type 0

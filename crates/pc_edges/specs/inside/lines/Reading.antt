@@ -10,7 +10,7 @@ use Rattle.pc_edges.specs.declared.lines.reader.LineError.{LineError}
 use Rattle.pc_edges.specs.declared.lines.reader.LineError.TheVariants.{ReadFault, TooLong}
 use Rattle.pc_edges.specs.declared.lines.reader.TheConstants.{INPUT_LIMIT, LINE_ROOM}
 use Rattle.pc_edges.specs.lines.Lines.{whole_lines, lines_of}
-use Rattle.pc_edges.specs.inside.lines.Lines.{text_of, IsOpen, AreOpen}
+use Rattle.pc_edges.specs.inside.lines.Lines.{text_of_lines, IsOpen, AreOpen}
 
 -- what contracts see of a reader: the line that it gave last, as far as it stores it; the bytes that were pulled, are
 -- within the limit and were not given yet; and how many bytes were pulled
@@ -25,7 +25,7 @@ kept line = take LINE_ROOM line
 
 -- the bytes were pulled, and those of them within the limit are the lines that were given and the bytes ahead
 pub record StandsFor (reading : Reading) (lines : List (List ℕ)) (bytes : List ℕ) : Type 0 where
-  pub whole : take INPUT_LIMIT bytes ≡ text_of lines ++ reading.ahead
+  pub whole : take INPUT_LIMIT bytes ≡ text_of_lines lines ++ reading.ahead
   pub ends : AreOpen lines
   pub count : reading.taken ≡ length bytes
 

@@ -6,7 +6,7 @@ use Rattle.pc_model.specs.Network.{Network}
 use Rattle.pc_flow.specs.board.Sheets.{Sheet, kept_time, time_of, rank_of, flow_of}
 use Rattle.pc_flow.specs.inside.board.Sheets.{queue_of, step_of, against_of, near_of, room_of}
 use Rattle.pc_flow.specs.inside.board.Moves.{EntersAt, way_number}
-use Rattle.pc_flow.specs.inside.board.Labelling.{HasStep, IsRanked, IsRankedBack, HaveSteps, HaveRoom, AreTimes, AreJoined}
+use Rattle.pc_flow.specs.inside.board.Labelling.{HasStep, IsRanked, IsRankedBack, HaveSteps, HaveRoom, AreStoredTimes, AreJoined}
 use Rattle.pc_flow.proofs.lemmas.board.AfterPruning.{time-labelled, time-unlabelled}
 use Rattle.pc_flow.proofs.lemmas.board.RoomLaws.{room-left}
 
@@ -49,7 +49,7 @@ module _ (net : Network) (s t : Sheet) (e a : ℕ) (against : Bool) (near room :
   entered-kept f labelled = entered.rank_off f (other f labelled)
 
   -- no event's time has changed
-  pub entered-time : AreTimes s → (f : ℕ) → f < s.events → time_of t f ≡ time_of s f
+  pub entered-time : AreStoredTimes s → (f : ℕ) → f < s.events → time_of t f ≡ time_of s f
   entered-time times f known =
       elim (cases_eq f e) [
         | inl same ↦
@@ -74,7 +74,7 @@ module _ (net : Network) (s t : Sheet) (e a : ℕ) (against : Bool) (near room :
             ]
       ]
 
-  pub entered-times : AreTimes s → AreTimes t
+  pub entered-times : AreStoredTimes s → AreStoredTimes t
   entered-times times = record {
     deep = λ f known none. elim (cases_eq f e) [
       | inl same ↦ absurd (omega (arith, none, ap (rank_of t) same, entered.rank_at))

@@ -5,8 +5,8 @@ use Rattle.std.specs.Prelude.{nat_lt}
 use Rattle.pc_model.specs.Network.{Network}
 use Rattle.pc_flow.specs.board.Sheets.{Sheet, kept_time, time_of, rank_of, flow_of}
 use Rattle.pc_flow.specs.inside.board.Sheets.{queue_of, step_of, against_of, near_of, room_of}
-use Rattle.pc_flow.specs.inside.board.Labelling.{HasStep, IsRanked, IsRankedBack, HaveSteps, HaveRoom, AreTimes, IsFor, AreJoined}
-use Rattle.pc_flow.specs.inside.board.Pruning.{IsKept, IsSorted, IsPruned}
+use Rattle.pc_flow.specs.inside.board.Labelling.{HasStep, IsRanked, IsRankedBack, HaveSteps, HaveRoom, AreStoredTimes, IsFor, AreJoined}
+use Rattle.pc_flow.specs.inside.board.Pruning.{KeepsLabel, IsSorted, IsPruned}
 
 -- the time of an event with a label, and of one without
 pub time-labelled : (s : Sheet) (e : ℕ) → 0 < rank_of s e → time_of s e ≡ kept_time s e
@@ -48,7 +48,7 @@ module _ (s t : Sheet) (gone : ℕ) (ranked : IsRanked s) (pruned : IsPruned s t
         | inr none ↦ absurd (omega (arith, sorted.unlabelled e ke (omega arith), labelled))
       ]
 
-  pub pruned-kept : (e : ℕ) → e < s.events → 0 < rank_of t e → IsKept s t t.count e
+  pub pruned-kept : (e : ℕ) → e < s.events → 0 < rank_of t e → KeepsLabel s t t.count e
   pruned-kept e ke labelled =
       elim (sorted.fates e ke (pruned-had e ke labelled) (ranked.within e ke)) [
         | inl is ↦ is
@@ -148,7 +148,7 @@ module _ (s t : Sheet) (gone : ℕ) (ranked : IsRanked s) (pruned : IsPruned s t
             )
       ]
 
-  pub pruned-times : AreTimes s → AreTimes t
+  pub pruned-times : AreStoredTimes s → AreStoredTimes t
   pruned-times times = record {
     deep = λ e known none. deep e (omega (arith, known, events-same)) none;
     fits = λ e known. let ke : e < s.events = omega (arith, known, events-same) in omega (arith, pruned-time e ke, fallen-same, times.fits e ke);

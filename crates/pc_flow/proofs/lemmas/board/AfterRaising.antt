@@ -4,8 +4,8 @@ use Rattle.std.proofs.lemmas.Bool.{cases_eq, cases_lt}
 use Rattle.pc_model.specs.Network.{Network}
 use Rattle.pc_flow.specs.board.Sheets.{Sheet, time_of, rank_of, flow_of}
 use Rattle.pc_flow.specs.inside.board.Sheets.{queue_of, step_of, against_of, room_of}
-use Rattle.pc_flow.specs.inside.board.Labelling.{HasStep, IsRanked, IsRankedBack, HaveSteps, AreTimes, IsFor, AreJoined, HaveRoom}
-use Rattle.pc_flow.specs.inside.board.Raising.{event_back, IsOffWay, IsStepTaken, IsRaising, IsLeast, IsRaisedBy, StandFirst}
+use Rattle.pc_flow.specs.inside.board.Labelling.{HasStep, IsRanked, IsRankedBack, HaveSteps, AreStoredTimes, IsFor, AreJoined, HaveRoom}
+use Rattle.pc_flow.specs.inside.board.Raising.{event_back, IsOffWay, IsStepTaken, IsRaisedBack, IsLeast, IsRaisedBy, StandFirst}
 use Rattle.pc_flow.proofs.lemmas.board.RaisingLaws.{way-both}
 
 -- an event is on the way, or it is not
@@ -34,7 +34,7 @@ pub record IsChangedBy (s t : Sheet) (by a f : ℕ) : Type 0 where
   pub against : 0 < against_of s f → flow_of t a + by ≡ flow_of s a
 
 module _ (s t : Sheet) (end by k : ℕ) (steps : HaveSteps s) (raised : IsRaisedBy s t end by k) where
-  abbrev raising : IsRaising s t end by k (queue_of s 0)
+  abbrev raising : IsRaisedBack s t end by k (queue_of s 0)
   raising = raised.raising
 
   rest : t ≡ record s { room = t.room; flow = t.flow; up = t.up; down = t.down }
@@ -136,8 +136,8 @@ module _ (s t : Sheet) (end by k : ℕ) (steps : HaveSteps s) (raised : IsRaised
   pub raised-back : IsRankedBack s → IsRankedBack t
   raised-back back = subst IsRankedBack (sym rest) (record { known = back.known; labelled = back.labelled; before = back.before })
 
-  pub raised-times : AreTimes s → AreTimes t
-  raised-times times = subst AreTimes (sym rest) (record { deep = times.deep; fits = times.fits })
+  pub raised-times : AreStoredTimes s → AreStoredTimes t
+  raised-times times = subst AreStoredTimes (sym rest) (record { deep = times.deep; fits = times.fits })
 
   pub raised-time : (e : ℕ) → time_of t e ≡ time_of s e
   raised-time e = ap (λ (v : Sheet). time_of v e) rest

@@ -8,7 +8,7 @@ use Rattle.pc_flow.specs.inside.board.Sheets.{queue_of, near_of, room_of, lost_o
 use Rattle.pc_flow.specs.inside.board.Moves.{KeepsAt, LosesAt}
 use Rattle.pc_flow.specs.inside.board.Labelling.{HasStep, IsRanked, IsRankedBack}
 use Rattle.pc_flow.specs.inside.board.Raising.{StandFirst}
-use Rattle.pc_flow.specs.inside.board.Pruning.{IsKept, IsLost, IsSorted, IsPruned}
+use Rattle.pc_flow.specs.inside.board.Pruning.{KeepsLabel, IsLost, IsSorted, IsPruned}
 
 -- what holds of a board while its queue is looked at
 pub record IsPruning (s t : Sheet) (i kept gone seen : ℕ) : Type 0 where
@@ -139,7 +139,7 @@ module _ (s t : Sheet) (i kept gone seen : ℕ) (ranked : IsRanked s) (back : Is
     lost-on : (k : ℕ) → lost_of u k ≡ lost_of t k
     lost-on k = ap (λ (v : Sheet). lost_of v k) moved.rest
 
-    kept-still : (e : ℕ) → e < s.events → rank_of s e ≤ i → IsKept s t kept e → IsKept s u (kept + 1) e
+    kept-still : (e : ℕ) → e < s.events → rank_of s e ≤ i → KeepsLabel s t kept e → KeepsLabel s u (kept + 1) e
     kept-still e ke early is =
         let same : rank_of u e ≡ rank_of t e = moved.rank_off e (earlier-apart e early) in
         record {
@@ -166,7 +166,7 @@ module _ (s t : Sheet) (i kept gone seen : ℕ) (ranked : IsRanked s) (back : Is
       ];
     }
 
-    kept-here : IsKept s u (kept + 1) next
+    kept-here : KeepsLabel s u (kept + 1) next
     kept-here = record {
       labelled = omega (arith, moved.rank_at);
       within = omega (arith, moved.rank_at);
@@ -176,12 +176,12 @@ module _ (s t : Sheet) (i kept gone seen : ℕ) (ranked : IsRanked s) (back : Is
       near = λ has_step. omega (arith, moved.rank_off (near_of s next) near-apart, near);
     }
 
-    fates : (e : ℕ) → e < s.events → 0 < rank_of s e → rank_of s e ≤ i + 1 → IsKept s u (kept + 1) e ⊎ IsLost s u gone e
+    fates : (e : ℕ) → e < s.events → 0 < rank_of s e → rank_of s e ≤ i + 1 → KeepsLabel s u (kept + 1) e ⊎ IsLost s u gone e
     fates e ke labelled within =
         elim (cases_lt i (rank_of s e)) [
           | inl after ↦
               let at : e ≡ next = here-at e ke (omega arith) in
-              subst (λ f. IsKept s u (kept + 1) f ⊎ IsLost s u gone f) (sym at) (inl kept-here)
+              subst (λ f. KeepsLabel s u (kept + 1) f ⊎ IsLost s u gone f) (sym at) (inl kept-here)
           | inr early ↦ elim (sorted.fates e ke labelled early) [ inl is ↦ inl (kept-still e ke early is) | inr is ↦ inr (lost-still e ke early is) ]
         ]
 
@@ -300,7 +300,7 @@ module _ (s t : Sheet) (i kept gone seen : ℕ) (ranked : IsRanked s) (back : Is
     losing-rank-early : (e : ℕ) → rank_of s e ≤ i → rank_of u e ≡ rank_of t e
     losing-rank-early e early = moved.rank_off e (earlier-apart e early)
 
-    losing-kept-still : (e : ℕ) → e < s.events → rank_of s e ≤ i → IsKept s t kept e → IsKept s u kept e
+    losing-kept-still : (e : ℕ) → e < s.events → rank_of s e ≤ i → KeepsLabel s t kept e → KeepsLabel s u kept e
     losing-kept-still e ke early is =
         let same : rank_of u e ≡ rank_of t e = losing-rank-early e early in
         record {
@@ -337,12 +337,12 @@ module _ (s t : Sheet) (i kept gone seen : ℕ) (ranked : IsRanked s) (back : Is
       why = elim why [ inl no_room ↦ inl no_room | inr no_label ↦ inr (moved.rank_off (near_of s next) near-apart ∙ no_label) ];
     }
 
-    losing-fates : (e : ℕ) → e < s.events → 0 < rank_of s e → rank_of s e ≤ i + 1 → IsKept s u kept e ⊎ IsLost s u (gone + 1) e
+    losing-fates : (e : ℕ) → e < s.events → 0 < rank_of s e → rank_of s e ≤ i + 1 → KeepsLabel s u kept e ⊎ IsLost s u (gone + 1) e
     losing-fates e ke labelled within =
         elim (cases_lt i (rank_of s e)) [
           | inl after ↦
               let at : e ≡ next = here-at e ke (omega arith) in
-              subst (λ f. IsKept s u kept f ⊎ IsLost s u (gone + 1) f) (sym at) (inr lost-here)
+              subst (λ f. KeepsLabel s u kept f ⊎ IsLost s u (gone + 1) f) (sym at) (inr lost-here)
           | inr early ↦ elim (sorted.fates e ke labelled early) [ inl is ↦ inl (losing-kept-still e ke early is) | inr is ↦ inr (losing-lost-still e ke early is) ]
         ]
 
@@ -492,7 +492,7 @@ module _ (s t : Sheet) (kept gone seen : ℕ) (pruning : IsPruning s t s.count k
   abbrev looked : IsSorted s t s.count kept gone seen
   looked = pruning.sorted
 
-  ending-fates : (e : ℕ) → e < s.events → 0 < rank_of s e → rank_of s e ≤ s.count → IsKept s cut kept e ⊎ IsLost s cut gone e
+  ending-fates : (e : ℕ) → e < s.events → 0 < rank_of s e → rank_of s e ≤ s.count → KeepsLabel s cut kept e ⊎ IsLost s cut gone e
   ending-fates e ke labelled within =
       elim (looked.fates e ke labelled within) [
         | inl is ↦ inl (record { labelled = is.labelled; within = is.within; placed = is.placed; time = is.time; room = is.room; near = is.near })

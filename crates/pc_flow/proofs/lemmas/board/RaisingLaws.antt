@@ -8,7 +8,7 @@ use Rattle.pc_flow.specs.board.Sheets.{Sheet, rank_of, flow_of}
 use Rattle.pc_flow.specs.inside.board.Sheets.{queue_of, step_of, against_of, near_of, room_of}
 use Rattle.pc_flow.specs.inside.board.Moves.{StepsBack}
 use Rattle.pc_flow.specs.inside.board.Labelling.{HasStep, IsRanked, IsRankedBack, HaveSteps, HaveRoom, IsFor, AreJoined}
-use Rattle.pc_flow.specs.inside.board.Raising.{event_back, IsWayBack, IsOffWay, IsStepTaken, IsRaising, IsLeastRoom, AreClear, IsRaisedBy}
+use Rattle.pc_flow.specs.inside.board.Raising.{event_back, IsWayBack, IsOffWay, IsStepTaken, IsRaisedBack, IsLeastRoom, AreClear, IsRaisedBy}
 
 -- no step leads back yet
 pub way-none : (s : Sheet) (e : ℕ) → e < s.events → IsWayBack s e 0 e
@@ -192,7 +192,7 @@ clear-above s e least standing k x small more leasting clear = record {
 
 -- The flows raised
 
-pub raising-begins : (s : Sheet) (e by : ℕ) → e < s.events → IsRaising s s e by 0 e
+pub raising-begins : (s : Sheet) (e by : ℕ) → e < s.events → IsRaisedBack s s e by 0 e
 raising-begins s e by known = record {
   way = way-none s e known;
   rest = refl;
@@ -203,7 +203,7 @@ raising-begins s e by known = record {
 }
 
 -- the board after some steps, and the next step on it
-module _ (s t : Sheet) (e by k x : ℕ) (back : IsRankedBack s) (steps : HaveSteps s) (has : HasStep s x) (raising : IsRaising s t e by k x) where
+module _ (s t : Sheet) (e by k x : ℕ) (back : IsRankedBack s) (steps : HaveSteps s) (has : HasStep s x) (raising : IsRaisedBack s t e by k x) where
   known : x < s.events
   known = way-known s e k x raising.way
 
@@ -301,7 +301,7 @@ module _ (s t : Sheet) (e by k x : ℕ) (back : IsRankedBack s) (steps : HaveSte
     rest : u ≡ record s { room = u.room; flow = u.flow; up = u.up; down = u.down }
     rest = reached ∙ ap (λ (v : Sheet). record s { room = v.room; flow = v.flow; up = v.up; down = v.down }) (sym reached)
 
-    pub raising-goes_on : IsRaising s u e by (suc k) (near_of s x)
+    pub raising-goes_on : IsRaisedBack s u e by (suc k) (near_of s x)
     raising-goes_on = record {
       way = way;
       rest = rest;
@@ -320,7 +320,7 @@ module _ (s t : Sheet) (e by k x : ℕ) (back : IsRankedBack s) (steps : HaveSte
     }
 
 pub raising-ends : (s t : Sheet) (e by k x m : ℕ) → IsRanked s → IsRankedBack s → HaveRoom s → HasStep s e → rank_of s x ≤ 1 → IsLeastRoom s e by m
-    → IsRaising s t e by k x → IsRaisedBy s t e by k
+    → IsRaisedBack s t e by k x → IsRaisedBy s t e by k
 raising-ends s t e by k x m ranked back room has last least raising = record {
   some = omega (arith, room.some (event_back s e least.met.0) (least.way.known least.met.0 (omega (arith, least.met.1))) (least.way.steps least.met.0 least.met.1), least.met.2);
   raising = record {

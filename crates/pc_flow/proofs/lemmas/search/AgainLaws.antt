@@ -26,7 +26,7 @@ use Rattle.pc_flow.proofs.lemmas.board.AfterPruning.{
 }
 use Rattle.pc_flow.specs.declared.search.way.Way.{Way}
 use Rattle.pc_flow.specs.declared.search.way.Way.TheVariants.{Along, Against}
-use Rattle.pc_flow.specs.inside.search.Searches.{MayCross, stair_at, gap_at, IsSearch, IsOnStairs, AreLed, IsSettled, grown_as}
+use Rattle.pc_flow.specs.inside.search.Searches.{MayCross, stair_at, gap_at, IsSearch, IsOnStairs, AreLed, IsSettledActivity, grown_as}
 use Rattle.pc_flow.specs.inside.search.Growing.{IsAtLost, degree, IsReached, IsScanned, IsMet, AreSettled, GoesOn, relabelled, HasLookedAgain}
 use Rattle.pc_flow.proofs.lemmas.search.KeptLaws.{with_list, waiting-kept, with_lengths, lengths-kept}
 use Rattle.pc_flow.proofs.lemmas.search.GrowingLaws.{met-was, met-reached, settled-grows}
@@ -160,7 +160,7 @@ module _ (net : PricedNetwork) (s u : Sheet) (gone : ℕ) (search : IsSearch net
 
   -- an activity is settled as before if no end of it lost its label
   settled-still : (a : ℕ) → a < length net.network.arcs → (rank_of u (from_of net.network.arcs a) ≡ 0 → rank_of s (from_of net.network.arcs a) ≡ 0)
-      → (rank_of u (to_of net.network.arcs a) ≡ 0 → rank_of s (to_of net.network.arcs a) ≡ 0) → IsSettled net s a → IsSettled net u a
+      → (rank_of u (to_of net.network.arcs a) ≡ 0 → rank_of s (to_of net.network.arcs a) ≡ 0) → IsSettledActivity net s a → IsSettledActivity net u a
   settled-still a known from to = settled-kept net s u a (flow a) (gap a known) was (λ had. omega (arith, had, slot-same a)) where
     was : (way : Way) → MayCross net u way a → MayCross net s way a
     was Along may = record {

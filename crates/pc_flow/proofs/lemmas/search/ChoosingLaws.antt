@@ -6,7 +6,7 @@ use Rattle.pc_flow.specs.board.Sheets.{Sheet}
 use Rattle.pc_flow.specs.inside.board.Sheets.{waiting_of, slot_of, due_of}
 use Rattle.pc_flow.specs.inside.board.Moves.{WaitsAt, GoesAt}
 use Rattle.pc_flow.specs.declared.search.way.Way.{Way}
-use Rattle.pc_flow.specs.inside.search.Searches.{lesser_at, greater_at, IsWaiting, IsPricedBoard, IsSearch, MayCross, IsQuiet}
+use Rattle.pc_flow.specs.inside.search.Searches.{lesser_at, greater_at, IsWaitingList, IsPricedBoard, IsSearch, MayCross, IsQuiet}
 use Rattle.pc_flow.specs.inside.search.Choosing.{StopsAt}
 use Rattle.pc_flow.proofs.lemmas.search.KeptLaws.{board-relisted}
 use Rattle.pc_flow.proofs.lemmas.search.WayLaws.{one-way}
@@ -81,7 +81,7 @@ module _ (net : PricedNetwork) (s t : Sheet) (rest : t ≡ relisted s t) where
   pub stops-relisted : (a n : ℕ) → StopsAt net t a n → StopsAt net s a n
   stops-relisted a n stops = stops-back a n (subst (λ v. StopsAt net v a n) rest stops)
 
-module _ (net : PricedNetwork) (s t u : Sheet) (i kept least a : ℕ) (waiting : IsWaiting s) (within : i < s.len) (on : IsChoosing net s t i kept least)
+module _ (net : PricedNetwork) (s t u : Sheet) (i kept least a : ℕ) (waiting : IsWaitingList s) (within : i < s.len) (on : IsChoosing net s t i kept least)
     (at : a ≡ waiting_of t i) where
   at-first : a ≡ waiting_of s i
   at-first = at ∙ on.later i (omega arith)

@@ -12,7 +12,7 @@ use Rattle.pc_flow.proofs.lemmas.board.AfterEntering.{IsNewStep, queue-room}
 use Rattle.pc_flow.specs.declared.search.way.Way.{Way}
 use Rattle.pc_flow.specs.declared.search.way.Way.TheVariants.{Along, Against}
 use Rattle.pc_flow.specs.inside.search.Ways.{near_in, far_in, goes_against}
-use Rattle.pc_flow.specs.inside.search.Searches.{stair_at, gap_at, lesser_at, greater_at, IsSearch, MayCross, StopsAfter, HasRoomAlong, HasRoomAgainst, StopsLater, IsVisited}
+use Rattle.pc_flow.specs.inside.search.Searches.{stair_at, gap_at, lesser_at, greater_at, IsSearch, MayCross, StopsAfterFall, HasRoomAlong, HasRoomAgainst, StopsLater, IsVisited}
 use Rattle.pc_flow.proofs.lemmas.search.MeasureLaws.{unit-along, unit-against}
 use Rattle.pc_flow.proofs.lemmas.search.WayLaws.{one-way, near-known, far-known, near-labelled, far-none}
 use Rattle.pc_flow.proofs.lemmas.search.VisitLaws.{visited-still, visited-waits}
@@ -23,7 +23,7 @@ module _ (net : PricedNetwork) (s : Sheet) (a : ℕ) (search : IsSearch net s) (
   activity = omega (arith, known, search.fits.activities)
 
   -- labels may cross it only the one way
-  pub stops-later : (way : Way) (after : ℕ) → MayCross net s way a → StopsAfter net s a way after → 0 < after → StopsLater net s a
+  pub stops-later : (way : Way) (after : ℕ) → MayCross net s way a → StopsAfterFall net s a way after → 0 < after → StopsLater net s a
   stops-later way after may stops some = λ other also.
       let same = one-way net s a other way also may in
       omega (arith, stops, some, ap (λ w. lesser_at net s w a) same, ap (λ w. greater_at net s w a) same)
@@ -43,7 +43,7 @@ module _ (net : PricedNetwork) (s : Sheet) (a : ℕ) (search : IsSearch net s) (
   HasUnit Along = HasRoomAlong net s a 1
   HasUnit Against = HasRoomAgainst net s a 1
 
-  unit : (way : Way) → MayCross net s way a → StopsAfter net s a way 0 → HasUnit way
+  unit : (way : Way) → MayCross net s way a → StopsAfterFall net s a way 0 → HasUnit way
   unit Along may stops = unit-along net s a known search.stairs stops
   unit Against may stops = unit-against net s a known search.stairs (may.flows refl) stops
 
@@ -80,7 +80,7 @@ module _ (net : PricedNetwork) (s : Sheet) (a : ℕ) (search : IsSearch net s) (
       back Along starts leads one is = cc
       back Against starts leads one is = (leads, starts, one.within)
 
-    pub crossed : (way : Way) (t : Sheet) → near_in net way a ≡ near → far_in net way a ≡ far → MayCross net s way a → StopsAfter net s a way 0
+    pub crossed : (way : Way) (t : Sheet) → near_in net way a ≡ near → far_in net way a ≡ far → MayCross net s way a → StopsAfterFall net s a way 0
         → EntersAt s t far a (goes_against way) near 1 → IsVisited net s t a
     crossed way t begins ends may stops entered =
         visited-enters net s t far a (goes_against way) near 1 search known (new way begins ends may has) entered (along way has) (back way has) room

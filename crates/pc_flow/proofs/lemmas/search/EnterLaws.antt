@@ -20,7 +20,7 @@ use Rattle.pc_flow.proofs.lemmas.board.AfterEntering.{
   entered-room,
   entered-joined,
 }
-use Rattle.pc_flow.specs.inside.search.Searches.{stair_at, gap_at, IsOnStairs, IsSearch, IsSettled, grown_as, Grows, IsVisited}
+use Rattle.pc_flow.specs.inside.search.Searches.{stair_at, gap_at, IsOnStairs, IsSearch, IsSettledActivity, grown_as, Grows, IsVisited}
 use Rattle.pc_flow.proofs.lemmas.search.WayLaws.{settled-both}
 use Rattle.pc_flow.proofs.lemmas.search.KeptLaws.{with_list, waiting-kept, with_lengths, lengths-kept}
 
@@ -157,9 +157,9 @@ module _ (net : PricedNetwork) (s t : Sheet) (e a : ℕ) (against : Bool) (near 
   near-now : 0 < rank_of t near
   near-now = omega (arith, entered-kept net.network s t e a against near room new entered near new.near_labelled, new.near_labelled)
 
-  settled : IsSettled net t a
+  settled : IsSettledActivity net t a
   settled = by against refl where
-    by : (w : Bool) → against ≡ w → IsSettled net t a
+    by : (w : Bool) → against ≡ w → IsSettledActivity net t a
     by true is =
         settled-both net t a (omega (arith, ap (rank_of t) (new.back is).0, entered.rank_at)) (omega (arith, ap (rank_of t) (new.back is).1, near-now))
     by false is =

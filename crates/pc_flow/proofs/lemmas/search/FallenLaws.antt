@@ -11,14 +11,14 @@ use Rattle.pc_laws.proofs.Stairs.StairStates.{stair-fallen, stair-times_within}
 use Rattle.pc_crash.specs.Priced.{PricedNetwork, knees_in}
 use Rattle.pc_flow.specs.board.Sheets.{Sheet, kept_time, time_of, rank_of, flow_of}
 use Rattle.pc_flow.specs.inside.board.Sheets.{step_of, room_of, due_of}
-use Rattle.pc_flow.specs.inside.board.Labelling.{HasStep, AreTimes}
+use Rattle.pc_flow.specs.inside.board.Labelling.{HasStep, AreStoredTimes}
 use Rattle.pc_flow.proofs.lemmas.board.AfterPruning.{time-labelled, time-unlabelled}
 use Rattle.pc_flow.specs.declared.search.way.Way.TheVariants.{Along, Against}
 use Rattle.pc_flow.specs.inside.search.Searches.{stair_at, gap_at, next_at, last_at, IsSearch, IsOnStairs, AreLed}
-use Rattle.pc_flow.specs.inside.search.Growing.{IsMet, AreListed}
+use Rattle.pc_flow.specs.inside.search.Growing.{IsMet, AreDueLater}
 use Rattle.pc_flow.specs.inside.search.Choosing.{moving}
 use Rattle.pc_flow.specs.search.Labelling.{length_at}
-use Rattle.pc_flow.specs.inside.search.Labelling.{slope_at, IsStateWith, IsBetween, MayFall, HasFallen}
+use Rattle.pc_flow.specs.inside.search.Labelling.{slope_at, IsStateWith, IsBetweenLabellings, MayFall, HasFallen}
 use Rattle.pc_flow.proofs.lemmas.search.KeptLaws.{waiting-kept, search-recounted}
 use Rattle.pc_flow.proofs.lemmas.search.StateLaws.{times-alike, state-own}
 use Rattle.pc_flow.proofs.lemmas.search.StepLaws.{step-from_labelled, step-to_labelled}
@@ -37,8 +37,8 @@ gap-shrinks due unit fallen by u v w x until rests falls = omega arith
 gap-grows : (due unit fallen by u v w x : ℕ) → due + (v - u) ≤ fallen + unit → w + by ≡ u → x ≡ v → due + (x - w) ≤ (fallen + by) + unit
 gap-grows due unit fallen by u v w x until falls rests = omega arith
 
-module _ (net : PricedNetwork) (priced : IsPriced net.network net.terms (knees_in net)) (s : Sheet) (by : ℕ) (between : IsBetween net s)
-    (listed : AreListed net s) (falls : MayFall net s by) where
+module _ (net : PricedNetwork) (priced : IsPriced net.network net.terms (knees_in net)) (s : Sheet) (by : ℕ) (between : IsBetweenLabellings net s)
+    (listed : AreDueLater net s) (falls : MayFall net s by) where
   abbrev search : IsSearch net s
   search = between.search
 
@@ -116,7 +116,7 @@ module _ (net : PricedNetwork) (priced : IsPriced net.network net.terms (knees_i
       stair-times_within net.network net.terms (knees_in net) priced (length_at net there) (time_of there) (flow_of s) (slope_at net s) state
       e (event e known)
 
-  times-there : AreTimes there
+  times-there : AreStoredTimes there
   times-there = record {
     deep = λ e known none.
         let then_ : time_of s e ≡ kept_time s e - s.fallen = time-unlabelled s e none in
@@ -155,7 +155,7 @@ module _ (net : PricedNetwork) (priced : IsPriced net.network net.terms (knees_i
   met-before a (inl from) = inl (record { labelled = from.labelled; within = from.within })
   met-before a (inr to) = inr (record { labelled = to.labelled; within = to.within })
 
-  listed-there : AreListed net there
+  listed-there : AreDueLater net there
   listed-there a known met Along may =
       let waits = listed a known (met-before a met) Along (record { near = may.near; far = may.far; flows = may.flows }) in
       record {

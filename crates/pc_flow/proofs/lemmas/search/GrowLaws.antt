@@ -10,7 +10,7 @@ use Rattle.pc_crash.specs.Priced.{PricedNetwork}
 use Rattle.pc_flow.specs.board.Sheets.{Sheet, rank_of}
 use Rattle.pc_flow.specs.inside.board.Sheets.{queue_of}
 use Rattle.pc_flow.specs.inside.board.Labelling.{HaveRoom}
-use Rattle.pc_flow.specs.inside.search.Searches.{IsSearch, IsSettled, Grows}
+use Rattle.pc_flow.specs.inside.search.Searches.{IsSearch, IsSettledActivity, Grows}
 use Rattle.pc_flow.specs.inside.search.Growing.{IsAt, degree, IsReached, IsScanned, IsMet, AreSettled, GoesOn, HasGrown}
 use Rattle.pc_flow.proofs.lemmas.search.KeptLaws.{waiting-kept, search-relisted}
 use Rattle.pc_flow.proofs.lemmas.search.VisitLaws.{grows-none}
@@ -59,7 +59,7 @@ search-headed net t h within search = search-relisted net t (headed t h) search 
 pub room-headed : (t : Sheet) (h : ℕ) → HaveRoom t → HaveRoom (headed t h)
 room-headed t h room = record { some = room.some }
 
-settled-headed : (net : PricedNetwork) (t : Sheet) (h a : ℕ) → IsSettled net t a → IsSettled net (headed t h) a
+settled-headed : (net : PricedNetwork) (t : Sheet) (h a : ℕ) → IsSettledActivity net t a → IsSettledActivity net (headed t h) a
 settled-headed net t h a settled = λ way may. settled way (record { near = may.near; far = may.far; flows = may.flows })
 
 module _ (net : PricedNetwork) (s t u : Sheet) (e looks more : ℕ) (on : IsGrowing net s t looks) (open_ : t.head < t.count) (next : e ≡ queue_of t t.head)
@@ -84,7 +84,7 @@ module _ (net : PricedNetwork) (s t u : Sheet) (e looks more : ℕ) (on : IsGrow
         | inr before ↦ inl (record { labelled = omega (arith, was, is.labelled); within = before })
       ]
 
-  settled-at : (a : ℕ) → a < length net.network.arcs → (IsReached net there a) → (IsMet net t a ⊎ IsAt net e a) → IsSettled net u a
+  settled-at : (a : ℕ) → a < length net.network.arcs → (IsReached net there a) → (IsMet net t a ⊎ IsAt net e a) → IsSettledActivity net u a
   settled-at a known reached (inl met) =
       settled-grows there u scanned.grows net on.search.in_range on.search.fits.events a known reached (settled-headed net t (t.head + 1) a (on.settled a known met))
   settled-at a known reached (inr at) = scanned.settled a known at reached

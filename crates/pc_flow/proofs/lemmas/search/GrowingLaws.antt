@@ -11,9 +11,9 @@ use Rattle.pc_flow.specs.inside.board.Sheets.{queue_of, waiting_of, slot_of, due
 use Rattle.pc_flow.specs.inside.board.Labelling.{HaveRoom, IsRanked}
 use Rattle.pc_flow.specs.declared.search.way.Way.{Way}
 use Rattle.pc_flow.specs.declared.search.way.Way.TheVariants.{Along, Against}
-use Rattle.pc_flow.specs.inside.search.Searches.{gap_at, IsSearch, MayCross, IsSettled, grown_as, Grows, IsVisited}
+use Rattle.pc_flow.specs.inside.search.Searches.{gap_at, IsSearch, MayCross, IsSettledActivity, grown_as, Grows, IsVisited}
 use Rattle.pc_flow.proofs.lemmas.search.VisitLaws.{grows-none}
-use Rattle.pc_flow.specs.inside.search.Growing.{IsReached, IsScanned, IsMet, AreListed, GoesOn, HasSettled}
+use Rattle.pc_flow.specs.inside.search.Growing.{IsReached, IsScanned, IsMet, AreDueLater, GoesOn, HasSettled}
 use Rattle.pc_flow.proofs.lemmas.search.WayLaws.{settled-kept}
 
 -- Going on from board to board
@@ -84,7 +84,7 @@ module _ (s t : Sheet) (grows : Grows s t) where
       flows = λ is. omega (arith, may.flows is, grows-flow a);
     }
 
-    pub settled-grows : IsReached net s a → IsSettled net s a → IsSettled net t a
+    pub settled-grows : IsReached net s a → IsSettledActivity net s a → IsSettledActivity net t a
     settled-grows reached settled =
         settled-kept net s t a (grows-flow a) gap-same (may-was reached) (λ had. omega (arith, had, grows.waits a had)) settled
 
@@ -124,7 +124,7 @@ goes_on-visited net t u a visited = record {
   grows = visited.grows;
   search = visited.search;
   room = visited.room;
-  settled = λ b known same reached. subst (λ x. IsSettled net u x) (sym same) visited.settled;
+  settled = λ b known same reached. subst (λ x. IsSettledActivity net u x) (sym same) visited.settled;
 }
 
 -- one of the first of a list and the next one is among the first or is the next
@@ -191,13 +191,13 @@ met-reached net s a (inr to) = inr to.labelled
 -- The list of those that wait
 
 module _ (net : PricedNetwork) (s t : Sheet) (search : IsSearch net s) (on : GoesOn net (IsDueBelow s s.len) s t)
-    (listed : AreListed net s) where
+    (listed : AreDueLater net s) where
   -- an activity stops only after a fall, if the falls have not reached its sum
-  waits-on : (a : ℕ) → a < length net.network.arcs → IsMet net s a → s.fallen < due_of s a → IsSettled net s a
+  waits-on : (a : ℕ) → a < length net.network.arcs → IsMet net s a → s.fallen < due_of s a → IsSettledActivity net s a
   waits-on a known met late way may = let waits = listed a known met way may in (waits.listed, omega (arith, waits.due, late))
 
   -- else it was visited, if it waited
-  waited : (a : ℕ) → a < length net.network.arcs → IsMet net s a → 0 < slot_of s a → IsSettled net t a
+  waited : (a : ℕ) → a < length net.network.arcs → IsMet net s a → 0 < slot_of s a → IsSettledActivity net t a
   waited a known met waits =
       let ka : a < s.activities = omega (arith, known, search.fits.activities) in
       elim (cases_lt s.fallen (due_of s a)) [

@@ -2,16 +2,16 @@
 use Rattle.std.proofs.Common.{◌≡◌, ◌≤◌, sym, subst}
 use Rattle.pc_crash.specs.Priced.{PricedNetwork}
 use Rattle.pc_flow.specs.board.Sheets.{Sheet}
-use Rattle.pc_flow.specs.inside.board.Labelling.{AreTimes}
-use Rattle.pc_flow.specs.inside.search.Searches.{IsWaiting, IsOnStairs, AreLengths, IsPricedBoard, AreLed, IsSearch}
+use Rattle.pc_flow.specs.inside.board.Labelling.{AreStoredTimes}
+use Rattle.pc_flow.specs.inside.search.Searches.{IsWaitingList, IsOnStairs, HaveLengths, IsPricedBoard, AreLed, IsSearch}
 
 -- board s with the activities of board t that wait
 abbrev pub with_list : Sheet → Sheet → Sheet
 with_list s t = record s { activities = t.activities; waiting = t.waiting; slot = t.slot; len = t.len }
 
-pub waiting-kept : (s t : Sheet) → t ≡ with_list t s → IsWaiting s → IsWaiting t
+pub waiting-kept : (s t : Sheet) → t ≡ with_list t s → IsWaitingList s → IsWaitingList t
 waiting-kept s t same waiting =
-    subst IsWaiting (sym same) (record {
+    subst IsWaitingList (sym same) (record {
       few = waiting.few;
       range = waiting.range;
       placed = waiting.placed;
@@ -23,17 +23,17 @@ waiting-kept s t same waiting =
 abbrev pub with_lengths : Sheet → Sheet → Sheet
 with_lengths s t = record s { flow = t.flow; up = t.up; down = t.down }
 
-pub lengths-kept : (net : PricedNetwork) (s t : Sheet) → t ≡ with_lengths t s → AreLengths net s → AreLengths net t
+pub lengths-kept : (net : PricedNetwork) (s t : Sheet) → t ≡ with_lengths t s → HaveLengths net s → HaveLengths net t
 lengths-kept net s t same lengths =
-    subst (λ v. AreLengths net v) (sym same) (λ a known. record { up = (lengths a known).up; down = (lengths a known).down })
+    subst (λ v. HaveLengths net v) (sym same) (λ a known. record { up = (lengths a known).up; down = (lengths a known).down })
 
 -- board s with the list, the counts and the falls of board t
 abbrev pub recounted : Sheet → Sheet → Sheet
 recounted s t = record s { waiting = t.waiting; slot = t.slot; due = t.due; fallen = t.fallen; head = t.head; len = t.len }
 
 -- where labels and flows stay, a search is one still if its list, its times and its gaps are right
-pub search-recounted : (net : PricedNetwork) (s t : Sheet) → IsSearch net s → t.head ≤ s.count → AreTimes (recounted s t)
-    → IsWaiting (recounted s t) → IsOnStairs net (recounted s t) → AreLed net (recounted s t) → IsSearch net (recounted s t)
+pub search-recounted : (net : PricedNetwork) (s t : Sheet) → IsSearch net s → t.head ≤ s.count → AreStoredTimes (recounted s t)
+    → IsWaitingList (recounted s t) → IsOnStairs net (recounted s t) → AreLed net (recounted s t) → IsSearch net (recounted s t)
 search-recounted net s t search scanned times waiting stairs led = record {
   in_range = search.in_range;
   few = search.few;
@@ -84,7 +84,7 @@ board-relisted net s t search = record {
 }
 
 -- and a search, if the list is right
-pub search-relisted : (net : PricedNetwork) (s t : Sheet) → IsSearch net s → t.head ≤ s.count → IsWaiting (listed_as s t)
+pub search-relisted : (net : PricedNetwork) (s t : Sheet) → IsSearch net s → t.head ≤ s.count → IsWaitingList (listed_as s t)
     → IsSearch net (listed_as s t)
 search-relisted net s t search scanned waiting =
     let board : IsPricedBoard net (listed_as s t) = board-relisted net s t search in

@@ -10,7 +10,7 @@ use Rattle.pc_flow.specs.inside.search.Searches.{IsSearch}
 use Rattle.pc_flow.specs.inside.search.Growing.{HasSettled, HasGrown, relabelled, HasLookedAgain}
 use Rattle.pc_flow.specs.inside.search.Choosing.{moving, HasChosen}
 use Rattle.pc_flow.specs.search.Labelling.{length_at}
-use Rattle.pc_flow.specs.inside.search.Labelling.{slope_at, IsStateWith, IsAboveAllCrash, IsBetween, HasRaised, risen, Rises, IsUnderWay, HasLabelled}
+use Rattle.pc_flow.specs.inside.search.Labelling.{slope_at, IsStateWith, IsAboveAllCrash, IsBetweenLabellings, HasRaised, risen, Rises, IsUnderWay, HasLabelled}
 use Rattle.pc_flow.proofs.lemmas.search.StateLaws.{times-alike, state-own}
 
 -- labels and lists have changed, times and flows are as they were
@@ -93,7 +93,7 @@ module _ (net : PricedNetwork) (s t : Sheet) (rise : ℕ) (search : IsSearch net
   above-risen above = (above.0, above.1, omega (arith, above.2, length-risen))
 
 -- the search continues from labels that were given to the events at steps with room
-module _ (net : PricedNetwork) (s t u : Sheet) (between : IsBetween net s) (above : IsAboveAllCrash net s) where
+module _ (net : PricedNetwork) (s t u : Sheet) (between : IsBetweenLabellings net s) (above : IsAboveAllCrash net s) where
   pub under_way-begins : HasSettled net s t → HasGrown net t u → IsUnderWay net u × Rises net s u 0
   under_way-begins settled grown =
       let all : IsRelabelled s u = relabelled-joins s t u (relabelled-settled net s t settled) (relabelled-grown net t u grown) in
@@ -112,7 +112,7 @@ module _ (net : PricedNetwork) (s t u : Sheet) (between : IsBetween net s) (abov
         rises,
       )
 
-module _ (net : PricedNetwork) (s r t u : Sheet) (by : ℕ) (between : IsBetween net s) (above : IsAboveAllCrash net s) (raised : HasRaised net s r by)
+module _ (net : PricedNetwork) (s r t u : Sheet) (by : ℕ) (between : IsBetweenLabellings net s) (above : IsAboveAllCrash net s) (raised : HasRaised net s r by)
     (again : HasLookedAgain net r t) (grown : HasGrown net t u) where
   all : IsRelabelled r u
   all = relabelled-joins r t u (relabelled-again net r t again) (relabelled-grown net t u grown)
@@ -139,7 +139,7 @@ module _ (net : PricedNetwork) (s r t u : Sheet) (by : ℕ) (between : IsBetween
   }
 
 -- the labels cannot grow, and the least stop is the fall
-pub labelled-ends : (net : PricedNetwork) (s t u : Sheet) (rise least : ℕ) → IsPriced net.network net.terms (knees_in net) → IsBetween net s
+pub labelled-ends : (net : PricedNetwork) (s t u : Sheet) (rise least : ℕ) → IsPriced net.network net.terms (knees_in net) → IsBetweenLabellings net s
     → Rises net s t rise → IsUnderWay net t → HasChosen net t u least → HasLabelled net s u rise least
 labelled-ends net s t u rise least priced between rises under_way chosen = record {
   rises = all;

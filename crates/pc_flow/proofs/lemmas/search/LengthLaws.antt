@@ -15,7 +15,7 @@ use Rattle.pc_flow.specs.inside.board.Labelling.{HasStep, IsRankedBack, HaveStep
 use Rattle.pc_flow.specs.inside.board.Raising.{event_back, IsWayBack, IsStepTaken, IsRaisedBy, StandFirst}
 use Rattle.pc_flow.proofs.lemmas.board.RaisingLaws.{way-none, way-more}
 use Rattle.pc_flow.proofs.lemmas.board.AfterRaising.{find_below}
-use Rattle.pc_flow.specs.inside.search.Searches.{stair_at, IsOnStairs, HasLengths, AreLengths}
+use Rattle.pc_flow.specs.inside.search.Searches.{stair_at, IsOnStairs, HasLengths, HaveLengths}
 use Rattle.pc_flow.specs.inside.search.Lengths.{IsLevelAt, AreLevelBack, RenewsAt, IsRenewedBack}
 
 -- the staircase of the known data of an activity
@@ -215,8 +215,8 @@ module _ (s t u : Sheet) (rest : u ≡ record t { up = u.up; down = u.down }) wh
       subst (λ v. StandFirst v standing) (sym rest) (record { some = stand.some; within = stand.within; room = stand.room })
 
 -- the lengths are right again where they were renewed along all steps that were raised
-pub lengths-renewed : (net : PricedNetwork) (s t u : Sheet) (e by k : ℕ) → AreLengths net s → IsRaisedBy s t e by k
-    → t ≡ record s { room = t.room; flow = t.flow } → IsRenewedBack net t u e → AreLengths net u
+pub lengths-renewed : (net : PricedNetwork) (s t u : Sheet) (e by k : ℕ) → HaveLengths net s → IsRaisedBy s t e by k
+    → t ≡ record s { room = t.room; flow = t.flow } → IsRenewedBack net t u e → HaveLengths net u
 lengths-renewed net s t u e by k lengths raised kept renewed a known =
     elim (find_below a (λ j. step_of s (event_back s e j)) k) [
       | inl at ↦

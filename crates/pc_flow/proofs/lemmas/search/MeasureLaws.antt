@@ -21,22 +21,22 @@ use Rattle.pc_flow.specs.inside.search.Searches.{
   gap_at,
   IsSearch,
   IsOnStairs,
-  StopsAfter,
+  StopsAfterFall,
   HasRoomAlong,
   HasRoomAgainst,
   IsSeen,
-  IsSettled,
+  IsSettledActivity,
 }
 use Rattle.pc_flow.specs.inside.search.Rooms.{IsRoom, IsMeasured}
 use Rattle.pc_flow.specs.inside.search.Growing.{IsScanned, IsMet, AreSettled}
 use Rattle.pc_flow.specs.search.Labelling.{length_at}
-use Rattle.pc_flow.specs.inside.search.Labelling.{slope_at, IsStateWith, IsAboveAllCrash, IsBetween, HasRaised}
+use Rattle.pc_flow.specs.inside.search.Labelling.{slope_at, IsStateWith, IsAboveAllCrash, IsBetweenLabellings, HasRaised}
 use Rattle.pc_flow.proofs.lemmas.search.KeptLaws.{waiting-kept}
 use Rattle.pc_flow.proofs.lemmas.search.StopLaws.{seen-reach, seen-falling, room-along, room-against}
 
 -- where an activity stops now, one unit more fits, or one fewer
 module _ (net : PricedNetwork) (s : Sheet) (a : ℕ) (known : a < length net.network.arcs) (stairs : IsOnStairs net s) where
-  pub unit-along : StopsAfter net s a Along 0 → HasRoomAlong net s a 1
+  pub unit-along : StopsAfterFall net s a Along 0 → HasRoomAlong net s a 1
   unit-along stops = record {
     some = omega arith;
     small = stairs.small a known;
@@ -46,7 +46,7 @@ module _ (net : PricedNetwork) (s : Sheet) (a : ℕ) (known : a < length net.net
     };
   }
 
-  pub unit-against : 0 < flow_of s a → StopsAfter net s a Against 0 → HasRoomAgainst net s a 1
+  pub unit-against : 0 < flow_of s a → StopsAfterFall net s a Against 0 → HasRoomAgainst net s a 1
   unit-against flows stops = record {
     some = omega arith;
     within = flows;
@@ -64,7 +64,7 @@ module _ (net : PricedNetwork) (s : Sheet) (search : IsSearch net s) (room : Hav
   pub step-flows : 0 < against_of s e → 0 < flow_of s (step_of s e)
   step-flows some = omega (arith, search.steps.against e known has some, room.some e known has)
 
-  pub step-along : against_of s e ≡ 0 → StopsAfter net s (step_of s e) Along 0
+  pub step-along : against_of s e ≡ 0 → StopsAfterFall net s (step_of s e) Along 0
   step-along none =
       let led : IsOnStair (stair_at net (step_of s e)) (gap_at net s (step_of s e)) (flow_of s (step_of s e) + room_of s e) = search.led.along e known has none in
       omega (
@@ -75,7 +75,7 @@ module _ (net : PricedNetwork) (s : Sheet) (search : IsSearch net s) (room : Hav
             (flow_of s (step_of s e) + room_of s e - 1) (omega (arith, room.some e known has)),
       )
 
-  pub step-against : 0 < against_of s e → StopsAfter net s (step_of s e) Against 0
+  pub step-against : 0 < against_of s e → StopsAfterFall net s (step_of s e) Against 0
   step-against some =
       let led : IsOnStair (stair_at net (step_of s e)) (gap_at net s (step_of s e)) (flow_of s (step_of s e) - room_of s e) = search.led.against e known has some in
       omega (
@@ -132,7 +132,7 @@ module _ (net : PricedNetwork) (s : Sheet) (search : IsSearch net s) (room : Hav
       along = λ none_there.
           subst (λ b. HasRoomAlong net s b units) at
           (room-along net s a crash knees inside seen search.stairs units flow is some small on
-          (subst (λ b. StopsAfter net s b Along 0) (sym at) (step-along none)));
+          (subst (λ b. StopsAfterFall net s b Along 0) (sym at) (step-along none)));
       against = λ more. absurd (omega (arith, more, none));
     }
 
@@ -144,7 +144,7 @@ module _ (net : PricedNetwork) (s : Sheet) (search : IsSearch net s) (room : Hav
       against = λ some_there.
           subst (λ b. HasRoomAgainst net s b units) at
           (room-against net s a crash knees inside seen search.stairs units flow is some within on
-          (subst (λ b. StopsAfter net s b Against 0) (sym at) (step-against more)));
+          (subst (λ b. StopsAfterFall net s b Against 0) (sym at) (step-against more)));
     }
 
 pub measuring-begins : (net : PricedNetwork) (s : Sheet) → IsSearch net s → HaveRoom s → IsMeasured net s s
@@ -230,7 +230,7 @@ module _ (net : PricedNetwork) (s t : Sheet) (on : IsMeasured net s t) where
   pub have_room-measured : HaveRoom t
   have_room-measured = subst HaveRoom (sym on.rest) (record { some = some-room })
 
-  pub between-measured : IsBetween net s → IsBetween net t
+  pub between-measured : IsBetweenLabellings net s → IsBetweenLabellings net t
   between-measured between = record {
     search = search-measured between.search;
     room = have_room-measured;
@@ -241,7 +241,7 @@ module _ (net : PricedNetwork) (s t : Sheet) (on : IsMeasured net s t) where
   pub above-measured : IsAboveAllCrash net s → IsAboveAllCrash net t
   above-measured above = subst (λ v. IsAboveAllCrash net v) (sym on.rest) above
 
-  settled-there : (a : ℕ) → IsSettled net s a → IsSettled net there a
+  settled-there : (a : ℕ) → IsSettledActivity net s a → IsSettledActivity net there a
   settled-there a settled = λ way may. settled way (record { near = may.near; far = may.far; flows = may.flows })
 
   scanned-was : (e : ℕ) → IsScanned there e → IsScanned s e

@@ -22,14 +22,14 @@ use Rattle.pc_flow.proofs.lemmas.board.AfterRaising.{
   raised-joined,
   raised-for,
 }
-use Rattle.pc_flow.specs.inside.search.Searches.{stair_at, gap_at, IsSearch, IsWaiting, IsOnStairs, AreLengths, AreLed}
+use Rattle.pc_flow.specs.inside.search.Searches.{stair_at, gap_at, IsSearch, IsWaitingList, IsOnStairs, HaveLengths, AreLed}
 use Rattle.pc_flow.specs.inside.search.Growing.{AreSettled}
 use Rattle.pc_flow.specs.search.Labelling.{length_at, slopes_in}
-use Rattle.pc_flow.specs.inside.search.Labelling.{slope_at, IsStateWith, IsAboveAllCrash, IsBetween, HasRaised}
+use Rattle.pc_flow.specs.inside.search.Labelling.{slope_at, IsStateWith, IsAboveAllCrash, IsBetweenLabellings, HasRaised}
 use Rattle.pc_flow.proofs.lemmas.search.StateLaws.{IsKnown, slopes-small, value-bounded, flow-bounded}
 use Rattle.pc_flow.proofs.lemmas.search.RaiseLaws.{on-raised, settled-raised}
 
-module _ (net : PricedNetwork) (known : IsKnown net) (order : List ℕ) (ordered : IsOrder net.network order) (s t : Sheet) (by k : ℕ) (between : IsBetween net s)
+module _ (net : PricedNetwork) (known : IsKnown net) (order : List ℕ) (ordered : IsOrder net.network order) (s t : Sheet) (by k : ℕ) (between : IsBetweenLabellings net s)
     (above : IsAboveAllCrash net s) (raised : IsRaisedBy s t net.network.end by k) where
   abbrev search : IsSearch net s
   search = between.search
@@ -131,8 +131,8 @@ module _ (net : PricedNetwork) (known : IsKnown net) (order : List ℕ) (ordered
         (search.led.against e (was-event e inside) (had e has) was)));
   }
 
-  waiting : IsWaiting t
-  waiting = subst (λ v. IsWaiting v) (sym rest) (record {
+  waiting : IsWaitingList t
+  waiting = subst (λ v. IsWaitingList v) (sym rest) (record {
     few = search.waiting.few;
     range = search.waiting.range;
     placed = search.waiting.placed;
@@ -140,7 +140,7 @@ module _ (net : PricedNetwork) (known : IsKnown net) (order : List ℕ) (ordered
     listed = search.waiting.listed;
   })
 
-  search-raised : AreLengths net t → IsSearch net t
+  search-raised : HaveLengths net t → IsSearch net t
   search-raised lengths = record {
     in_range = search.in_range;
     few = search.few;
@@ -157,7 +157,7 @@ module _ (net : PricedNetwork) (known : IsKnown net) (order : List ℕ) (ordered
     led = led;
   }
 
-  pub has_raised : AreLengths net t → AreSettled net s → HasRaised net s t by
+  pub has_raised : HaveLengths net t → AreSettled net s → HasRaised net s t by
   has_raised lengths settled = record {
     raised = (s.room, (k, raised));
     rest = rest;

@@ -11,7 +11,7 @@ use Rattle.pc_flow.specs.inside.board.Sheets.{slot_of}
 use Rattle.pc_flow.specs.inside.board.Labelling.{HaveRoom}
 use Rattle.pc_flow.specs.declared.search.way.Way.{Way}
 use Rattle.pc_flow.specs.declared.search.way.Way.TheVariants.{Along, Against}
-use Rattle.pc_flow.specs.inside.search.Searches.{lesser_at, greater_at, IsSearch, IsWaiting, MayCross}
+use Rattle.pc_flow.specs.inside.search.Searches.{lesser_at, greater_at, IsSearch, IsWaitingList, MayCross}
 use Rattle.pc_flow.specs.inside.search.Growing.{IsMet, AreSettled}
 use Rattle.pc_flow.specs.inside.search.Choosing.{moving, HasChosen}
 use Rattle.pc_flow.proofs.lemmas.search.KeptLaws.{search-relisted}
@@ -106,7 +106,7 @@ module _ (net : PricedNetwork) (s t : Sheet) (kept least : ℕ) (search : IsSear
   may-waits a known way may =
       elim (fate a (activity a known) (may-settled a known way may).0) [ inl still ↦ still | inr gone ↦ absurd (gone.quiet way may) ]
 
-  waiting-there : IsWaiting there
+  waiting-there : IsWaitingList there
   waiting-there = record {
     few = omega (arith, on.few, search.waiting.few);
     range = on.range;

@@ -7,7 +7,7 @@ use Rattle.pc_flow.specs.inside.stair.Rows.{stair}
 use Rattle.pc_crash.specs.Priced.{PricedNetwork}
 use Rattle.pc_flow.specs.board.Sheets.{Sheet, flow_of}
 use Rattle.pc_flow.specs.declared.search.way.Way.TheVariants.{Along, Against}
-use Rattle.pc_flow.specs.inside.search.Searches.{stair_at, gap_at, IsSeen, IsOnStairs, StopsAfter, HasRoomAlong, HasRoomAgainst}
+use Rattle.pc_flow.specs.inside.search.Searches.{stair_at, gap_at, IsSeen, IsOnStairs, StopsAfterFall, HasRoomAlong, HasRoomAgainst}
 
 module _ (net : PricedNetwork) (s : Sheet) (a crash : ℕ) (knees : List Knee) (known : a < length net.network.arcs)
     (seen : IsSeen net a crash knees)
@@ -27,7 +27,7 @@ module _ (net : PricedNetwork) (s : Sheet) (a crash : ℕ) (knees : List Knee) (
   -- the gap may be as long as the next unit's arc: this room leads to a flow on the staircase
   pub room-along : (room flow : ℕ) → flow ≡ flow_of s a → 0 < room → flow + room < 2 ^ 64
       → ((gap : ℕ) → IsOnStair here gap flow → unit_length here flow ≡ gap → IsOnStair here gap (flow + room))
-      → StopsAfter net s a Along 0 → HasRoomAlong net s a room
+      → StopsAfterFall net s a Along 0 → HasRoomAlong net s a room
   room-along room flow is some small on stops = record {
     some = some;
     small = omega (arith, small, is);
@@ -40,7 +40,7 @@ module _ (net : PricedNetwork) (s : Sheet) (a crash : ℕ) (knees : List Knee) (
   -- or as long as the last unit's arc
   pub room-against : (room flow : ℕ) → flow ≡ flow_of s a → 0 < room → room ≤ flow
       → ((gap : ℕ) → IsOnStair here gap flow → unit_length here (flow - 1) ≡ gap → IsOnStair here gap (flow - room))
-      → StopsAfter net s a Against 0 → HasRoomAgainst net s a room
+      → StopsAfterFall net s a Against 0 → HasRoomAgainst net s a room
   room-against room flow is some within on stops = record {
     some = some;
     within = omega (arith, within, is);

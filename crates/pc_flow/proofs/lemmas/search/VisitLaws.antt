@@ -7,7 +7,7 @@ use Rattle.pc_flow.specs.inside.board.Sheets.{waiting_of, slot_of}
 use Rattle.pc_flow.specs.inside.board.Moves.{WaitsOnce}
 use Rattle.pc_flow.specs.inside.board.Labelling.{HaveRoom}
 use Rattle.pc_flow.proofs.lemmas.board.RoomLaws.{room-left}
-use Rattle.pc_flow.specs.inside.search.Searches.{IsWaiting, IsSearch, IsQuiet, StopsLater, IsSettled, Grows, IsVisited}
+use Rattle.pc_flow.specs.inside.search.Searches.{IsWaitingList, IsSearch, IsQuiet, StopsLater, IsSettledActivity, Grows, IsVisited}
 use Rattle.pc_flow.proofs.lemmas.search.KeptLaws.{search-relisted}
 
 pub grows-none : (s : Sheet) → Grows s s
@@ -23,14 +23,14 @@ grows-none s = record {
 }
 
 -- a quiet activity, or one that waits already
-pub visited-still : (net : PricedNetwork) (s : Sheet) (a : ℕ) → IsSearch net s → HaveRoom s → IsSettled net s a → IsVisited net s s a
+pub visited-still : (net : PricedNetwork) (s : Sheet) (a : ℕ) → IsSearch net s → HaveRoom s → IsSettledActivity net s a → IsVisited net s s a
 visited-still net s a search room settled = record { grows = grows-none s; search = search; room = room; settled = settled }
 
-pub settled-quiet : (net : PricedNetwork) (s : Sheet) (a : ℕ) → IsQuiet net s a → IsSettled net s a
+pub settled-quiet : (net : PricedNetwork) (s : Sheet) (a : ℕ) → IsQuiet net s a → IsSettledActivity net s a
 settled-quiet net s a quiet = λ way may. absurd (quiet way may)
 
 -- the list has capacity for an activity that does not wait
-pub waiting-room : (s : Sheet) (a : ℕ) → IsWaiting s → a < s.activities → slot_of s a ≡ 0 → s.len < s.activities
+pub waiting-room : (s : Sheet) (a : ℕ) → IsWaitingList s → a < s.activities → slot_of s a ≡ 0 → s.len < s.activities
 waiting-room s a waiting known none =
     room-left (waiting_of s) s.len s.activities a waiting.range once known
     (λ k below same. omega (arith, waiting.placed k below, ap (slot_of s) same, none))
@@ -46,7 +46,7 @@ module _ (net : PricedNetwork) (s t : Sheet) (a : ℕ) (search : IsSearch net s)
   other : (b : ℕ) → 0 < slot_of s b → b ≢ a
   other b had same = omega (arith, had, ap (slot_of s) same, none)
 
-  waiting-more : IsWaiting there
+  waiting-more : IsWaitingList there
   waiting-more = record {
     few = omega (arith, waiting-room s a search.waiting known none);
     range = λ k below. elim (cases_lt k s.len) [

@@ -14,7 +14,7 @@ use Rattle.pc_flow.specs.inside.board.Labelling.{IsFor}
 use Rattle.pc_flow.specs.declared.search.way.Way.{Way}
 use Rattle.pc_flow.specs.declared.search.way.Way.TheVariants.{Along, Against}
 use Rattle.pc_flow.specs.inside.search.Ways.{by_way, near_in, far_in, CanFlow, AreLinks}
-use Rattle.pc_flow.specs.inside.search.Searches.{stair_at, gap_at, next_at, last_at, lesser_at, greater_at, MayCross, IsQuiet, IsSettled}
+use Rattle.pc_flow.specs.inside.search.Searches.{stair_at, gap_at, next_at, last_at, lesser_at, greater_at, MayCross, IsQuiet, IsSettledActivity}
 use Rattle.pc_flow.specs.inside.search.Growing.{IsAt}
 use Rattle.pc_flow.proofs.lemmas.search.LinkLaws.{link_listed, link_stands}
 
@@ -80,7 +80,7 @@ module _ (net : PricedNetwork) (s : Sheet) (a near far : ℕ) where
 
 -- an activity with a label at both ends is settled
 pub settled-both : (net : PricedNetwork) (s : Sheet) (a : ℕ) → 0 < rank_of s (from_of net.network.arcs a) → 0 < rank_of s (to_of net.network.arcs a)
-    → IsSettled net s a
+    → IsSettledActivity net s a
 settled-both net s a from to Along may = absurd (omega (arith, may.far, to))
 settled-both net s a from to Against may = absurd (omega (arith, may.far, from))
 
@@ -92,8 +92,8 @@ module _ (net : PricedNetwork) (s t : Sheet) (a : ℕ) (flow : flow_of t a ≡ f
   pub greater-kept : (way : Way) → greater_at net t way a ≡ greater_at net s way a
   greater-kept way = ap (λ x. by_way way x (last_at net t a)) gap ∙ ap (λ x. by_way way (gap_at net s a) (unit_length (stair_at net a) (x - 1))) flow
 
-  pub settled-kept : ((way : Way) → MayCross net t way a → MayCross net s way a) → (0 < slot_of s a → 0 < slot_of t a) → IsSettled net s a
-      → IsSettled net t a
+  pub settled-kept : ((way : Way) → MayCross net t way a → MayCross net s way a) → (0 < slot_of s a → 0 < slot_of t a) → IsSettledActivity net s a
+      → IsSettledActivity net t a
   settled-kept was slot settled way may =
       let before = settled way (was way may) in
       (slot before.0, omega (arith, before.1, lesser-kept way, greater-kept way))

@@ -38,7 +38,7 @@ pub record HaveRoom (s : Sheet) : Type 0 where
   pub some : (e : ℕ) → e < s.events → HasStep s e → 0 < room_of s e
 
 -- the stored time of an event without a label is not below the falls, and any time plus the falls can be stored
-pub record AreTimes (s : Sheet) : Type 0 where
+pub record AreStoredTimes (s : Sheet) : Type 0 where
   pub deep : (e : ℕ) → e < s.events → rank_of s e ≡ 0 → s.fallen ≤ kept_time s e
   pub fits : (e : ℕ) → e < s.events → time_of s e + s.fallen < 2 ^ 64
 

@@ -7,7 +7,7 @@ use Rattle.pc_flow.specs.inside.board.Labelling.{HasStep}
 
 -- event e, which had a label, still has one, at one of the first `kept` places; its step has room and comes from an event
 -- with a label
-pub record IsKept (s t : Sheet) (kept e : ℕ) : Type 0 where
+pub record KeepsLabel (s t : Sheet) (kept e : ℕ) : Type 0 where
   pub labelled : 0 < rank_of t e
   pub within : rank_of t e ≤ kept
   pub placed : queue_of t (rank_of t e - 1) ≡ e
@@ -28,7 +28,7 @@ pub record IsLost (s t : Sheet) (gone e : ℕ) : Type 0 where
 pub record IsSorted (s t : Sheet) (i kept gone seen : ℕ) : Type 0 where
   pub some : 0 < kept
   pub split : kept + gone ≡ i
-  pub fates : (e : ℕ) → e < s.events → 0 < rank_of s e → rank_of s e ≤ i → IsKept s t kept e ⊎ IsLost s t gone e
+  pub fates : (e : ℕ) → e < s.events → 0 < rank_of s e → rank_of s e ≤ i → KeepsLabel s t kept e ⊎ IsLost s t gone e
   pub unlabelled : (e : ℕ) → e < s.events → rank_of s e ≡ 0 → rank_of t e ≡ 0
   pub later : (e : ℕ) → e < s.events → i < rank_of s e → rank_of t e ≡ rank_of s e
   pub time_off : (e : ℕ) → e < s.events → (rank_of s e ≡ 0) ⊎ (i < rank_of s e) → kept_time t e ≡ kept_time s e

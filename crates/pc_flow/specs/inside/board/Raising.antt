@@ -28,7 +28,7 @@ pub record IsStepTaken (s t : Sheet) (by e : ℕ) : Type 0 where
   pub against : 0 < against_of s e → flow_of t (step_of s e) + by ≡ flow_of s (step_of s e)
 
 -- the flows of the last k steps that led to event e were raised, back to event x; nothing is said of the lengths of arcs
-pub record IsRaising (s t : Sheet) (e by k x : ℕ) : Type 0 where
+pub record IsRaisedBack (s t : Sheet) (e by k x : ℕ) : Type 0 where
   pub way : IsWayBack s e k x
   pub rest : t ≡ record s { room = t.room; flow = t.flow; up = t.up; down = t.down }
   pub taken : (j : ℕ) → j < k → IsStepTaken s t by (event_back s e j)
@@ -63,7 +63,7 @@ pub record StandFirst (s : Sheet) (standing : ℕ) : Type 0 where
 -- the flows of all steps that led to event e were augmented by `by`, as far as they had room
 pub record IsRaisedBy (s t : Sheet) (e by k : ℕ) : Type 0 where
   pub some : 0 < by
-  pub raising : IsRaising s t e by k (queue_of s 0)
+  pub raising : IsRaisedBack s t e by k (queue_of s 0)
   pub first : rank_of s (queue_of s 0) ≡ 1
   pub used_up : (j : ℕ) × (j < k) × (room_of t (event_back s e j) ≡ 0)
 

@@ -5,12 +5,12 @@ use Rattle.pc_crash.specs.Priced.{PricedNetwork, knees_in}
 use Rattle.pc_flow.specs.board.Sheets.{Sheet, time_of, rank_of, flow_of}
 use Rattle.pc_flow.specs.inside.board.Labelling.{HaveRoom}
 use Rattle.pc_flow.specs.declared.search.way.Way.{Way}
-use Rattle.pc_flow.specs.inside.search.Searches.{MayCross, StopsAfter, IsQuiet, IsSearch}
-use Rattle.pc_flow.specs.inside.search.Growing.{AreListed}
+use Rattle.pc_flow.specs.inside.search.Searches.{MayCross, StopsAfterFall, IsQuiet, IsSearch}
+use Rattle.pc_flow.specs.inside.search.Growing.{AreDueLater}
 
 -- labels may cross activity a, and it stops when the events without one have fallen by n
 abbrev pub StopsAt : PricedNetwork → Sheet → ℕ → ℕ → Type 0
-StopsAt net s a n = (way : Way) × MayCross net s way a × StopsAfter net s a way n
+StopsAt net s a n = (way : Way) × MayCross net s way a × StopsAfterFall net s a way n
 
 -- when it stops, if labels may cross it
 abbrev pub IsStopOf : PricedNetwork → Sheet → ℕ → Option ℕ → Type 0
@@ -27,7 +27,7 @@ pub record HasChosen (net : PricedNetwork) (s t : Sheet) (least : ℕ) : Type 0 
   pub rest : t ≡ record s { waiting = t.waiting; slot = t.slot; due = t.due; len = t.len }
   pub search : IsSearch net t
   pub room : HaveRoom t
-  pub listed : AreListed net t
+  pub listed : AreDueLater net t
   pub stuck : IsStairStuck net.network net.terms (knees_in net) (time_of t) (flow_of t) (moving t)
   pub before : HasNoStopBefore net.network net.terms (knees_in net) (time_of t) (flow_of t) (moving t) least
   pub stop : (least ≡ 2 ^ 64 - 1) ⊎ HasStop net.network net.terms (knees_in net) (time_of t) (flow_of t) (moving t) least

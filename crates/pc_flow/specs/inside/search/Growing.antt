@@ -8,7 +8,7 @@ use Rattle.pc_flow.specs.board.Sheets.{Sheet, time_of, rank_of}
 use Rattle.pc_flow.specs.inside.board.Sheets.{lost_of, slot_of, due_of}
 use Rattle.pc_flow.specs.inside.board.Labelling.{HaveRoom}
 use Rattle.pc_flow.specs.declared.search.way.Way.{Way}
-use Rattle.pc_flow.specs.inside.search.Searches.{lesser_at, greater_at, IsSearch, MayCross, IsSettled, grown_as, Grows}
+use Rattle.pc_flow.specs.inside.search.Searches.{lesser_at, greater_at, IsSearch, MayCross, IsSettledActivity, grown_as, Grows}
 
 -- activity a begins or ends at event e
 abbrev pub IsAt : PricedNetwork → ℕ → ℕ → Type 0
@@ -37,19 +37,19 @@ pub record IsDueLater (net : PricedNetwork) (s : Sheet) (way : Way) (a : ℕ) : 
   pub due : due_of s a + lesser_at net s way a ≤ s.fallen + greater_at net s way a
 
 -- of the activities at scanned events those wait that labels may cross
-abbrev pub AreListed : PricedNetwork → Sheet → Type 0
-AreListed net s = (a : ℕ) → a < length net.network.arcs → IsMet net s a → (way : Way) → MayCross net s way a → IsDueLater net s way a
+abbrev pub AreDueLater : PricedNetwork → Sheet → Type 0
+AreDueLater net s = (a : ℕ) → a < length net.network.arcs → IsMet net s a → (way : Way) → MayCross net s way a → IsDueLater net s way a
 
 -- and they stop only after a fall
 abbrev pub AreSettled : PricedNetwork → Sheet → Type 0
-AreSettled net s = (a : ℕ) → a < length net.network.arcs → IsMet net s a → IsSettled net s a
+AreSettled net s = (a : ℕ) → a < length net.network.arcs → IsMet net s a → IsSettledActivity net s a
 
 -- the search continued from board s to board t, and has settled those of these activities that have an end with a label
 pub record GoesOn (net : PricedNetwork) (these : ℕ → Type 0) (s t : Sheet) : Type 0 where
   pub grows : Grows s t
   pub search : IsSearch net t
   pub room : HaveRoom t
-  pub settled : (a : ℕ) → a < length net.network.arcs → these a → IsReached net s a → IsSettled net t a
+  pub settled : (a : ℕ) → a < length net.network.arcs → these a → IsReached net s a → IsSettledActivity net t a
 
 -- the search continued to the activities that waited, and all at scanned events are settled
 pub record HasSettled (net : PricedNetwork) (s t : Sheet) : Type 0 where

@@ -10,7 +10,7 @@ use Rattle.pc_flow.specs.board.Sheets.{Sheet, time_of, rank_of, flow_of}
 use Rattle.pc_flow.specs.inside.board.Labelling.{HaveRoom}
 use Rattle.pc_flow.specs.inside.board.Raising.{IsRaised}
 use Rattle.pc_flow.specs.inside.search.Searches.{IsSearch}
-use Rattle.pc_flow.specs.inside.search.Growing.{AreListed, AreSettled, relabelled}
+use Rattle.pc_flow.specs.inside.search.Growing.{AreDueLater, AreSettled, relabelled}
 use Rattle.pc_flow.specs.inside.search.Choosing.{moving}
 use Rattle.pc_flow.specs.search.Labelling.{length_at, slopes_in}
 
@@ -28,7 +28,7 @@ IsAboveAllCrash net s = (shortest : ℕ) × IsAllCrashLength net.network net.ter
 
 -- what holds between two labellings: each step has room, times and flows are a state, and the length at the beginning,
 -- which is the present one with all falls added, fits a number
-pub record IsBetween (net : PricedNetwork) (s : Sheet) : Type 0 where
+pub record IsBetweenLabellings (net : PricedNetwork) (s : Sheet) : Type 0 where
   pub search : IsSearch net s
   pub room : HaveRoom s
   pub state : IsStateWith net s (length_at net s) (slope_at net s)
@@ -55,8 +55,8 @@ pub record HasFallen (net : PricedNetwork) (s t : Sheet) (by : ℕ) : Type 0 whe
   pub moved : (e : ℕ) → e < s.events → rank_of s e ≡ 0 → time_of t e + by ≡ time_of s e
   pub rested : (e : ℕ) → 0 < rank_of s e → time_of t e ≡ time_of s e
   pub shorter : length_at net t + by ≡ length_at net s
-  pub between : IsBetween net t
-  pub listed : AreListed net t
+  pub between : IsBetweenLabellings net t
+  pub listed : AreDueLater net t
 
 -- board s relabelled as board t, and with its flows and their lengths
 abbrev pub risen : Sheet → Sheet → Sheet
@@ -71,7 +71,7 @@ pub record Rises (net : PricedNetwork) (s t : Sheet) (rise : ℕ) : Type 0 where
 -- a labelling is under way above the all-crash length: the activities at scanned events are settled, and the end has a
 -- label or all events with one were scanned
 pub record IsUnderWay (net : PricedNetwork) (s : Sheet) : Type 0 where
-  pub between : IsBetween net s
+  pub between : IsBetweenLabellings net s
   pub above : IsAboveAllCrash net s
   pub settled : AreSettled net s
   pub ended : (0 < rank_of s net.network.end) ⊎ (s.head ≡ s.count)
@@ -81,6 +81,6 @@ pub record IsUnderWay (net : PricedNetwork) (s : Sheet) : Type 0 where
 pub record HasLabelled (net : PricedNetwork) (s t : Sheet) (rise fall : ℕ) : Type 0 where
   pub rises : Rises net s t rise
   pub same : length_at net t ≡ length_at net s
-  pub between : IsBetween net t
-  pub listed : AreListed net t
+  pub between : IsBetweenLabellings net t
+  pub listed : AreDueLater net t
   pub falls : MayFall net t fall

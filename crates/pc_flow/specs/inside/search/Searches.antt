@@ -11,7 +11,7 @@ use Rattle.pc_crash.specs.Priced.{PricedNetwork, knees_in}
 use Rattle.pc_flow.specs.board.Sheets.{Sheet, time_of, rank_of, flow_of}
 use Rattle.pc_flow.specs.inside.board.Sheets.{queue_of, step_of, against_of, room_of, waiting_of, slot_of, up_of, down_of}
 use Rattle.pc_flow.specs.inside.board.Moves.{with_labels}
-use Rattle.pc_flow.specs.inside.board.Labelling.{HasStep, IsRanked, IsRankedBack, HaveSteps, HaveRoom, AreTimes, IsFor, AreJoined}
+use Rattle.pc_flow.specs.inside.board.Labelling.{HasStep, IsRanked, IsRankedBack, HaveSteps, HaveRoom, AreStoredTimes, IsFor, AreJoined}
 use Rattle.pc_flow.specs.declared.search.way.Way.{Way}
 use Rattle.pc_flow.specs.inside.search.Ways.{by_way, near_in, far_in, CanFlow}
 
@@ -31,7 +31,7 @@ abbrev pub last_at : PricedNetwork → Sheet → ℕ → ℕ
 last_at net s a = unit_length (stair_at net a) (flow_of s a - 1)
 
 -- the activities that wait are on the list, each once, at the place that its slot gives
-pub record IsWaiting (s : Sheet) : Type 0 where
+pub record IsWaitingList (s : Sheet) : Type 0 where
   pub few : s.len ≤ s.activities
   pub range : (k : ℕ) → k < s.len → waiting_of s k < s.activities
   pub placed : (k : ℕ) → k < s.len → slot_of s (waiting_of s k) ≡ k + 1
@@ -52,16 +52,16 @@ pub record HasLengths (net : PricedNetwork) (s : Sheet) (a : ℕ) : Type 0 where
   pub up : up_of s a ≡ next_at net s a
   pub down : 0 < flow_of s a → down_of s a ≡ last_at net s a
 
-abbrev pub AreLengths : PricedNetwork → Sheet → Type 0
-AreLengths net s = (a : ℕ) → a < length net.network.arcs → HasLengths net s a
+abbrev pub HaveLengths : PricedNetwork → Sheet → Type 0
+HaveLengths net s = (a : ℕ) → a < length net.network.arcs → HasLengths net s a
 
 -- the board is for the network, and on it the flows are on the staircases at times that fit
 pub record IsPricedBoard (net : PricedNetwork) (s : Sheet) : Type 0 where
   pub in_range : IsInRange net.network
   pub fits : IsFor net.network s
-  pub times : AreTimes s
+  pub times : AreStoredTimes s
   pub stairs : IsOnStairs net s
-  pub lengths : AreLengths net s
+  pub lengths : HaveLengths net s
 
 -- the flow after each step with its room is on the staircase too
 pub record AreLed (net : PricedNetwork) (s : Sheet) : Type 0 where
@@ -79,11 +79,11 @@ pub record IsSearch (net : PricedNetwork) (s : Sheet) : Type 0 where
   pub start : queue_of s 0 ≡ net.network.start
   pub back : IsRankedBack s
   pub steps : HaveSteps s
-  pub times : AreTimes s
+  pub times : AreStoredTimes s
   pub joined : AreJoined net.network s
-  pub waiting : IsWaiting s
+  pub waiting : IsWaitingList s
   pub stairs : IsOnStairs net s
-  pub lengths : AreLengths net s
+  pub lengths : HaveLengths net s
   pub led : AreLed net s
 
 -- labels may cross activity a this way: they come from an event that has one to one that has none, and more can flow
@@ -114,8 +114,8 @@ abbrev pub greater_at : PricedNetwork → Sheet → Way → ℕ → ℕ
 greater_at net s way a = by_way way (gap_at net s a) (last_at net s a)
 
 -- after a fall by `after` they are the same
-abbrev pub StopsAfter : PricedNetwork → Sheet → ℕ → Way → ℕ → Type 0
-StopsAfter net s a way after = lesser_at net s way a + after ≡ greater_at net s way a
+abbrev pub StopsAfterFall : PricedNetwork → Sheet → ℕ → Way → ℕ → Type 0
+StopsAfterFall net s a way after = lesser_at net s way a + after ≡ greater_at net s way a
 
 -- with `room` units more, or fewer, the flow is on the staircase
 pub record HasRoomAlong (net : PricedNetwork) (s : Sheet) (a room : ℕ) : Type 0 where
@@ -133,8 +133,8 @@ abbrev pub StopsLater : PricedNetwork → Sheet → ℕ → Type 0
 StopsLater net s a = (way : Way) → MayCross net s way a → lesser_at net s way a < greater_at net s way a
 
 -- if labels may cross activity a, it waits and stops only after a fall
-abbrev pub IsSettled : PricedNetwork → Sheet → ℕ → Type 0
-IsSettled net s a = (way : Way) → MayCross net s way a → (0 < slot_of s a) × (lesser_at net s way a < greater_at net s way a)
+abbrev pub IsSettledActivity : PricedNetwork → Sheet → ℕ → Type 0
+IsSettledActivity net s a = (way : Way) → MayCross net s way a → (0 < slot_of s a) × (lesser_at net s way a < greater_at net s way a)
 
 -- board s with the labels and the waiting activities of board t
 abbrev pub grown_as : Sheet → Sheet → Sheet
@@ -156,4 +156,4 @@ pub record IsVisited (net : PricedNetwork) (s t : Sheet) (a : ℕ) : Type 0 wher
   pub grows : Grows s t
   pub search : IsSearch net t
   pub room : HaveRoom t
-  pub settled : IsSettled net t a
+  pub settled : IsSettledActivity net t a

@@ -3,7 +3,7 @@ use Rattle.std.proofs.lemmas.List.{get_or_read}
 use Rattle.pc_model.specs.inside.Greatest.{IsListed}
 use Rattle.pc_model.specs.Network.{Network}
 use Rattle.pc_model.specs.Walk.{from_of, to_of}
-use Rattle.pc_net.proofs.SearchLaws.{IsVisit-skip, IsVisit-find, IsSearch-short}
+use Rattle.pc_net.proofs.SearchLaws.{IsVisit-skip, IsVisit-find, IsSearchBack-short}
 use Rattle.pc_net.proofs.cycle.visit.Goals as goal
 use Rattle.pc_net.proofs.cycle.visit.Goals.{then-index-eq0+in_ok-push, else-index-eq0}
 
@@ -22,7 +22,7 @@ overflow_cast-len c =
       c.in_ok-push.ensures.len,
       c.loop-step.steps.ok.0,
       c.loop-step.ranks.ok.0,
-      IsSearch-short c.args.graph.now c.args.a c.loop-step.steps.items c.loop-step.ranks.items c.args.at c.loop-step.invariant.1.search,
+      IsSearchBack-short c.args.graph.now c.args.a c.loop-step.steps.items c.loop-step.ranks.items c.args.at c.loop-step.invariant.1.search,
       c.loop-step.invariant.1.search.ranks_len,
       c.loop-step.invariant.0,
       c.requires.few,

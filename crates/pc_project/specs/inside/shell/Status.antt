@@ -4,12 +4,12 @@ use Rattle.pc_project.specs.declared.shell.status.Status.{Status}
 use Rattle.pc_project.specs.declared.shell.status.Status.TheVariants.{Done, Refused, Usage, OutOfMemory, ReadFault, WriteFault, NotCertified, TooLong}
 
 -- the number with which the program ends
-abbrev pub code_of : Status → ℕ
-code_of Done = 0
-code_of Refused = 1
-code_of Usage = 2
-code_of OutOfMemory = 3
-code_of ReadFault = 4
-code_of WriteFault = 5
-code_of NotCertified = 6
-code_of TooLong = 8
+abbrev pub exit_code_of : Status → ℕ
+exit_code_of Done = 0
+exit_code_of Refused = 1
+exit_code_of Usage = 2
+exit_code_of OutOfMemory = 3
+exit_code_of ReadFault = 4
+exit_code_of WriteFault = 5
+exit_code_of NotCertified = 6
+exit_code_of TooLong = 8

@@ -6,7 +6,7 @@ use Rattle.pc_model.specs.Network.{Network}
 use Rattle.pc_rollup.proofs.lemmas.figures.PushLaws.{if_answered}
 use Rattle.pc_times.specs.declared.TheConstants.{MAX_TIME}
 use Rattle.pc_times.specs.Late.{AreLate}
-use Rattle.pc_times.specs.inside.Late.{IsUpTo}
+use Rattle.pc_times.specs.inside.Late.{IsInTimeFor}
 use Rattle.pc_reports.specs.Times.{end_to_meet}
 use Rattle.pc_reports.proofs.times.late_to_meet.Goals as goal
 
@@ -32,7 +32,7 @@ returns-clause-late c =
     c.late.ensures.times
 
 -- a time that is no later than the end, and no earlier by more than the greatest, is no greater
-up_to_small : (by time : ℤ) → pos 0 ≤ℤ by → by ≤ℤ pos MAX_TIME → IsUpTo by time → unsigned_abs time ≤ MAX_TIME
+up_to_small : (by time : ℤ) → pos 0 ≤ℤ by → by ≤ℤ pos MAX_TIME → IsInTimeFor by time → unsigned_abs time ≤ MAX_TIME
 up_to_small by time least most up = grind (arith, ints, up.0, up.1)
 
 pub returns-clause-limit : goal.returns-clause-limit
@@ -41,5 +41,5 @@ returns-clause-limit c =
     let by : to_z w64 (of_z w64 c.end_to_meet-by.result) ≡ c.end_to_meet-by.result = to_z-of_z w64 c.end_to_meet-by.result fits in
     if_answered c.late.result _ _
     (λ late up. λ k d within. up_to_small c.end_to_meet-by.result (get_or late.items k d) c.end_to_meet-by.ensures.limit.0 c.end_to_meet-by.ensures.limit.1
-    (subst (λ (z : ℤ). IsUpTo z (get_or late.items k d)) by (up k d within)))
+    (subst (λ (z : ℤ). IsInTimeFor z (get_or late.items k d)) by (up k d within)))
     c.late.ensures.limit

@@ -10,7 +10,7 @@ use Rattle.pc_accounts.specs.Entries.{entry_at, AreEntriesWithinLimits, IsEntryW
 use Rattle.pc_rollup.specs.declared.figures.summary.SummaryAmounts.{SummaryAmounts}
 use Rattle.pc_rollup.specs.inside.Amounts.{IsSum}
 use Rattle.pc_rollup.specs.Totals.{amount_at}
-use Rattle.pc_rollup.specs.figures.Figures.{account_at, amounts_of}
+use Rattle.pc_rollup.specs.figures.Figures.{account_summary_at, amounts_of}
 use Rattle.pc_rollup.specs.inside.figures.Columns.{summary_columns}
 use Rattle.pc_rollup.proofs.ColumnLaws.{Fit}
 
@@ -41,9 +41,9 @@ summary_small entry small (suc (suc (suc zero))) = omega (arith, small.to_go)
 summary_small entry small (suc (suc (suc (suc zero)))) = omega (arith, ints, small.budget, small.to_go)
 summary_small entry small (suc (suc (suc (suc (suc c))))) = omega arith
 
-pub summary_fits : (place : ℕ → ℕ) (entries : List Entry) (n : ℕ) → AreEntriesWithinLimits entries → length entries ≡ n → Fit summary_columns place (account_at entries) n
+pub summary_fits : (place : ℕ → ℕ) (entries : List Entry) (n : ℕ) → AreEntriesWithinLimits entries → length entries ≡ n → Fit summary_columns place (account_summary_at entries) n
 summary_fits place entries n small count c =
-    amounts_fit (λ a. amount_at (summary_columns (account_at entries a)) c) entries n small count (λ a lt. summary_small (entry_at entries a) (small.each a lt) c)
+    amounts_fit (λ a. amount_at (summary_columns (account_summary_at entries a)) c) entries n small count (λ a lt. summary_small (entry_at entries a) (small.each a lt) c)
 
 -- sums of each column
 pub summary_sum : (a b sum : SummaryAmounts) → sum.budget ≡ a.budget +ℤ b.budget → sum.actual ≡ a.actual +ℤ b.actual → sum.to_go ≡ a.to_go +ℤ b.to_go →

@@ -20,13 +20,13 @@ use Rattle.pc_rollup.specs.Totals.{amount_at}
 use Rattle.pc_wbs.specs.Climb.{AreInRange, IsDepth, IsTree}
 use Rattle.pc_wbs.specs.Preorder.{IsPreorder}
 use Rattle.pc_rollup.specs.figures.Columns.{AddUpTo, AmountColumn, AreItemSums, AreOnTree, HaveOneLine, IsColumn, IsLevelSum}
-use Rattle.pc_rollup.specs.inside.figures.Columns.{AreSumsByItem, IsTotal, column_of, summary_columns}
-use Rattle.pc_rollup.specs.figures.Figures.{account_at, actual_at, amounts_of}
+use Rattle.pc_rollup.specs.inside.figures.Columns.{AreSumsByItem, IsAccountTotal, summary_column, summary_columns}
+use Rattle.pc_rollup.specs.figures.Figures.{account_summary_at, actual_at, amounts_of}
 use Rattle.pc_rollup.specs.figures.Summary.{AreBooked, CountsOnce, IsSummaryOf, Summary}
 use Rattle.pc_rollup.specs.figures.Outline.{IsOutline}
 use Rattle.pc_rollup.specs.declared.figures.outline.OutlineRow.{OutlineRow}
 use Rattle.pc_rollup.specs.declared.figures.summary.SummaryAmounts.{SummaryAmounts}
-use Rattle.pc_rollup.specs.inside.Amounts.{column}
+use Rattle.pc_rollup.specs.inside.Amounts.{column_amounts}
 use Rattle.pc_rollup.proofs.ColumnLaws.{column_at}
 use Rattle.pc_rollup.proofs.WholeLaws.{some_item}
 use Rattle.pc_rollup.proofs.lemmas.figures.SumLaws.{column_is, levels_are_whole, lines_are_whole}
@@ -71,7 +71,7 @@ more_of c entries a lt = of_column c
 
 -- all of them
 column_total : (c : ℕ) (accounts : List AcctRow) (entries : List Entry) → length entries ≡ length accounts → (t : ℤ) →
-    IsTotal accounts (λ a. column_of_entry c (entry_at entries a)) t → t ≡ column_of_entry c (entry_of_all entries)
+    IsAccountTotal accounts (λ a. column_of_entry c (entry_at entries a)) t → t ≡ column_of_entry c (entry_of_all entries)
 column_total c accounts entries one_each t is =
     let whole : take (length accounts) entries ≡ entries = ap (λ (k : ℕ). take k entries) (sym one_each) ∙ take-length entries in
     IsSumOver-all (λ a. a < length accounts) (length accounts) (λ a. column_of_entry c (entry_at entries a)) (λ k. column_of_entry c (entry_of_all (take k entries))) t
@@ -102,7 +102,7 @@ lines_have_charges tree accounts charges togos as_of entries level totals lines 
 
 -- the top has its sums
 pub top_known : (tree : List ItemRow) (order : List ℕ) (accounts : List AcctRow) (entries : List Entry) (amounts : List SummaryAmounts) → IsTree tree →
-    IsPreorder tree order → AreSumsByItem summary_columns tree accounts (account_at entries) amounts → slice_index order 0 < length amounts
+    IsPreorder tree order → AreSumsByItem summary_columns tree accounts (account_summary_at entries) amounts → slice_index order 0 < length amounts
 top_known tree order accounts entries amounts sound preorder sums =
     let long = length-map amounts (λ (a : SummaryAmounts). amount_at (summary_columns a) 0) in
     omega (arith, preorder.range 0 (some_item tree order sound preorder), (sums 0).one_each)
@@ -110,17 +110,17 @@ top_known tree order accounts entries amounts sound preorder sums =
 -- sums by item, and the amounts of the top, which each level has
 module _ (tree : List ItemRow) (order : List ℕ) (accounts : List AcctRow) (entries : List Entry) (amounts : List SummaryAmounts) (whole : SummaryAmounts) (depth : ℕ)
     (ranged : AreInRange tree) (sound : IsTree tree) (preorder : IsPreorder tree order) (deep : IsDepth tree depth) (on_tree : AreOnTree tree accounts)
-    (one_each : length entries ≡ length accounts) (sums : AreSumsByItem summary_columns tree accounts (account_at entries) amounts)
+    (one_each : length entries ≡ length accounts) (sums : AreSumsByItem summary_columns tree accounts (account_summary_at entries) amounts)
     (top : whole ≡ get_or amounts (slice_index order 0) whole) where
   abbrev columns : ℕ → AmountColumn
-  columns c = record { items = column summary_columns c amounts; levels = replicate depth (amount_at (summary_columns whole) c) }
+  columns c = record { items = column_amounts summary_columns c amounts; levels = replicate depth (amount_at (summary_columns whole) c) }
 
   known : slice_index order 0 < length amounts
   known = top_known tree order accounts entries amounts sound preorder sums
 
   is_column : (c : ℕ) → IsColumn tree accounts (λ a. column_of_entry c (entry_at entries a)) (columns c)
   is_column c =
-      column_is tree order accounts (λ a. column_of_entry c (entry_at entries a)) (column summary_columns c amounts) depth (amount_at (summary_columns whole) c)
+      column_is tree order accounts (λ a. column_of_entry c (entry_at entries a)) (column_amounts summary_columns c amounts) depth (amount_at (summary_columns whole) c)
       ranged sound preorder deep on_tree (sums c) (column_at summary_columns c amounts (slice_index order 0) whole known top)
 
   adds : (c : ℕ) → AddUpTo tree (column_of_entry c (entry_of_all entries)) (columns c)
@@ -130,11 +130,11 @@ module _ (tree : List ItemRow) (order : List ℕ) (accounts : List AcctRow) (ent
     abbrev summary : Summary
     summary = record {
       outline = outline;
-      budget = column_of (λ (a : SummaryAmounts). a.budget) amounts whole depth;
-      actual = column_of (λ (a : SummaryAmounts). a.actual) amounts whole depth;
-      to_go = column_of (λ (a : SummaryAmounts). a.to_go) amounts whole depth;
-      latest = column_of (λ (a : SummaryAmounts). a.latest) amounts whole depth;
-      overrun = column_of (λ (a : SummaryAmounts). a.overrun) amounts whole depth;
+      budget = summary_column (λ (a : SummaryAmounts). a.budget) amounts whole depth;
+      actual = summary_column (λ (a : SummaryAmounts). a.actual) amounts whole depth;
+      to_go = summary_column (λ (a : SummaryAmounts). a.to_go) amounts whole depth;
+      latest = summary_column (λ (a : SummaryAmounts). a.latest) amounts whole depth;
+      overrun = summary_column (λ (a : SummaryAmounts). a.overrun) amounts whole depth;
     }
 
     pub summary_is : IsOutline tree outline → IsSummaryOf tree accounts entries summary

@@ -16,9 +16,9 @@ use Rattle.pc_rollup.proofs.SumLaws.{IsSumOver-only}
 use Rattle.pc_times.specs.declared.forecasts.ActState.{ActState}
 use Rattle.pc_rollup.specs.declared.figures.outline.OutlineRow.{OutlineRow}
 use Rattle.pc_rollup.specs.figures.Columns.{AreOnTree, AreItemSums, AmountColumn, IsColumn, IsLevelSum}
-use Rattle.pc_rollup.specs.inside.figures.Columns.{IsTotal}
-use Rattle.pc_rollup.specs.figures.Figures.{account_at, actual_at, budget_at}
-use Rattle.pc_rollup.specs.figures.Outline.{AreOutlineRows, IsOutline, row_at}
+use Rattle.pc_rollup.specs.inside.figures.Columns.{IsAccountTotal}
+use Rattle.pc_rollup.specs.figures.Figures.{account_summary_at, actual_at, budget_at}
+use Rattle.pc_rollup.specs.figures.Outline.{AreOutlineRows, IsOutline, outline_row_at}
 use Rattle.pc_rollup.specs.figures.Packages.{IsValueOf, overrun_at}
 use Rattle.pc_rollup.specs.figures.Slacks.{AreLeastSlacks}
 use Rattle.pc_rollup.specs.figures.Summary.{IsSummaryOf, Summary}
@@ -35,9 +35,9 @@ one_item_sums tree accounts amount s t x y =
     (x.each k (omega (arith, lt, x.one_each))) (y.each k (omega (arith, lt, x.one_each))))
 
 module _ (tree : List ItemRow) (accounts : List AcctRow) (ranged : AreInRange tree) (sound : IsTree tree) (on_tree : AreOnTree tree accounts) where
-  level_sum_is : (amount : ℕ → ℤ) (totals : List ℤ) (level : ℕ) (sum : ℤ) → AreItemSums tree accounts amount totals → IsLevelSum tree totals (level + 1) sum → IsTotal accounts amount sum
+  level_sum_is : (amount : ℕ → ℤ) (totals : List ℤ) (level : ℕ) (sum : ℤ) → AreItemSums tree accounts amount totals → IsLevelSum tree totals (level + 1) sum → IsAccountTotal accounts amount sum
   level_sum_is amount totals level sum sums (lines, (are, is)) =
-      subst (λ (z : ℤ). IsTotal accounts amount z) (sym is) (lines_are_whole tree accounts amount totals (level + 1) lines ranged sound on_tree sums (omega arith) are)
+      subst (λ (z : ℤ). IsAccountTotal accounts amount z) (sym is) (lines_are_whole tree accounts amount totals (level + 1) lines ranged sound on_tree sums (omega arith) are)
 
   one_column : (amount : ℕ → ℤ) (c d : AmountColumn) → IsColumn tree accounts amount c → IsColumn tree accounts amount d → c ≡ d
   one_column amount c d x y =
@@ -63,8 +63,8 @@ rows_in_order tree order xs ys a b =
     (λ k lt. let p = a.each k (omega (arith, lt, a.one_each)) in
     let q = b.each k (omega (arith, lt, a.one_each)) in
     let same = p.item ∙ sym q.item in
-    one_row (row_at xs k) (row_at ys k) same
-    (HasLevel-same tree (row_at ys k).item (row_at xs k).level (row_at ys k).level (subst (λ (x : ℕ). HasLevel tree x (row_at xs k).level) same p.level) q.level))
+    one_row (outline_row_at xs k) (outline_row_at ys k) same
+    (HasLevel-same tree (outline_row_at ys k).item (outline_row_at xs k).level (outline_row_at ys k).level (subst (λ (x : ℕ). HasLevel tree x (outline_row_at xs k).level) same p.level) q.level))
 
 pub one_outline : (tree : List ItemRow) (xs ys : List OutlineRow) → IsTree tree → IsOutline tree xs → IsOutline tree ys → xs ≡ ys
 one_outline tree xs ys sound (order, (preorder, are)) (other, (also, in_order)) =
@@ -82,11 +82,11 @@ pub one_summary : (tree : List ItemRow) (accounts : List AcctRow) (entries : Lis
     AreOnTree tree accounts → IsSummaryOf tree accounts entries s → IsSummaryOf tree accounts entries t → s ≡ t
 one_summary tree accounts entries s t ranged sound on_tree x y =
     same_parts (one_outline tree s.outline t.outline sound x.outline y.outline)
-    (one_column tree accounts ranged sound on_tree (λ a. (account_at entries a).budget) s.budget t.budget x.budget y.budget)
-    (one_column tree accounts ranged sound on_tree (λ a. (account_at entries a).actual) s.actual t.actual x.actual y.actual)
-    (one_column tree accounts ranged sound on_tree (λ a. (account_at entries a).to_go) s.to_go t.to_go x.to_go y.to_go)
-    (one_column tree accounts ranged sound on_tree (λ a. (account_at entries a).latest) s.latest t.latest x.latest y.latest)
-    (one_column tree accounts ranged sound on_tree (λ a. (account_at entries a).overrun) s.overrun t.overrun x.overrun y.overrun)
+    (one_column tree accounts ranged sound on_tree (λ a. (account_summary_at entries a).budget) s.budget t.budget x.budget y.budget)
+    (one_column tree accounts ranged sound on_tree (λ a. (account_summary_at entries a).actual) s.actual t.actual x.actual y.actual)
+    (one_column tree accounts ranged sound on_tree (λ a. (account_summary_at entries a).to_go) s.to_go t.to_go x.to_go y.to_go)
+    (one_column tree accounts ranged sound on_tree (λ a. (account_summary_at entries a).latest) s.latest t.latest x.latest y.latest)
+    (one_column tree accounts ranged sound on_tree (λ a. (account_summary_at entries a).overrun) s.overrun t.overrun x.overrun y.overrun)
 
 -- ---- the worth of the work
 

@@ -17,7 +17,7 @@ use Rattle.pc_accounts.specs.Amounts.{item_of}
 use Rattle.pc_accounts.specs.Entries.{entry_at, AreEntriesWithinLimits, IsEntryWithinLimits}
 use Rattle.pc_rollup.specs.Sums.{IsSumOver}
 use Rattle.pc_rollup.specs.Totals.{amount_at}
-use Rattle.pc_rollup.specs.inside.Amounts.{column, AreRolled, CanBeRolled, CanTake, HaveTaken, IsSum}
+use Rattle.pc_rollup.specs.inside.Amounts.{column_amounts, AreRolled, CanBeRolled, CanTake, HaveTaken, IsSum}
 use Rattle.pc_rollup.proofs.SumLaws.{IsSumOver-amounts, IsSumOver-nothing, IsSumOver-only, IsSumOver-part, IsSumOver-plus, IsSumOver-same}
 use Rattle.pc_rollup.proofs.ColumnLaws.{AreSummedTo, Fit, below_sum, can_roll, can_take, length_rolled, taken}
 use Rattle.pc_rollup.specs.declared.figures.outlook.OutlookAmounts.{OutlookAmounts}
@@ -212,7 +212,7 @@ module _ (marks : List Bool) (places : List ℕ) (cost : ℕ → ℕ) (accounts 
     parts : (sums totals : List OutlookAmounts) → AreAddedTo (length tree) (length accounts + length places) sums → AreRolled outlook_columns tree sums totals →
         (c y : ℕ) → y < length tree → (s : ℤ) × ((u : ℤ) × (IsItemSum tree accounts (λ b. amount_at (outlook_columns (account_adds b)) c) y s
         × IsSumOver (λ a. IsBelow tree (slice_index places a) y) (length places) (λ a. amount_at (outlook_columns (activity_adds a)) c) u
-        × (amount_at (column outlook_columns c totals) y ≡ s +ℤ u)))
+        × (amount_at (column_amounts outlook_columns c totals) y ≡ s +ℤ u)))
     parts sums totals so_far rolled c y lt =
         let n = length accounts in
         let of : ℕ → ℤ = λ k. amount_at (outlook_columns (added k)) c in

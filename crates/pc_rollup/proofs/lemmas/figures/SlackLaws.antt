@@ -7,7 +7,7 @@ use Rattle.pc_wbs.specs.Climb.{IsBelow}
 use Rattle.pc_rollup.specs.declared.totals.Placed.{Placed}
 use Rattle.pc_rollup.specs.Least.{IsLeastOver, least_at}
 use Rattle.pc_rollup.specs.inside.Least.{AreLeastOf}
-use Rattle.pc_rollup.specs.inside.Totals.{place_of, amount_of}
+use Rattle.pc_rollup.specs.inside.Totals.{placed_item, placed_amount}
 use Rattle.pc_rollup.specs.figures.Slacks.{AreLeastSlacks}
 use Rattle.pc_rollup.specs.inside.figures.Slacks.{ArePlacedSlacks}
 
@@ -19,13 +19,13 @@ least_slacks_are tree places slack placed slacks are least = record {
   each = λ y lt. of_least y (least_at slacks y) (least.each y lt);
 }
   where
-    place : (a : ℕ) → a < length places → place_of placed a ≡ slice_index places a
+    place : (a : ℕ) → a < length places → placed_item placed a ≡ slice_index places a
     place a h = ap (λ (p : Placed). p.item) (are.each a h)
 
-    amount : (a : ℕ) → a < length places → amount_of placed a ≡ slack a
+    amount : (a : ℕ) → a < length places → placed_amount placed a ≡ slack a
     amount a h = ap (λ (p : Placed). p.amount) (are.each a h)
 
-    of_least : (y : ℕ) (o : Option ℤ) → IsLeastOver (λ k. IsBelow tree (place_of placed k) y) (length placed) (amount_of placed) o →
+    of_least : (y : ℕ) (o : Option ℤ) → IsLeastOver (λ k. IsBelow tree (placed_item placed k) y) (length placed) (placed_amount placed) o →
         IsLeastOver (λ a. IsBelow tree (slice_index places a) y) (length places) slack o
     of_least y None none = λ a h below. none a (omega (arith, are.one_each)) (subst (λ (x : ℕ). IsBelow tree x y) (sym (place a h)) below)
     of_least y (Some m) ((x, (lt, below, at)), bound) =

@@ -16,7 +16,7 @@ use Rattle.pc_rollup.proofs.SumLaws.{IsSumOver-amounts, IsSumOver-only, IsSumOve
 use Rattle.pc_rollup.proofs.ColumnLaws.{AreSummedTo, below_sum}
 use Rattle.pc_rollup.proofs.WholeLaws.{first_is_top, lines_of_level, lines_sum, some_item}
 use Rattle.pc_rollup.specs.figures.Columns.{AreOnTree, AreItemSums, AreLevelSums, IsColumn, IsLevelSum}
-use Rattle.pc_rollup.specs.inside.figures.Columns.{AreSumsByItem, IsTotal}
+use Rattle.pc_rollup.specs.inside.figures.Columns.{AreSumsByItem, IsAccountTotal}
 
 -- what is summed on the items of accounts is their sums by item
 pub sums_are : {A : Type 0} (columns : A → List ℤ) (tree : List ItemRow) (accounts : List AcctRow) (has : ℕ → A) (n : ℕ)
@@ -39,7 +39,7 @@ item_sums_alike tree accounts f g totals same sums = record {
 -- the lines of a level have what all accounts have, each account once
 pub lines_are_whole : (tree : List ItemRow) (accounts : List AcctRow) (amount : ℕ → ℤ) (totals : List ℤ) (level : ℕ)
     (lines : List LevelLine) → AreInRange tree → IsTree tree → AreOnTree tree accounts → AreItemSums tree accounts amount totals →
-    1 ≤ level → AreLevelLines tree level totals lines → IsTotal accounts amount (sum_of lines)
+    1 ≤ level → AreLevelLines tree level totals lines → IsAccountTotal accounts amount (sum_of lines)
 lines_are_whole tree accounts amount totals level lines ranged sound on_tree sums some (order, (preorder, are)) =
     lines_sum tree order level (λ a. a < length accounts) (item_of accounts) (length accounts) amount totals lines (record {
       ranged = ranged;
@@ -57,14 +57,14 @@ lines_are_whole tree accounts amount totals level lines ranged sound on_tree sum
 -- so has each level
 pub levels_are_whole : (tree : List ItemRow) (accounts : List AcctRow) (amount : ℕ → ℤ) (totals levels : List ℤ) → AreInRange tree →
     IsTree tree → AreOnTree tree accounts → AreItemSums tree accounts amount totals → AreLevelSums tree totals levels → (k : ℕ) →
-    k < length levels → IsTotal accounts amount (amount_at levels k)
+    k < length levels → IsAccountTotal accounts amount (amount_at levels k)
 levels_are_whole tree accounts amount totals levels ranged sound on_tree sums are k lt =
     let (lines, (its, e)) = are.each k lt in
-    subst (λ (z : ℤ). IsTotal accounts amount z) (sym e) (lines_are_whole tree accounts amount totals (k + 1) lines ranged sound on_tree sums (omega arith) its)
+    subst (λ (z : ℤ). IsAccountTotal accounts amount z) (sym e) (lines_are_whole tree accounts amount totals (k + 1) lines ranged sound on_tree sums (omega arith) its)
 
 -- the top has what all accounts have
 top_is_whole : (tree : List ItemRow) (accounts : List AcctRow) (amount : ℕ → ℤ) (totals : List ℤ) (top : ℕ) → AreInRange tree → IsTree tree →
-    AreOnTree tree accounts → AreItemSums tree accounts amount totals → IsTop tree top → IsTotal accounts amount (amount_at totals top)
+    AreOnTree tree accounts → AreItemSums tree accounts amount totals → IsTop tree top → IsAccountTotal accounts amount (amount_at totals top)
 top_is_whole tree accounts amount totals top ranged sound on_tree sums is_top =
     let (first, only) = sound.top in
     let same : top ≡ first = only.only top is_top.0 is_top.1 in

@@ -2,7 +2,7 @@ use Rattle.std.proofs.Common.{◌≡◌, length, refl, subst, arith}
 use Rattle.std.specs.Prelude.{unsigned_abs}
 use Rattle.std.proofs.lemmas.List.Sums.{sum_by-take-le}
 use Rattle.pc_rollup.specs.declared.totals.Placed.{Placed}
-use Rattle.pc_rollup.specs.inside.Totals.{AreAmountsOf}
+use Rattle.pc_rollup.specs.inside.Totals.{ArePlacedSums}
 use Rattle.pc_rollup.proofs.PlacedLaws.{placed_taken}
 use Rattle.pc_rollup.proofs.totals.amounts_by_item.Goals as goal
 
@@ -18,7 +18,7 @@ pub returns-clause-amounts : goal.returns-clause-amounts
 returns-clause-amounts c =
     let placed = c.args.placed.now in
     let all : c.loop-p.p-index ≡ length placed = omega arith in
-    subst (λ n. AreAmountsOf c.args.items placed n c.loop-p.amounts.items) all c.loop-p.invariant.sums
+    subst (λ n. ArePlacedSums c.args.items placed n c.loop-p.amounts.items) all c.loop-p.invariant.sums
 
 pub returns-clause-small : goal.returns-clause-small
 returns-clause-small c =

@@ -2,7 +2,7 @@ use Rattle.std.proofs.Common.{◌≡◌, ℤ, pos, ◌-ℤ◌, List, map, arith,
 use Rattle.std.proofs.lemmas.Int.{ints, to_z-of_z}
 use Rattle.std.specs.List.{All}
 use Rattle.pc_times.specs.Late.{AreLate}
-use Rattle.pc_times.specs.inside.Late.{IsUpTo}
+use Rattle.pc_times.specs.inside.Late.{IsInTimeFor}
 use Rattle.pc_times.proofs.LateLaws.{late_from_tails, late_limit, late_more, late_all}
 use Rattle.pc_times.proofs.events.late.Goals as goal
 
@@ -25,4 +25,4 @@ returns-clause-limit c =
     let whole : c.loop-tail.times.items
     ≡ map (λ n. c.args.by -ℤ pos n) c.in_ok-tails.tails.items =
     late_all _ _ _ _ _ _ (to_z-of_z _ _ c.ranges.by) c.deref-tail-items.ensures.value (omega arith) c.loop-tail.invariant in
-    subst (λ (times : List ℤ). All (IsUpTo c.args.by) times) (sym whole) (late_limit _ _ c.in_ok-tails.ensures.limit)
+    subst (λ (times : List ℤ). All (IsInTimeFor c.args.by) times) (sym whole) (late_limit _ _ c.in_ok-tails.ensures.limit)

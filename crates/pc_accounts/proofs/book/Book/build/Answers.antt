@@ -1,6 +1,6 @@
 use Rattle.std.proofs.Common.{◌∙◌, ℕ, ℤ, List, length, Option, ap, subst, arith}
 use Rattle.pc_accounts.specs.declared.book.MoneyRow.{MoneyRow}
-use Rattle.pc_accounts.specs.inside.Parts.{AreKnown, AreLatest, LatestBelow}
+use Rattle.pc_accounts.specs.inside.Parts.{AreKnownAmounts, AreLatest, LatestBelow}
 use Rattle.pc_accounts.proofs.AmountLaws.{entries_of}
 use Rattle.pc_accounts.proofs.WholeLaws.{entries_are_project}
 use Rattle.pc_accounts.proofs.book.Book.build.Goals as goal
@@ -21,7 +21,7 @@ pub entries-requires-clause-latest : goal.entries-requires-clause-latest
 entries-requires-clause-latest c = ap length c.deref-2.ensures.value ∙ c.in_ok-latest.ensures.one_each
 
 -- each row that is the latest is one of the amounts to go
-known : (accounts : ℕ) (togos : List MoneyRow) (as_of : ℤ) (latest : List (Option ℕ)) → AreLatest accounts togos as_of (length togos) latest → AreKnown togos latest
+known : (accounts : ℕ) (togos : List MoneyRow) (as_of : ℤ) (latest : List (Option ℕ)) → AreLatest accounts togos as_of (length togos) latest → AreKnownAmounts togos latest
 known accounts togos as_of latest all a k below is = (subst (LatestBelow togos as_of a (length togos)) is (all.each a (omega (arith, all.one_each)))).0
 
 pub entries-requires-clause-known : goal.entries-requires-clause-known

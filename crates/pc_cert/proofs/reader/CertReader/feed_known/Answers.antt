@@ -1,7 +1,7 @@
 use Rattle.std.proofs.Common.{◌≡◌, ◌+◌, ◌<◌, ◌++◌, None, sym, ap, subst, ◌∙◌, arith, append-nil, length, take, length-take-le}
 use Rattle.pc_text.specs.Fields.{run_len}
 use Rattle.pc_cert.specs.inside.Reading.{line_of}
-use Rattle.pc_cert.specs.inside.Reader.{Reading, HasPassed}
+use Rattle.pc_cert.specs.inside.Reader.{CertReading, HasReadLine}
 use Rattle.pc_cert.proofs.ReaderLaws.{none_from, going, holds, too_long, passed}
 use Rattle.pc_cert.proofs.reader.CertReader.feed_known.Goals as goal
 
@@ -27,4 +27,4 @@ returns-clause-stands c =
     passed c.args.self.now c.pass.new.self c.learn.new.self.held c.learn.new.known.line c.args.piece.now
     (c.line_len-end.result + 1) c.pass.result none (ap (λ n. n + 1) c.line_len-end.ensures.value) less
     (ap (λ n. line_of (c.args.self.now.held ++ take n c.args.piece.now)) (sym c.line_len-end.ensures.value) ∙ sym c.learn.ensures.line)
-    (subst (λ (r : Reading). HasPassed c.learn.new.known.line (c.line_len-end.result + 1) r c.pass.new.self c.pass.result) c.learn.ensures.rest c.pass.ensures)
+    (subst (λ (r : CertReading). HasReadLine c.learn.new.known.line (c.line_len-end.result + 1) r c.pass.new.self c.pass.result) c.learn.ensures.rest c.pass.ensures)

@@ -1,6 +1,6 @@
 use Rattle.std.proofs.Common.{ℕ, ◌+◌, ◌<◌, sym, ap, subst, ◌∙◌, arith, length, length-append, ◌∷◌, [], false}
 use Rattle.pc_model.specs.Codes.{text_at}
-use Rattle.pc_certify.specs.inside.fast.Spelled.{SpellsEvent, event_row}
+use Rattle.pc_certify.specs.inside.fast.Spelled.{SpellsEvent, event_row_at}
 use Rattle.pc_check.proofs.BelowLaws.{each_more}
 use Rattle.pc_certify.proofs.fast.last_lines.event_rows.Goals as goal
 
@@ -14,7 +14,7 @@ loop-e-preserved c =
     let pushed = c.in_ok-push.ensures.items in
     record {
       one_each = ap length pushed ∙ omega (arith, length-append rows (row ∷ []), had.one_each);
-      each = subst (λ after. (i : ℕ) → i < e + 1 → SpellsEvent (text_at net.events i) (event_row after i)) (sym pushed)
+      each = subst (λ after. (i : ℕ) → i < e + 1 → SpellsEvent (text_at net.events i) (event_row_at after i)) (sym pushed)
           (each_more (λ i r. SpellsEvent (text_at net.events i) r) rows row (record { time = 0; moves = false; spelling = [] }) e had.one_each had.each
           (subst (λ code. SpellsEvent code row) c.event_code.ensures c.of.ensures));
     }

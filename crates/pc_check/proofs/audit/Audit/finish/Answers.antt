@@ -1,6 +1,6 @@
 use Rattle.std.proofs.Common.{sym, subst}
 use Rattle.pc_check.specs.Texts.{IsFailing, Finds}
-use Rattle.pc_check.specs.inside.Auditing.{Auditing, HasRead, IsGoing}
+use Rattle.pc_check.specs.inside.Auditing.{Auditing, HasRead, IsOngoingAudit}
 use Rattle.pc_check.proofs.AuditLaws.{checking}
 use Rattle.pc_check.proofs.AuditFinishLaws.{found_whole, found_broken}
 use Rattle.pc_check.proofs.audit.Audit.finish.Goals as goal
@@ -8,7 +8,7 @@ use Rattle.pc_check.proofs.audit.Audit.finish.Goals as goal
 pub returns-in-Ok : goal.returns-in-Ok
 returns-in-Ok c = λ text h.
     let old : Auditing = record { reader = c.self.inside.reader; checker = c.self.inside.checker } in
-    let going : IsGoing old = subst (λ a. IsGoing a) (sym c.self.view_is) c.requires.going in
+    let going : IsOngoingAudit old = subst (λ a. IsOngoingAudit a) (sym c.self.view_is) c.requires.going in
     let before : HasRead text old = subst (λ a. HasRead text a) (sym c.self.view_is) h in
     let checked = checking old.checker before.lines going.no_fail before.checked in
     subst (λ (a : Auditing). Finds a.checker.net text c.finish-in-Ok.result) c.self.view_is
@@ -17,7 +17,7 @@ returns-in-Ok c = λ text h.
 pub returns-in-Err : goal.returns-in-Err
 returns-in-Err c = λ text h.
     let old : Auditing = record { reader = c.self.inside.reader; checker = c.self.inside.checker } in
-    let going : IsGoing old = subst (λ a. IsGoing a) (sym c.self.view_is) c.requires.going in
+    let going : IsOngoingAudit old = subst (λ a. IsOngoingAudit a) (sym c.self.view_is) c.requires.going in
     let before : HasRead text old = subst (λ a. HasRead text a) (sym c.self.view_is) h in
     let checked = checking old.checker before.lines going.no_fail before.checked in
     subst (λ (a : Auditing). IsFailing a.checker.net text (record { line = c.in-Err.malformed.line; reason = 0 })) c.self.view_is

@@ -1,7 +1,7 @@
 use Rattle.std.proofs.Common.{◌≡◌, ◌++◌, sym, ap, subst, ◌∙◌, arith, rules}
-use Rattle.pc_cert.specs.inside.Reader.{Reading}
+use Rattle.pc_cert.specs.inside.Reader.{CertReading}
 use Rattle.pc_check.specs.inside.Checking.{Checking}
-use Rattle.pc_check.specs.inside.Auditing.{Auditing, HasRead, HasUsed, IsGoing, MayUse}
+use Rattle.pc_check.specs.inside.Auditing.{Auditing, HasRead, HasUsed, IsOngoingAudit, MayUse}
 use Rattle.pc_check.proofs.AuditLaws.{same_place, same_count}
 use Rattle.pc_check.proofs.audit.Audit.step.Goals as goal
 
@@ -11,7 +11,7 @@ take_rows-used-requires-clause-no_fail c = ap (λ a. a.checker.fail) c.self.view
 pub take_rows-used-requires-clause-place : goal.take_rows-used-requires-clause-place
 take_rows-used-requires-clause-place c =
     let old : Auditing = record { reader = c.self.inside.reader; checker = c.self.inside.checker } in
-    let going : IsGoing old = subst (λ a. IsGoing a) (sym c.self.view_is) c.requires.going in
+    let going : IsOngoingAudit old = subst (λ a. IsOngoingAudit a) (sym c.self.view_is) c.requires.going in
     let before : HasRead c.requires.read.0 old = subst (λ a. HasRead c.requires.read.0 a) (sym c.self.view_is) c.requires.read.1 in
     same_place going before
 
@@ -21,7 +21,7 @@ take_rows-used-requires-clause-going c = ap (λ a. a.reader.malformed) c.self.vi
 pub take_rows-used-requires-clause-alike : goal.take_rows-used-requires-clause-alike
 take_rows-used-requires-clause-alike c =
     let old : Auditing = record { reader = c.self.inside.reader; checker = c.self.inside.checker } in
-    let going : IsGoing old = subst (λ a. IsGoing a) (sym c.self.view_is) c.requires.going in
+    let going : IsOngoingAudit old = subst (λ a. IsOngoingAudit a) (sym c.self.view_is) c.requires.going in
     let before : HasRead c.requires.read.0 old = subst (λ a. HasRead c.requires.read.0 a) (sym c.self.view_is) c.requires.read.1 in
     same_count going before
 
@@ -45,7 +45,7 @@ returns-then-used-gt0 c =
 
 pub take_line-requires : goal.take_line-requires
 take_line-requires c =
-    let audit_of : Reading → Checking → Auditing = λ r k. record { reader = r; checker = k } in
+    let audit_of : CertReading → Checking → Auditing = λ r k. record { reader = r; checker = k } in
     let nothing : c.take_rows-used.result ≡ 0 = omega (arith, c.if-used-gt0.false) in
     let same : audit_of c.take_rows-used.new.reader c.take_rows-used.new.self ≡ c.args.self.now =
     ap (λ r. audit_of r c.take_rows-used.new.self) (c.take_rows-used.ensures.same_reader nothing) ∙ ap (audit_of c.self.inside.reader) (c.take_rows-used.ensures.same nothing) ∙ c.self.view_is in
@@ -53,7 +53,7 @@ take_line-requires c =
 
 pub returns : goal.returns
 returns c =
-    let audit_of : Reading → Checking → Auditing = λ r k. record { reader = r; checker = k } in
+    let audit_of : CertReading → Checking → Auditing = λ r k. record { reader = r; checker = k } in
     let nothing : c.take_rows-used.result ≡ 0 = omega (arith, c.if-used-gt0.false) in
     let same : audit_of c.take_rows-used.new.reader c.take_rows-used.new.self ≡ c.args.self.now =
     ap (λ r. audit_of r c.take_rows-used.new.self) (c.take_rows-used.ensures.same_reader nothing) ∙ ap (audit_of c.self.inside.reader) (c.take_rows-used.ensures.same nothing) ∙ c.self.view_is in

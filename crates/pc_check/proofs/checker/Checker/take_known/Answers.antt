@@ -2,7 +2,7 @@ use Rattle.std.proofs.Common.{◌≡◌, ◌+◌, ◌<◌, Some, refl, sym, ap, 
 use Rattle.pc_check.specs.inside.Bounds.{IsBounded, lines_left}
 use Rattle.std.specs.Prelude.{IfNone}
 use Rattle.pc_cert.specs.Grammar.{next}
-use Rattle.pc_check.specs.inside.Checking.{Checking, StandsFor}
+use Rattle.pc_check.specs.inside.Checking.{Checking, ChecksAs}
 use Rattle.pc_check.proofs.TakeLaws.{goes_on, fails, stays, is_going, still_going, when_none}
 use Rattle.pc_check.proofs.checker.Checker.take_known.Goals as goal
 
@@ -13,7 +13,7 @@ returns-in-Some-clause-stands c = λ lines h.
 pub returns-in-None-clause-stands : goal.returns-in-None-clause-stands
 returns-in-None-clause-stands c = λ lines h.
     let none = c.in_default.is in
-    let before = is_going c.self.inside.net.now c.self.inside.kept c.self.inside.fail lines none (subst (λ s. StandsFor s lines) (sym c.self.view_is) h) in
+    let before = is_going c.self.inside.net.now c.self.inside.kept c.self.inside.fail lines none (subst (λ s. ChecksAs s lines) (sym c.self.view_is) h) in
     still_going c.self.inside.net.now c.advance.new.kept c.self.inside.fail _ none
     (goes_on c.args.line.now c.self.invariant.safe
     (when_none c.self.inside.fail none c.self.invariant.bounded) c.in-None.ensures.reason c.in-None.ensures.advances before)
@@ -25,7 +25,7 @@ returns-in-None-clause-left c =
 pub returns-in-Some-advance-clause-stands : goal.returns-in-Some-advance-clause-stands
 returns-in-Some-advance-clause-stands c = λ lines h.
     let none = c.in_default.is in
-    let before = is_going c.self.inside.net.now c.self.inside.kept c.self.inside.fail lines none (subst (λ s. StandsFor s lines) (sym c.self.view_is) h) in
+    let before = is_going c.self.inside.net.now c.self.inside.kept c.self.inside.fail lines none (subst (λ s. ChecksAs s lines) (sym c.self.view_is) h) in
     let bounded = when_none c.self.inside.fail none c.self.invariant.bounded in
     let goes = when_none c.self.inside.fail none (subst (λ (s : Checking). IfNone s.fail (next s.kept.place c.args.line.now ≡ Some c.args.behind)) (sym c.self.view_is) c.requires.goes) in
     fails c.args.line.now c.args.behind c.number.result

@@ -1,6 +1,6 @@
 use Rattle.std.specs.Prelude.{IfNone}
 use Rattle.std.proofs.Common.{◌≡◌, None, sym, ap, subst, ◌∙◌, arith}
-use Rattle.pc_cert.specs.inside.Reader.{Reading}
+use Rattle.pc_cert.specs.inside.Reader.{CertReading}
 use Rattle.pc_check.specs.declared.kept.Kept.{Kept}
 use Rattle.pc_check.specs.inside.fast.Rows.{going}
 use Rattle.pc_check.specs.inside.fast.Along.{TakesAlong}
@@ -89,6 +89,6 @@ returns-clause-takes c = λ some.
     subst (λ (k : Checking). TakesAlong c.args.piece.now c.advance_events.result c.args.reader.now new.reader k (record { net = net; kept = new.kept; fail = c.self.inside.fail })) c.self.view_is
     (subst (λ f. TakesAlong c.args.piece.now c.advance_events.result c.args.reader.now new.reader (record { net = net; kept = c.self.inside.kept; fail = f })
     (record { net = net; kept = new.kept; fail = f })) (sym none)
-    (subst (λ (r : Reading). TakesAlong c.args.piece.now c.advance_events.result r new.reader (going net c.self.inside.kept) (going net new.kept)) (c.advance_acts-used.ensures.same_reader nothing)
+    (subst (λ (r : CertReading). TakesAlong c.args.piece.now c.advance_events.result r new.reader (going net c.self.inside.kept) (going net new.kept)) (c.advance_acts-used.ensures.same_reader nothing)
     (subst (λ (k : Kept). TakesAlong c.args.piece.now c.advance_events.result c.advance_acts-used.new.reader new.reader (going net k) (going net new.kept))
     (c.advance_acts-used.ensures.same_kept nothing) takes)))

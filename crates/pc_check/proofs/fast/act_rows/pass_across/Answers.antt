@@ -1,6 +1,6 @@
 use Rattle.std.proofs.Common.{◌+◌, ◌<◌, length, Some, refl, sym, subst, ap, arith}
 use Rattle.pc_cert.specs.declared.line.CertLine.TheVariants.{Act}
-use Rattle.pc_cert.specs.inside.Known.{IsTextOf}
+use Rattle.pc_cert.specs.inside.Known.{IsLineTextOf}
 use Rattle.pc_check.specs.declared.fast.passed.Passed.{Passed}
 use Rattle.pc_check.specs.inside.fast.Rows.{across_at}
 use Rattle.pc_check.specs.inside.Kept.{known_by}
@@ -44,7 +44,7 @@ returns-clause-adds c = λ some.
     record {
       line = Act own.code row.duration row.flows;
       row = tt;
-      again = c.pass_act-used.ensures.again (Some (Act own.code row.duration row.flows)) some (subst (λ line. IsTextOf line row.text) own.says has.text);
+      again = c.pass_act-used.ensures.again (Some (Act own.code row.duration row.flows)) some (subst (λ line. IsLineTextOf line row.text) own.says has.text);
       goes = c.pass_act-used.ensures.goes own.code row.duration some;
       none = across_passes own.code own.named across has;
       adds = (refl, subst (λ (r : Passed). AddsAct net (across_at kept a cut).tally r.duration r.flows (across_at kept (a + 1) then).tally) (sym same) added);

@@ -1,6 +1,6 @@
 use Rattle.std.proofs.Common.{◌+◌, ◌<◌, length, Some, refl, sym, subst, arith}
 use Rattle.pc_cert.specs.declared.line.CertLine.TheVariants.{Act}
-use Rattle.pc_cert.specs.inside.Known.{IsTextOf}
+use Rattle.pc_cert.specs.inside.Known.{IsLineTextOf}
 use Rattle.pc_check.specs.declared.fast.passed.Passed.{Passed}
 use Rattle.pc_check.specs.inside.fast.Rows.{across_at}
 use Rattle.pc_check.specs.inside.Kept.{known_by}
@@ -34,7 +34,7 @@ returns-clause-adds c = λ cut some.
     record {
       line = Act own.code row.duration row.flows;
       row = tt;
-      again = c.pass_act.ensures.again (Some (Act own.code row.duration row.flows)) some (subst (λ line. IsTextOf line row.text) own.says has.text);
+      again = c.pass_act.ensures.again (Some (Act own.code row.duration row.flows)) some (subst (λ line. IsLineTextOf line row.text) own.says has.text);
       goes = c.pass_act.ensures.goes own.code row.duration some;
       none = again_passes own.code own.named again has;
       adds = (refl, subst (λ (r : Passed). AddsAct net (across_at kept a cut).tally r.duration r.flows (across_at kept (a + 1) cut).tally) (sym same) added);

@@ -1,7 +1,7 @@
 use Rattle.std.proofs.Common.{◌≡◌, ℕ, ◌-◌, min, arith, ap, subst, ◌∙◌, length}
 use Rattle.pc_model.specs.declared.Term.{Term}
 use Rattle.pc_check.specs.inside.KneeTests.{flow_sum}
-use Rattle.pc_check.specs.inside.fast.Passed.{FitsWithin, IsWithin}
+use Rattle.pc_check.specs.inside.fast.Passed.{FitsWithin, IsGapWithin}
 use Rattle.pc_check.proofs.lemmas.fast.PassedLaws.{slack_in_within}
 use Rattle.pc_check.proofs.fast.passed.passed_of.Goals as goal
 
@@ -14,7 +14,7 @@ returns-clause-passed c =
     let of_flows = subst (λ them. FitsWithin c.term.result.crash list them (length list) gaps.low gaps.high) c.as_slice-2.ensures.value of_knees in
     let fits = subst (λ term. FitsWithin term.crash list flows (length list) gaps.low gaps.high) c.term.ensures of_flows in
     let lasting = c.lasting-gaps.ensures in
-    let within : (head tail : ℕ) → IsWithin c.lasting-gaps.result.low c.lasting-gaps.result.high head tail → IsWithin gaps.low gaps.high head tail = λ head tail is. record {
+    let within : (head tail : ℕ) → IsGapWithin c.lasting-gaps.result.low c.lasting-gaps.result.high head tail → IsGapWithin gaps.low gaps.high head tail = λ head tail is. record {
       above = omega (arith, is.above, lasting.above);
       below = omega (arith, is.below, lasting.below);
     } in

@@ -1,6 +1,6 @@
 use Rattle.std.proofs.Common.{◌<◌, length, ap, arith}
 use Rattle.pc_crash.proofs.InsideLaws.{rows-each, row-read, knees-read}
-use Rattle.pc_crash.specs.inside.Laid.{row_at}
+use Rattle.pc_crash.specs.inside.Laid.{price_row_at}
 use Rattle.pc_crash.proofs.crash_net.CrashNet.look.Goals as goal
 
 pub returns-clause-look : goal.returns-clause-look
@@ -16,5 +16,5 @@ returns-clause-look g c =
       normal = ap (λ term. term.normal) row.term;
       crash = ap (λ term. term.crash) row.term;
       slope = ap (λ term. term.slope) row.term;
-      knees = rw c.knees_of.ensures (knees-read s a (row_at s.layout.rows.items a) (c.self.invariant.laid.each a inside));
+      knees = rw c.knees_of.ensures (knees-read s a (price_row_at s.layout.rows.items a) (c.self.invariant.laid.each a inside));
     })

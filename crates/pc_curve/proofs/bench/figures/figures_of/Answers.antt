@@ -4,7 +4,7 @@ use Rattle.pc_flow.specs.Courses.{Course}
 use Rattle.pc_flow.specs.inside.Courses.{HasEnded, present}
 use Rattle.pc_flow.proofs.LookLaws.{same-joins, further-joins, looks-join}
 use Rattle.pc_curve.specs.Points.{curve_in}
-use Rattle.pc_curve.specs.inside.bench.Tallies.{IsSmall}
+use Rattle.pc_curve.specs.inside.bench.Tallies.{IsSmallSegment}
 use Rattle.pc_curve.proofs.lemmas.bench.TallyLaws.{IsAlong, IsTallied, cost-at-top, tally-begins, tally-lower, tally-numbers, tally-grows, sum-of-all, cost-at-end, breaks-of-all}
 use Rattle.pc_curve.proofs.bench.figures.figures_of.Goals as goal
 
@@ -62,7 +62,7 @@ loop-solver-preserved g c =
 
 pub cost_at_lower-requires-clause-small : goal.cost_at_lower-requires-clause-small
 cost_at_lower-requires-clause-small g c =
-    subst (λ s. IsSmall (present s)) (sym (c.next_segment.ensures.unchanged c.loop-solver-test.false)) c.loop-solver.invariant.tallied.numbers
+    subst (λ s. IsSmallSegment (present s)) (sym (c.next_segment.ensures.unchanged c.loop-solver-test.false)) c.loop-solver.invariant.tallied.numbers
 
 pub overflow_add-result : goal.overflow_add-result
 overflow_add-result g c =

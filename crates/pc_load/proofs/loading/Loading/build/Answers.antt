@@ -5,7 +5,7 @@ use Rattle.pc_project.specs.Planned.{IsPlanned}
 use Rattle.pc_project.specs.Project.{Project}
 use Rattle.pc_times.specs.Times.{AreEarly}
 use Rattle.pc_load.specs.Loading.{ArePeriods, periods_for}
-use Rattle.pc_load.specs.inside.Entries.{AreTimes}
+use Rattle.pc_load.specs.inside.Entries.{AreEarliestTimes}
 use Rattle.pc_load.proofs.LoadingLaws.{resources_add_up, resources_have_parts}
 use Rattle.pc_load.proofs.loading.Loading.build.Goals as goal
 
@@ -51,7 +51,7 @@ returns-clause-loading c =
     let early : AreEarly project.network project.expected times = rw (← c.net.ensures.network, ← c.expected.ensures.expected) c.in_ok-times.ensures.times in
     let read : c.index.result.now ≡ get_or times project.network.end c.index.result.now = rw (← c.net-2.ensures.network, ← c.end.ensures.end) c.index.ensures in
     let are = periods_are project c.args.days have c.index.result.now times c.net.ensures.planned early read refl in
-    let reached : AreTimes project times = record { early = early; small = λ e lt. c.in_ok-times.ensures.limit e 0 lt } in
+    let reached : AreEarliestTimes project times = record { early = early; small = λ e lt. c.in_ok-times.ensures.limit e 0 lt } in
     let whole = ends_before project c.args.days have c.index.result.now times c.requires.least c.net.ensures.planned early read refl in
     let taken = resources_have_parts project times c.in_ok-taken.taken.items (6 * c.args.days) have _
     (rw (← c.deref.ensures.value) c.in_ok-taken.ensures.loads)
@@ -75,14 +75,14 @@ pub loads-requires : goal.loads-requires
 loads-requires c =
     let project = c.args.project.now in
     let early : AreEarly project.network project.expected c.in_ok-times.times.items = rw (← c.net.ensures.network, ← c.expected.ensures.expected) c.in_ok-times.ensures.times in
-    let reached : AreTimes project c.in_ok-times.times.items = record { early = early; small = λ e lt. c.in_ok-times.ensures.limit e 0 lt } in
+    let reached : AreEarliestTimes project c.in_ok-times.times.items = record { early = early; small = λ e lt. c.in_ok-times.ensures.limit e 0 lt } in
     rw c.deref.ensures.value reached
 
 pub items_of-requires-clause-times : goal.items_of-requires-clause-times
 items_of-requires-clause-times c =
     let project = c.args.project.now in
     let early : AreEarly project.network project.expected c.in_ok-times.times.items = rw (← c.net.ensures.network, ← c.expected.ensures.expected) c.in_ok-times.ensures.times in
-    let reached : AreTimes project c.in_ok-times.times.items = record { early = early; small = λ e lt. c.in_ok-times.ensures.limit e 0 lt } in
+    let reached : AreEarliestTimes project c.in_ok-times.times.items = record { early = early; small = λ e lt. c.in_ok-times.ensures.limit e 0 lt } in
     rw c.deref-2.ensures.value reached
 
 pub items_of-requires-clause-whole : goal.items_of-requires-clause-whole

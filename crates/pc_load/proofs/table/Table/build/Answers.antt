@@ -3,7 +3,7 @@ use Rattle.std.specs.Prelude.{ℤ, pos}
 use Rattle.std.proofs.Math.Nat.{mul_comm}
 use Rattle.std.proofs.Math.Seq.{take_at}
 use Rattle.pc_load.specs.inside.Adding.{IsAdded}
-use Rattle.pc_load.specs.inside.Table.{entry_at, row_of}
+use Rattle.pc_load.specs.inside.Table.{load_entry_at, row_of_entry}
 use Rattle.pc_load.proofs.TableLaws.{summed_none, summed_room, summed_more, table_is, is_table, rows_add_up, column_small}
 use Rattle.pc_load.proofs.table.Table.build.Goals as goal
 
@@ -15,13 +15,13 @@ loop-entry-init c =
 pub add-requires-clause-room : goal.add-requires-clause-room
 add-requires-clause-room c =
     rw c.deref_mut.ensures.value (summed_room c.args.rows c.args.periods c.args.entries.now c.args.width c.loop-entry.entry-index
-    (row_of c.args.entries.now c.loop-entry.entry-index) c.loop-entry.cells.items c.requires.entries
+    (row_of_entry c.args.entries.now c.loop-entry.entry-index) c.loop-entry.cells.items c.requires.entries
     (c.requires.entries.known c.loop-entry.entry-index c.loop-entry-test.true) c.loop-entry.invariant)
 
 pub loop-entry-preserved : goal.loop-entry-preserved
 loop-entry-preserved c =
     let same : IsAdded c.args.rows c.args.periods
-    (entry_at c.args.entries.now c.loop-entry.entry-index) c.args.width c.loop-entry.cells.items c.add.new.cells =
+    (load_entry_at c.args.entries.now c.loop-entry.entry-index) c.args.width c.loop-entry.cells.items c.add.new.cells =
     rw (← c.deref_mut.ensures.value) c.add.ensures in
     let long = c.deref_mut.ensures.len in
     let one_each = same.one_each in

@@ -54,8 +54,10 @@ returns-then-eq-clause-first g c =
     (found_there _ _ c.in_ok-task.ensures.found, (found_there _ _ c.in_ok-before.ensures.found, tt)) c.new.result
     (record {
       holds = ((bytes_decides card.task card.before).0 (sym c.if-eq.ensures), c.new.ensures);
-      least = λ other h. inr (ap (λ (f : Fault). f.row) c.new.ensures ∙ sym (ap (λ (f : Fault). f.row) h.1),
-          omega (arith, ap (λ (f : Fault). f.number) h.1, ap (λ (f : Fault). f.number) c.new.ensures));
+      least = λ other h. inr (
+        ap (λ (f : Fault). f.row) c.new.ensures ∙ sym (ap (λ (f : Fault). f.row) h.1),
+        omega (arith, ap (λ (f : Fault). f.number) h.1, ap (λ (f : Fault). f.number) c.new.ensures),
+      );
     })
 
 pub returns-clause-faultless : goal.returns-clause-faultless

@@ -1,7 +1,7 @@
 use Rattle.std.proofs.Common.{pos, ap, subst, arith}
 use Rattle.pc_edges.proofs.lemmas.page.PageLaws.{Adds-as}
 use Rattle.pc_reports.specs.Times.{Times, IsTimes}
-use Rattle.pc_reports.specs.inside.Times.{AreSmall}
+use Rattle.pc_reports.specs.inside.Times.{AreSmallTimes}
 use Rattle.pc_reports.specs.TimesText.{times_text}
 use Rattle.pc_times.proofs.PickedWalks.{picked_from_known}
 use Rattle.pc_reports.proofs.times_report.TimesReport.put.Goals as goal
@@ -12,7 +12,7 @@ put_times-requires g c =
     let planned = c.facts.ensures.planned in
     let times : Times = c.args.self.now in
     let is : IsTimes project times = c.requires in
-    let small : AreSmall times = subst AreSmall c.self.view_is c.self.invariant in
+    let small : AreSmallTimes times = subst AreSmallTimes c.self.view_is c.self.invariant in
     rw (c.deref.ensures.value, c.self.view_is) (record {
       expected_each = planned.lengths.one_each;
       variance_each = planned.variance_each;

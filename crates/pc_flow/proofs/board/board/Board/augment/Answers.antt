@@ -4,7 +4,7 @@ use Rattle.pc_flow.specs.inside.board.Labelling.{HasStep}
 use Rattle.pc_flow.specs.inside.board.Raising.{IsRaised, IsRaisedBy}
 use Rattle.pc_flow.specs.inside.search.Searches.{IsSearch}
 use Rattle.pc_flow.specs.inside.search.Lengths.{IsRenewedBack}
-use Rattle.pc_flow.specs.inside.search.Labelling.{IsBetween, HasRaised}
+use Rattle.pc_flow.specs.inside.search.Labelling.{IsBetweenLabellings, HasRaised}
 use Rattle.pc_flow.proofs.lemmas.board.AfterRaising.{raised-for, raised-back, raised-steps}
 use Rattle.pc_flow.proofs.lemmas.search.StateLaws.{IsKnown, end-stepped}
 use Rattle.pc_flow.proofs.lemmas.search.LengthLaws.{raised-renewed, stand-renewed, lengths-renewed}
@@ -143,7 +143,7 @@ returns-clause-raised c =
       piece_limits = c.facts.ensures.piece_limits;
     } in
     let order = rw c.net-shape.ensures.network at c.facts-2.ensures.ordered in
-    let between : IsBetween net m = between-measured net s m on c.requires.between in
+    let between : IsBetweenLabellings net m = between-measured net s m on c.requires.between in
     let raised : IsRaised m t net.network.end by = subst (λ e. IsRaised m t e by) end c.raise-raised.ensures.raised in
     let renewed : IsRenewedBack net t u net.network.end = subst (λ e. IsRenewedBack net t u e) end c.renew_back.ensures in
     let now : IsRaisedBy m u net.network.end by raised.0 = raised-renewed m t u renewed.rest net.network.end by raised.0 raised.1 in

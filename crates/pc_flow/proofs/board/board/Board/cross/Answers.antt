@@ -1,6 +1,6 @@
 use Rattle.std.proofs.Common.{◌≡◌, subst, arith}
 use Rattle.pc_flow.specs.inside.board.Moves.{EntersAt}
-use Rattle.pc_flow.specs.inside.search.Searches.{StopsAfter}
+use Rattle.pc_flow.specs.inside.search.Searches.{StopsAfterFall}
 use Rattle.pc_flow.proofs.lemmas.search.VisitLaws.{waiting-room}
 use Rattle.pc_flow.proofs.lemmas.search.WayLaws.{far-known, far-none}
 use Rattle.pc_flow.proofs.lemmas.search.CrossLaws.{stops-later, crossed-waits, far-room, crossed}
@@ -41,5 +41,5 @@ pub returns : goal.returns
 returns c =
     let now : c.stop-after.result ≡ 0 = omega (arith, c.if-after-gt0.false) in
     crossed c.args.net.now c.args.self.now c.args.a c.requires.search c.requires.known c.requires.room c.args.near c.args.far c.args.way c.enter.new.self
-    c.requires.near c.requires.far c.requires.way (subst (λ n. StopsAfter c.args.net.now c.args.self.now c.args.a c.args.way n) now c.stop-after.ensures)
+    c.requires.near c.requires.far c.requires.way (subst (λ n. StopsAfterFall c.args.net.now c.args.self.now c.args.a c.args.way n) now c.stop-after.ensures)
     (subst (λ b. EntersAt c.args.self.now c.enter.new.self c.args.far c.args.a b c.args.near 1) c.is_against.ensures c.enter.ensures)

@@ -2,7 +2,7 @@ use Rattle.std.proofs.Common.{◌≡◌, ◌≤◌, suc, refl, ap, sym, ◌∙�
 use Rattle.pc_flow.specs.board.Sheets.{Sheet, rank_of}
 use Rattle.pc_flow.specs.inside.board.Sheets.{near_of}
 use Rattle.pc_flow.specs.inside.board.Labelling.{HasStep}
-use Rattle.pc_flow.specs.inside.board.Raising.{IsRaising, IsRaisedBy}
+use Rattle.pc_flow.specs.inside.board.Raising.{IsRaisedBack, IsRaisedBy}
 use Rattle.pc_flow.proofs.lemmas.board.RaisingLaws.{raising-begins, raising-room, raising-along, raising-against, raising-goes_on, raising-ends}
 use Rattle.pc_flow.proofs.lemmas.board.AfterRaising.{raised-stand}
 use Rattle.pc_flow.proofs.board.board.Board.raise.Goals as goal
@@ -36,12 +36,12 @@ loop-self-preserved c =
     let s = c.args.self.now in
     let on = c.loop-self.invariant in
     let has : HasStep s c.loop-self.e = omega (arith, c.loop-self-test.true, c.rank.ensures, ap (λ (u : Sheet). rank_of u c.loop-self.e) on.1.rest) in
-    let next : IsRaising s c.step_back.new.self c.args.end c.least_room-least.result.by (suc on.0) (near_of s c.loop-self.e) =
+    let next : IsRaisedBack s c.step_back.new.self c.args.end c.least_room-least.result.by (suc on.0) (near_of s c.loop-self.e) =
     raising-goes_on s c.loop-self.self c.args.end c.least_room-least.result.by on.0 c.loop-self.e c.requires.back c.requires.steps has on.1 c.step_back.new.self c.step_back.ensures in
     let near : near_of s c.loop-self.e ≡ c.near-e.result =
     sym (c.near-e.ensures ∙ ap (λ (u : Sheet). near_of u c.loop-self.e) (next.rest)) in (
       suc on.0,
-      subst (λ x. IsRaising s c.step_back.new.self c.args.end c.least_room-least.result.by (suc on.0) x) near next,
+      subst (λ x. IsRaisedBack s c.step_back.new.self c.args.end c.least_room-least.result.by (suc on.0) x) near next,
       c.step_back.ensures.rest ∙ ap (λ (u : Sheet). record u { room = c.step_back.new.self.room; flow = c.step_back.new.self.flow }) on.2,
     )
 
