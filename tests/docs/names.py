@@ -4,9 +4,7 @@
     tests/docs/names.py            checks all crates
     tests/docs/names.py NAME..     prints the lines that define these names
 
-A reader who looks for a definition by its name finds one. tests/docs/names-twice.txt lists the
-names that several files define all the same. It may only get shorter: a name that is not in it
-must be new, and a name that one file defines, or none, must be taken out.
+A reader who looks for a definition by its name finds one.
 """
 
 from __future__ import annotations
@@ -17,7 +15,6 @@ from collections import defaultdict
 from pathlib import Path
 
 TOP = Path(__file__).resolve().parents[2]
-ALLOWED = TOP / "tests" / "docs" / "names-twice.txt"
 DEFINED = re.compile(r"(?:unfoldable )?(?:pub (?:record|data)|record|data|abbrev pub|abbrev) (\S+)")
 
 # A place: the file and the line with its number
@@ -35,22 +32,10 @@ def definitions() -> dict[str, list[Place]]:
     return found
 
 
-def allowed() -> set[str]:
-    """Returns the names that several files may define."""
-    lines = ALLOWED.read_text(encoding="utf-8").splitlines()
-    return {it for it in lines if it and not it.startswith("#")}
-
-
-def faults(found: dict[str, list[Place]], listed: set[str]) -> list[str]:
-    """Returns what is wrong, a line each."""
-    twice = {name for name, places in found.items() if len({file for file, _, _ in places}) > 1}
-    wrong = []
-    for name in sorted(twice - listed):
-        files = ", ".join(sorted({file for file, _, _ in found[name]}))
-        wrong.append(f"{name} is defined in {files}: give the new one another name")
-    for name in sorted(listed - twice):
-        wrong.append(f"{name} is not in several files: take it out of {ALLOWED.relative_to(TOP)}")
-    return wrong
+def in_several_files(found: dict[str, list[Place]]) -> list[str]:
+    """Returns the names that several files define, each with these files."""
+    files = {name: sorted({file for file, _, _ in places}) for name, places in found.items()}
+    return [f"{name} is in {', '.join(some)}" for name, some in sorted(files.items()) if some[1:]]
 
 
 def main(words: list[str]) -> int:
@@ -64,11 +49,10 @@ def main(words: list[str]) -> int:
             print(f"{file}:{number}: {line}")
     if words:
         return 0
-    listed = allowed()
-    wrong = faults(found, listed)
+    wrong = in_several_files(found)
     for fault in wrong:
         print(f"FAILED names: {fault}")
-    print(f"names: {len(found)} names, {len(listed)} of them in several files, {len(wrong)} wrong")
+    print(f"names: {len(found)} names, {len(wrong)} of them in several files")
     return 1 if wrong else 0
 
 
